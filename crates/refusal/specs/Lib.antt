@@ -1,0 +1,3 @@
+-- The definitions of the crate `refusal`.
+pub mod Refusal
+pub mod Only

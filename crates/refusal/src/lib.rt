@@ -1,0 +1,152 @@
+// The refusals of document 01, "Refusal numbers": one case for each number, each with its place.
+//
+// What the paper's number, place and needed count of a refusal are is said once, in specs/Refusal.antt,
+// and every promise above speaks of refusals through it. A request of document 02 adds a case here.
+ghost use mathlib.Core.Path.{_≡_};
+ghost use Rattle.refusal.specs.Refusal.{none, numberOf, placeOf, neededOf, moved};
+
+// Where a refusal stands. Lines and fields count from 1, bytes from 0; 0 stands for "none".
+pub struct Place {
+    pub line: u32,
+    pub field: u32,
+    pub byte: u32,
+}
+
+// The seventeen refusals, in the order of their numbers.
+pub enum Refusal {
+    Size(Place),
+    Ends(Place),
+    Byte(Place),
+    Length(Place),
+    Form(Place),
+    Check(Place),
+    Model(Place),
+    Parts(Place),
+    Digit(Place),
+    Misplaced(Place),
+    Date(Place),
+    Orders(Place),
+    Sum(Place),
+    Unfinished(Place),
+    // The needed number is told.
+    Room(Place, usize),
+    Marks(Place),
+    Beyond(Place),
+}
+
+// What a judging call answers.
+pub enum Answer {
+    Accepted,
+    Refused(Refusal),
+}
+
+// The place of a refusal that tells none.
+pub fn nowhere() -> Place
+    ensures { λ r. ⌜ r ≡ none ⌝ }
+{
+    Place {
+        line: 0,
+        field: 0,
+        byte: 0,
+    }
+}
+
+// The paper's number of a refusal.
+pub fn number(refusal: Refusal) -> u32
+    ensures { λ r. ⌜ r ≡ numberOf refusal ⌝ }
+{
+    match refusal {
+        Refusal::Size(_) => 1,
+        Refusal::Ends(_) => 2,
+        Refusal::Byte(_) => 3,
+        Refusal::Length(_) => 4,
+        Refusal::Form(_) => 5,
+        Refusal::Check(_) => 6,
+        Refusal::Model(_) => 7,
+        Refusal::Parts(_) => 8,
+        Refusal::Digit(_) => 9,
+        Refusal::Misplaced(_) => 10,
+        Refusal::Date(_) => 11,
+        Refusal::Orders(_) => 12,
+        Refusal::Sum(_) => 13,
+        Refusal::Unfinished(_) => 14,
+        Refusal::Room(_, _) => 15,
+        Refusal::Marks(_) => 16,
+        Refusal::Beyond(_) => 17,
+    }
+}
+
+// The place that a refusal tells.
+pub fn told(refusal: Refusal) -> Place
+    ensures { λ r. ⌜ r ≡ placeOf refusal ⌝ }
+{
+    match refusal {
+        Refusal::Size(p) => p,
+        Refusal::Ends(p) => p,
+        Refusal::Byte(p) => p,
+        Refusal::Length(p) => p,
+        Refusal::Form(p) => p,
+        Refusal::Check(p) => p,
+        Refusal::Model(p) => p,
+        Refusal::Parts(p) => p,
+        Refusal::Digit(p) => p,
+        Refusal::Misplaced(p) => p,
+        Refusal::Date(p) => p,
+        Refusal::Orders(p) => p,
+        Refusal::Sum(p) => p,
+        Refusal::Unfinished(p) => p,
+        Refusal::Room(p, _) => p,
+        Refusal::Marks(p) => p,
+        Refusal::Beyond(p) => p,
+    }
+}
+
+// The number that was needed: told by 15, and 0 of every other refusal.
+pub fn needed(refusal: Refusal) -> usize
+    ensures { λ r. ⌜ r ≡ neededOf refusal ⌝ }
+{
+    match refusal {
+        Refusal::Size(_) => 0,
+        Refusal::Ends(_) => 0,
+        Refusal::Byte(_) => 0,
+        Refusal::Length(_) => 0,
+        Refusal::Form(_) => 0,
+        Refusal::Check(_) => 0,
+        Refusal::Model(_) => 0,
+        Refusal::Parts(_) => 0,
+        Refusal::Digit(_) => 0,
+        Refusal::Misplaced(_) => 0,
+        Refusal::Date(_) => 0,
+        Refusal::Orders(_) => 0,
+        Refusal::Sum(_) => 0,
+        Refusal::Unfinished(_) => 0,
+        Refusal::Room(_, n) => n,
+        Refusal::Marks(_) => 0,
+        Refusal::Beyond(_) => 0,
+    }
+}
+
+// The same refusal at another place: a rule that knows no line or field refuses, and its caller says where.
+pub fn put(refusal: Refusal, place: Place) -> Refusal
+    ensures { λ r. ⌜ r ≡ moved place refusal ⌝ }
+{
+    match refusal {
+        Refusal::Size(_) => Refusal::Size(place),
+        Refusal::Ends(_) => Refusal::Ends(place),
+        Refusal::Byte(_) => Refusal::Byte(place),
+        Refusal::Length(_) => Refusal::Length(place),
+        Refusal::Form(_) => Refusal::Form(place),
+        Refusal::Check(_) => Refusal::Check(place),
+        Refusal::Model(_) => Refusal::Model(place),
+        Refusal::Parts(_) => Refusal::Parts(place),
+        Refusal::Digit(_) => Refusal::Digit(place),
+        Refusal::Misplaced(_) => Refusal::Misplaced(place),
+        Refusal::Date(_) => Refusal::Date(place),
+        Refusal::Orders(_) => Refusal::Orders(place),
+        Refusal::Sum(_) => Refusal::Sum(place),
+        Refusal::Unfinished(_) => Refusal::Unfinished(place),
+        Refusal::Room(_, n) => Refusal::Room(place, n),
+        Refusal::Marks(_) => Refusal::Marks(place),
+        Refusal::Beyond(_) => Refusal::Beyond(place),
+    }
+}
