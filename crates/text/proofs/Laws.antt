@@ -1,0 +1,121 @@
+-- Laws that every crate's proofs cite: of choices on a test, of tests, and of the texts that loops walk through.
+-- Assumes nothing.
+use mathlib.Core.Path.{_≡_, refl, sym, ap, _∙_}
+use mathlib.Core.Bool.{Bool, true, false, cond, not, _&&_, _||_}
+use mathlib.Core.List.{List, [], _∷_}
+use Prim.Native.Nat.{ℕ, zero, suc, _+_, _≤_, _<_, zero-le}
+use native.Mathlib.Numerals.{add-one}
+use native.Mathlib.Omega.{arith}
+use native.Mathlib.Nat.{zero-add, add-zero}
+use lib.Dec.{eqb, leb}
+use lib.ListN.{length, drop, getD}
+use lib.Seq.{drop-cons, drop-length}
+use borrow.Author.Tests.{eq-eqb, ne-eqb}
+use Rattle.text.specs.declared.Class.{Class}
+use Rattle.text.specs.declared.Found.{Found}
+use Rattle.text.specs.declared.Found.the-variants.{At, Nothing}
+use Rattle.text.specs.Bytes.{permits, later, firstBad, allOf, marks}
+
+-- ---------------------------------------------------------------------------
+-- Choices on a test
+
+module _ {A : Type 0} where
+  -- the test held: the first answer
+  pub taken : (b : Bool) (x y : A) → b ≡ true → x ≡ cond b x y
+  taken true x y e = refl
+  taken false x y e = let z : _≡_ {A = ℕ} 0 1 = cc in absurd (omega arith)
+
+  -- the test failed: what answers the rest answers the whole
+  pub left : (b : Bool) (x y r : A) → b ≡ false → r ≡ y → r ≡ cond b x y
+  left false x y r e h = h
+  left true x y r e h = let z : _≡_ {A = ℕ} 0 1 = cc in absurd (omega arith)
+
+  -- the test held: what answers the first part answers the whole
+  pub entered : (b : Bool) (x y r : A) → b ≡ true → r ≡ x → r ≡ cond b x y
+  entered true x y r e h = h
+  entered false x y r e h = let z : _≡_ {A = ℕ} 0 1 = cc in absurd (omega arith)
+
+-- ---------------------------------------------------------------------------
+-- Tests joined
+
+pub or-first : (a b : Bool) → a ≡ true → true ≡ (a || b)
+or-first true b e = refl
+or-first false b e = let z : _≡_ {A = ℕ} 0 1 = cc in absurd (omega arith)
+
+pub or-second : (a b r : Bool) → a ≡ false → r ≡ b → r ≡ (a || b)
+or-second false b r e h = h
+or-second true b r e h = let z : _≡_ {A = ℕ} 0 1 = cc in absurd (omega arith)
+
+pub and-first : (a b : Bool) → a ≡ false → false ≡ (a && b)
+and-first false b e = refl
+and-first true b e = let z : _≡_ {A = ℕ} 0 1 = cc in absurd (omega arith)
+
+pub and-second : (a b r : Bool) → a ≡ true → r ≡ b → r ≡ (a && b)
+and-second true b r e h = h
+and-second false b r e h = let z : _≡_ {A = ℕ} 0 1 = cc in absurd (omega arith)
+
+-- ---------------------------------------------------------------------------
+-- The scan for a byte that a class does not permit, from place i on
+
+-- i places further on
+unfoldable pub shifted : ℕ → Found → Found
+shifted i (At k) = At (i + k)
+shifted i Nothing = Nothing
+
+pub shifted-zero : (f : Found) → f ≡ shifted 0 f
+unfolding shifted
+shifted-zero (At k) = ap At (sym (zero-add k))
+shifted-zero Nothing = refl
+
+pub shifted-later : (i : ℕ) (f : Found) → shifted i (later f) ≡ shifted (i + 1) f
+unfolding shifted
+shifted-later i (At k) = ap At (omega arith)
+shifted-later i Nothing = refl
+
+module _ (k : Class) (s : List ℕ) (i : ℕ) where
+  pub scan-on : i < length s → permits k (getD s i 0) ≡ true → shifted i (firstBad k (drop i s)) ≡ shifted (i + 1) (firstBad k (drop (i + 1) s))
+  unfolding firstBad
+  scan-on h e = rw (drop-cons s i 0 h, e, add-one) (shifted-later i (firstBad k (drop (suc i) s)) ∙ rw add-one)
+
+  pub scan-stops : i < length s → permits k (getD s i 0) ≡ false → At i ≡ shifted i (firstBad k (drop i s))
+  unfolding firstBad shifted
+  scan-stops h e = rw (drop-cons s i 0 h, e) (ap At (sym (add-zero i)))
+
+  pub scan-ends : length s ≤ i → i ≤ length s → Nothing ≡ shifted i (firstBad k (drop i s))
+  unfolding firstBad shifted
+  scan-ends h g = let e : i ≡ length s = omega arith in rw (e, drop-length)
+
+-- nothing was found where every byte is permitted
+unfoldable pub isNothing : Found → Bool
+isNothing (At k) = false
+isNothing Nothing = true
+
+isNothing-later : (f : Found) → isNothing (later f) ≡ isNothing f
+unfolding isNothing
+isNothing-later (At k) = refl
+isNothing-later Nothing = refl
+
+pub all-of-nothing : (k : Class) (s : List ℕ) → isNothing (firstBad k s) ≡ allOf k s
+unfolding firstBad allOf isNothing
+all-of-nothing k [] = refl
+all-of-nothing k (b ∷ s) = go (permits k b) (all-of-nothing k s)
+  where
+    go : (t : Bool) → isNothing (firstBad k s) ≡ allOf k s → isNothing (cond t (later (firstBad k s)) (At 0)) ≡ (t && allOf k s)
+    go true e = isNothing-later (firstBad k s) ∙ e
+    go false e = refl
+
+-- ---------------------------------------------------------------------------
+-- Marks, from place i on
+
+module _ (s : List ℕ) (i n : ℕ) (h : i < length s) where
+  pub marks-more : getD s i 0 ≡ 63 → n + marks (drop i s) ≡ n + 1 + marks (drop (i + 1) s)
+  unfolding marks
+  marks-more e = rw (drop-cons s i 0 h, add-one i, e) (omega arith)
+
+  pub marks-same : (getD s i 0 ≡ 63 → ⊥) → n + marks (drop i s) ≡ n + marks (drop (i + 1) s)
+  unfolding marks
+  marks-same e = rw (drop-cons s i 0 h, add-one i, ne-eqb (getD s i 0) 63 e)
+
+pub marks-end : (s : List ℕ) (i n : ℕ) → length s ≤ i → i ≤ length s → n ≡ n + marks (drop i s)
+unfolding marks
+marks-end s i n h g = let e : i ≡ length s = omega arith in rw (e, drop-length) (sym (add-zero n))

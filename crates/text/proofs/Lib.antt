@@ -1,0 +1,2 @@
+-- What the proofs here and in the crates above share.
+pub mod Laws

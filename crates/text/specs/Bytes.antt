@@ -1,0 +1,60 @@
+-- Which bytes the fields of document 01 permit, the first byte that is not permitted, and the marks of a wet text.
+use Prim.Native.Nat.{ℕ, zero, suc, _+_}
+use mathlib.Core.Bool.{Bool, true, false, cond, not, _&&_, _||_}
+use mathlib.Core.List.{List, [], _∷_}
+use lib.Dec.{eqb, leb}
+use Rattle.text.specs.declared.Class.{Class}
+use Rattle.text.specs.declared.Class.the-variants.{Digits, Account, Reference, WetAccount, WetReference, Dry, Part}
+use Rattle.text.specs.declared.Found.{Found}
+use Rattle.text.specs.declared.Found.the-variants.{At, Nothing}
+
+-- ---------------------------------------------------------------------------
+-- Classes
+
+-- a digit, `0` to `9`
+abbrev pub isDigit : ℕ → Bool
+isDigit b = leb 48 b && leb b 57
+
+-- a letter, `A` to `Z`
+abbrev pub isLetter : ℕ → Bool
+isLetter b = leb 65 b && leb b 90
+
+-- "digits and hyphens" (the slip's field 12)
+abbrev pub isReferenceByte : ℕ → Bool
+isReferenceByte b = isDigit b || eqb b 45
+
+-- the bytes that each class permits; `-` is 45, `?` is 63
+abbrev pub permits : Class → ℕ → Bool
+permits Digits b = isDigit b
+permits Account b = isDigit b || isLetter b
+permits Reference b = isReferenceByte b
+permits WetAccount b = isDigit b || eqb b 63
+permits WetReference b = isReferenceByte b || eqb b 63
+permits Dry b = not (eqb b 63)
+permits Part b = not (eqb b 45)
+
+-- ---------------------------------------------------------------------------
+-- "For 3, byte is the first offending byte"
+
+-- one place further on
+abbrev pub later : Found → Found
+later (At i) = At (suc i)
+later Nothing = Nothing
+
+-- the place of the first byte that the class does not permit
+unfoldable pub firstBad : Class → List ℕ → Found
+firstBad k [] = Nothing
+firstBad k (b ∷ s) = cond (permits k b) (later (firstBad k s)) (At 0)
+
+-- every byte is permitted
+unfoldable pub allOf : Class → List ℕ → Bool
+allOf k [] = true
+allOf k (b ∷ s) = permits k b && allOf k s
+
+-- ---------------------------------------------------------------------------
+-- "`?` marks an unreadable digit"
+
+-- how many marks a text has
+unfoldable pub marks : List ℕ → ℕ
+marks [] = 0
+marks (b ∷ s) = cond (eqb b 63) (suc (marks s)) (marks s)

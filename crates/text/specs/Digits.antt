@@ -1,0 +1,19 @@
+-- The digits of a text, and the number that digits write.
+use Prim.Native.Nat.{ℕ, _+_, _-_, _*_}
+use mathlib.Core.Bool.{cond}
+use mathlib.Core.List.{List, [], _∷_}
+use Rattle.text.specs.Bytes.{isDigit}
+
+-- the digits of a text as numbers, first to last; a hyphen, or whatever is no digit, is passed over
+unfoldable pub digitsOf : List ℕ → List ℕ
+digitsOf [] = []
+digitsOf (b ∷ s) = cond (isDigit b) ((b - 48) ∷ digitsOf s) (digitsOf s)
+
+-- the number that the digits write after the digits of v
+unfoldable pub valueFrom : ℕ → List ℕ → ℕ
+valueFrom v [] = v
+valueFrom v (d ∷ ds) = valueFrom (v * 10 + d) ds
+
+-- the number that digits write
+abbrev pub valueOf : List ℕ → ℕ
+valueOf ds = valueFrom 0 ds

@@ -1,0 +1,3 @@
+-- The definitions of the crate `text`.
+pub mod Bytes
+pub mod Digits

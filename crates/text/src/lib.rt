@@ -1,0 +1,135 @@
+// The bytes of a text: which of them a field permits, and which are digits.
+//
+// One scan serves every field: it finds the first byte that a class does not permit. Document 01 names the
+// classes; specs/Bytes.antt says them once.
+ghost use mathlib.Core.Path.{_≡_};
+ghost use Rattle.text.specs.Bytes.{permits, isDigit, firstBad, allOf, marks};
+
+// The classes of bytes that document 01 names.
+pub enum Class {
+    // Digits: an OIB, and the digits that a check digit is made for.
+    Digits,
+    // A to Z and digits: an IBAN's field.
+    Account,
+    // Digits and hyphens: a reference.
+    Reference,
+    // Digits and `?`: an IBAN that got wet, after its HR.
+    WetAccount,
+    // Digits, hyphens and `?`: a reference that got wet.
+    WetReference,
+    // Everything but `?`: what stops at it is the first mark.
+    Dry,
+    // Everything but a hyphen: what stops at it is the end of a part.
+    Part,
+}
+
+// Where a scan stopped.
+pub enum Found {
+    At(usize),
+    Nothing,
+}
+
+// Whether a byte is a digit.
+pub fn is_digit(b: u8) -> bool
+    ensures { λ r. ⌜ r ≡ isDigit b ⌝ }
+{
+    if b < 48 {
+        return false;
+    }
+    b <= 57
+}
+
+// Whether a class permits a byte.
+pub fn permitted(class: Class, b: u8) -> bool
+    ensures { λ r. ⌜ r ≡ permits class b ⌝ }
+{
+    match class {
+        Class::Digits => is_digit(b),
+        Class::Account => is_account_byte(b),
+        Class::Reference => is_reference_byte(b),
+        Class::WetAccount => is_wet_digit(b),
+        Class::WetReference => is_wet_reference_byte(b),
+        Class::Dry => b != 63,
+        Class::Part => b != 45,
+    }
+}
+
+fn is_account_byte(b: u8) -> bool
+    ensures { λ r. ⌜ r ≡ permits Class.Account b ⌝ }
+{
+    if is_digit(b) {
+        return true;
+    }
+    if b < 65 {
+        return false;
+    }
+    b <= 90
+}
+
+fn is_reference_byte(b: u8) -> bool
+    ensures { λ r. ⌜ r ≡ permits Class.Reference b ⌝ }
+{
+    if is_digit(b) {
+        return true;
+    }
+    b == 45
+}
+
+fn is_wet_digit(b: u8) -> bool
+    ensures { λ r. ⌜ r ≡ permits Class.WetAccount b ⌝ }
+{
+    if is_digit(b) {
+        return true;
+    }
+    b == 63
+}
+
+fn is_wet_reference_byte(b: u8) -> bool
+    ensures { λ r. ⌜ r ≡ permits Class.WetReference b ⌝ }
+{
+    if is_reference_byte(b) {
+        return true;
+    }
+    b == 63
+}
+
+// The place of the first byte that the class does not permit.
+pub fn first_bad(class: Class, s: &[u8]) -> Found
+    ensures { λ r. ⌜ r ≡ firstBad class (now (s .entry)) ⌝ }
+{
+    let mut i = 0;
+    while i < s.len() {
+        if !permitted(class, s[i]) {
+            return Found::At(i);
+        }
+        i += 1;
+    }
+    Found::Nothing
+}
+
+// Whether the class permits every byte.
+pub fn all_of(class: Class, s: &[u8]) -> bool
+    ensures { λ r. ⌜ r ≡ allOf class (now (s .entry)) ⌝ }
+{
+    match first_bad(class, s) {
+        Found::At(_) => false,
+        Found::Nothing => true,
+    }
+}
+
+// How many marks, `?`, a text has.
+pub fn count_marks(s: &[u8]) -> usize
+    ensures { λ r. ⌜ r ≡ marks (now (s .entry)) ⌝ }
+{
+    let mut n = 0;
+    let mut i = 0;
+    while i < s.len() {
+        if s[i] == 63 {
+            n += 1;
+            i += 1;
+        } else {
+            i += 1;
+        }
+    }
+    n
+}
