@@ -1,0 +1,46 @@
+-- What judging a reference answers: 5 and 7 of its model, 3 and 4 of its bytes, 8 and 9 of its parts and groups, in the order of the
+-- slip's fields 11 and 12.
+use Prim.Native.Nat.{ℕ}
+use mathlib.Core.Bool.{Bool, true, false, cond, _&&_}
+use mathlib.Core.List.{List}
+use lib.Dec.{leb}
+use lib.ListN.{length}
+use Rattle.refusal.specs.Refusal.{none}
+use Rattle.refusal.specs.declared.Answer.{Answer}
+use Rattle.refusal.specs.declared.Answer.the-variants.{Accepted, Refused}
+use Rattle.refusal.specs.declared.Refusal.the-variants.{Byte, Length, Form, Model, Parts, Digit}
+use Rattle.text.specs.Bytes.{firstBad}
+use Rattle.text.specs.declared.Class.the-variants.{Reference}
+use Rattle.text.specs.declared.Found.{Found}
+use Rattle.text.specs.declared.Found.the-variants.{At, Nothing}
+use Rattle.reference.specs.declared.Model as declared
+use Rattle.reference.specs.Parts.{partsOf, formed, groupsRight}
+use Rattle.reference.specs.Models.{modelNumber, modelOf}
+
+-- 8, then 9
+unfoldable pub obeyAnswer : declared.Model → List ℕ → Answer
+obeyAnswer model s =
+    cond (formed model s)
+    (cond (groupsRight (model .groups) (partsOf s)) Accepted (Refused (Digit none)))
+    (Refused (Parts none))
+
+-- a reference's text accepted by its model
+abbrev pub obeys : declared.Model → List ℕ → Bool
+obeys model s = formed model s && groupsRight (model .groups) (partsOf s)
+
+-- 3 with its byte, then 4, then what the model says
+abbrev pub textAnswer : declared.Model → List ℕ → Found → Answer
+textAnswer model s (At i) = Refused (Byte (record { line = 0; field = 0; byte = i }))
+textAnswer model s Nothing = cond (leb (length s) 22) (obeyAnswer model s) (Refused (Length none))
+
+-- 7, then the text
+abbrev pub modelAnswer : List ℕ → declared.Model → Answer
+modelAnswer s model = cond (model .handled) (textAnswer model s (firstBad Reference s)) (Refused (Model none))
+
+-- 5, then the rest
+abbrev pub numberAnswer : List ℕ → Found → Answer
+numberAnswer s (At n) = modelAnswer s (modelOf n)
+numberAnswer s Nothing = Refused (Form none)
+
+abbrev pub referenceAnswer : List ℕ → List ℕ → Answer
+referenceAnswer m s = numberAnswer s (modelNumber m)

@@ -1,0 +1,77 @@
+-- Document 01, "Reference models": the sixteen models, each as one value.
+use Prim.Native.Nat.{ℕ, _+_, _-_, _*_}
+use mathlib.Core.Bool.{Bool, true, false, cond, _&&_}
+use mathlib.Core.List.{List, [], _∷_}
+use lib.Dec.{eqb}
+use lib.ListN.{length, getD}
+use Rattle.text.specs.Bytes.{isDigit}
+use Rattle.text.specs.declared.Found.{Found}
+use Rattle.text.specs.declared.Found.the-variants.{At, Nothing}
+use Rattle.check_digits.specs.declared.Rule.{Rule}
+use Rattle.check_digits.specs.declared.Rule.the-variants.{Ini, Mod1110}
+use Rattle.reference.specs.declared.Group.{Group}
+use Rattle.reference.specs.declared.Model.{Model}
+
+-- "`HR` and two digits": the model's number
+abbrev pub modelNumber : List ℕ → Found
+modelNumber s =
+    cond (eqb (length s) 4 && (eqb (getD s 0 0) 72 && (eqb (getD s 1 0) 82 && (isDigit (getD s 2 0) && isDigit (getD s 3 0)))))
+    (At ((getD s 2 0 - 48) * 10 + (getD s 3 0 - 48)))
+    Nothing
+
+-- ---------------------------------------------------------------------------
+-- Groups and lengths
+
+-- the group of the parts from first to last
+abbrev pub over : Rule → ℕ → ℕ → Group
+over rule first last = record { first = first; last = last; rule = rule }
+
+-- no group: it has no part
+abbrev pub noGroup : Group
+noGroup = over Ini 1 0
+
+abbrev pub ini : ℕ → ℕ → Group
+ini first last = over Ini first last
+
+abbrev pub iso : ℕ → ℕ → Group
+iso first last = over Mod1110 first last
+
+-- a model of fewest to most parts, with the least and most digits of each of four parts
+abbrev pub model : ℕ → ℕ → List ℕ → Group → Group → Group → Model
+model fewest most lengths g h k =
+    record { handled = true; fewest = fewest; most = most; lengths = lengths; groups = g ∷ (h ∷ (k ∷ (noGroup ∷ []))) }
+
+-- "Unless stated: one to three parts of one to twelve digits"
+abbrev pub usual : List ℕ
+usual = 1 ∷ (12 ∷ (1 ∷ (12 ∷ (1 ∷ (12 ∷ (1 ∷ (12 ∷ [])))))))
+
+-- a model with the usual parts
+abbrev pub plain : Group → Group → Group → Model
+plain g h k = model 1 3 usual g h k
+
+-- ---------------------------------------------------------------------------
+-- The models
+
+-- the sixteen models by number; another number is not handled
+unfoldable pub modelOf : ℕ → Model
+modelOf n =
+    cond (eqb n 0) (plain noGroup noGroup noGroup)
+    (cond (eqb n 1) (plain (ini 1 3) noGroup noGroup)
+    (cond (eqb n 2) (plain (ini 2 2) (ini 3 3) noGroup)
+    (cond (eqb n 3) (plain (ini 1 1) (ini 2 2) (ini 3 3))
+    (cond (eqb n 4) (plain (ini 1 1) (ini 3 3) noGroup)
+    (cond (eqb n 6) (plain (ini 2 3) noGroup noGroup)
+    (cond (eqb n 7) (plain (ini 2 2) noGroup noGroup)
+    (cond (eqb n 8) (plain (ini 1 2) (ini 3 3) noGroup)
+    (cond (eqb n 9) (plain (ini 1 2) noGroup noGroup)
+    (cond (eqb n 10) (plain (ini 1 1) (ini 2 3) noGroup)
+    (cond (eqb n 11) (plain (ini 1 1) (ini 2 2) noGroup)
+    (cond (eqb n 16) (model 3 3 (5 ∷ (5 ∷ (4 ∷ (4 ∷ (8 ∷ (8 ∷ (1 ∷ (12 ∷ [])))))))) (ini 1 1) (ini 2 2) noGroup)
+    (cond (eqb n 17) (plain (iso 1 1) noGroup noGroup)
+    (cond (eqb n 35) (model 2 2 (1 ∷ (10 ∷ (11 ∷ (11 ∷ (1 ∷ (12 ∷ (1 ∷ (12 ∷ [])))))))) (ini 1 1) (iso 2 2) noGroup)
+    (cond (eqb n 69) (model 2 3 (5 ∷ (5 ∷ (11 ∷ (11 ∷ (3 ∷ (3 ∷ (1 ∷ (12 ∷ [])))))))) (ini 1 1) (iso 2 2) noGroup)
+    (cond (eqb n 99) (model 0 0 usual noGroup noGroup noGroup)
+    unhandled)))))))))))))))
+  where
+    unhandled : Model
+    unhandled = record { handled = false; fewest = 0; most = 0; lengths = usual; groups = noGroup ∷ (noGroup ∷ (noGroup ∷ (noGroup ∷ []))) }
