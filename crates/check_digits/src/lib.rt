@@ -7,7 +7,7 @@ ghost use mathlib.Core.Path.{_≡_};
 ghost use mathlib.Core.List.{[], _∷_};
 ghost use Prim.Native.Nat.{_<_, _≤_, _+_, _%_};
 ghost use Rattle.text.specs.Digits.{digitsOf, valueFrom};
-ghost use Rattle.check_digits.specs.CheckDigit.{carry, checkDigit, passes};
+ghost use Rattle.check_digits.specs.CheckDigit.{carry, digitFor, checkDigit, passes};
 ghost use Rattle.check_digits.specs.Run.{Small, startOf, stepOf, readOf, digitOf};
 ghost use Rattle.check_digits.specs.Answers.{checkAnswer, makeAnswer};
 use refusal::Answer;
@@ -68,8 +68,10 @@ fn summed(run: Run, d: u32) -> Run
     requires { ⌜ Small run × (d < 10) ⌝ }
     ensures { λ r. ⌜ r ≡ stepOf Rule.Ini run d ⌝ }
 {
-    let a = folded(run.sum + d, 11);
-    let b = folded(run.sums + a, 11);
+    let sum = run.sum;
+    let sums = run.sums;
+    let a = folded(sum + d, 11);
+    let b = folded(sums + a, 11);
     Run { sum: a, sums: b }
 }
 
@@ -81,7 +83,8 @@ fn step(rule: Rule, run: Run, d: u32) -> Run
     match rule {
         Rule::Ini => summed(run, d),
         Rule::Mod1110 => {
-            let p = carried(run.sum, d);
+            let sum = run.sum;
+            let p = carried(sum, d);
             Run { sum: p, sums: 0 }
         }
     }
@@ -101,17 +104,27 @@ fn read(rule: Rule, run: Run, b: u8) -> Run
     step(rule, run, (b - 48) as u32)
 }
 
+// INI: the digit for a remainder over 11.
+fn ini_digit(r: u32) -> u8
+    requires { ⌜ r < 11 ⌝ }
+    ensures { λ d. ⌜ d ≡ digitFor Rule.Ini r ⌝ }
+{
+    if r < 2 {
+        return 0;
+    }
+    (11 - r) as u8
+}
+
 // The digit that completes what was read.
 fn digit_for(rule: Rule, run: Run) -> u8
     requires { ⌜ Small run ⌝ }
     ensures { λ r. ⌜ r ≡ digitOf rule run ⌝ }
 {
+    let p = run.sum;
+    let q = run.sums;
     match rule {
-        Rule::Ini => {
-            let r = folded(run.sum + run.sums, 11);
-            if r < 2 { 0 } else { (11 - r) as u8 }
-        }
-        Rule::Mod1110 => ((11 - run.sum) % 10) as u8,
+        Rule::Ini => ini_digit(folded(p + q, 11)),
+        Rule::Mod1110 => ((11 - p) % 10) as u8,
     }
 }
 

@@ -2,19 +2,20 @@
 -- Assumes nothing.
 use mathlib.Core.Path.{_≡_, refl, sym, ap, _∙_}
 use mathlib.Core.Bool.{Bool, true, false, cond, not, _&&_, _||_}
-use mathlib.Core.List.{List, [], _∷_}
-use Prim.Native.Nat.{ℕ, zero, suc, _+_, _≤_, _<_, zero-le}
+use mathlib.Core.List.{List, [], _∷_, _++_}
+use Prim.Native.Nat.{ℕ, suc, _+_, _-_, _*_, _≤_, _<_}
 use native.Mathlib.Numerals.{add-one}
 use native.Mathlib.Omega.{arith}
 use native.Mathlib.Nat.{zero-add, add-zero}
 use lib.Dec.{eqb, leb}
 use lib.ListN.{length, drop, getD}
 use lib.Seq.{drop-cons, drop-length}
-use borrow.Author.Tests.{eq-eqb, ne-eqb}
+use borrow.Author.Tests.{ne-eqb, lt-leb, le-leb}
 use Rattle.text.specs.declared.Class.{Class}
 use Rattle.text.specs.declared.Found.{Found}
 use Rattle.text.specs.declared.Found.the-variants.{At, Nothing}
-use Rattle.text.specs.Bytes.{permits, later, firstBad, allOf, marks}
+use Rattle.text.specs.Digits.{digitsOf, valueFrom}
+use Rattle.text.specs.Bytes.{isDigit, permits, later, firstBad, allOf, marks}
 
 -- ---------------------------------------------------------------------------
 -- Choices on a test
@@ -53,6 +54,32 @@ and-first true b e = let z : _≡_ {A = ℕ} 0 1 = cc in absurd (omega arith)
 pub and-second : (a b r : Bool) → a ≡ true → r ≡ b → r ≡ (a && b)
 and-second true b r e h = h
 and-second false b r e h = let z : _≡_ {A = ℕ} 0 1 = cc in absurd (omega arith)
+
+-- ---------------------------------------------------------------------------
+-- Digits of a text
+
+pub no-digit-below : (b : ℕ) → b < 48 → isDigit b ≡ false
+no-digit-below b h = sym (and-first (leb 48 b) (leb b 57) (lt-leb 48 b h))
+
+pub no-digit-above : (b : ℕ) → 48 ≤ b → 57 < b → isDigit b ≡ false
+no-digit-above b g h = sym (and-second (leb 48 b) (leb b 57) false (le-leb 48 b g) (sym (lt-leb b 57 h)))
+
+pub digit-between : (b : ℕ) → 48 ≤ b → b ≤ 57 → isDigit b ≡ true
+digit-between b g h = sym (and-second (leb 48 b) (leb b 57) true (le-leb 48 b g) (sym (le-leb b 57 h)))
+
+pub digits-append : (s t : List ℕ) → digitsOf (s ++ t) ≡ digitsOf s ++ digitsOf t
+unfolding digitsOf
+digits-append [] t = refl
+digits-append (b ∷ s) t = go (isDigit b) (digits-append s t)
+  where
+    go : (d : Bool) → digitsOf (s ++ t) ≡ digitsOf s ++ digitsOf t → cond d ((b - 48) ∷ digitsOf (s ++ t)) (digitsOf (s ++ t)) ≡ cond d ((b - 48) ∷ digitsOf s) (digitsOf s) ++ digitsOf t
+    go true e = ap (λ (l : List ℕ). (b - 48) ∷ l) e
+    go false e = e
+
+pub value-append : (v : ℕ) (xs ys : List ℕ) → valueFrom v (xs ++ ys) ≡ valueFrom (valueFrom v xs) ys
+unfolding valueFrom
+value-append v [] ys = refl
+value-append v (x ∷ xs) ys = value-append (v * 10 + x) xs ys
 
 -- ---------------------------------------------------------------------------
 -- The scan for a byte that a class does not permit, from place i on

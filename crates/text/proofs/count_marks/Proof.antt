@@ -34,7 +34,7 @@ loop-less : tie.Need-loop-less Inv-loop μ-loop
 loop-less c = omega arith
 
 loop-again : tie.Need-loop-again Inv-loop μ-loop
-loop-again c = 
+loop-again c =
     let s = c .before .before .before .before .args .s .now in
     let l = c .before .before .before .loop in
     (omega arith, (omega arith, l .inv .1 .1 ∙ marks-more s (l .i) (l .n) (omega arith) (c .if1 .taken)))
@@ -46,13 +46,13 @@ loop-less-2 : tie.Need-loop-less-2 Inv-loop μ-loop
 loop-less-2 c = omega arith
 
 loop-again-2 : tie.Need-loop-again-2 Inv-loop μ-loop
-loop-again-2 c = 
+loop-again-2 c =
     let s = c .before .before .before .before .args .s .now in
     let l = c .before .before .before .loop in
     (omega arith, (omega arith, l .inv .1 .1 ∙ marks-same s (l .i) (l .n) (omega arith) (c .if1 .left)))
 
 returns : tie.Need-returns Inv-loop μ-loop
-returns c = 
+returns c =
     let l = c .before .loop in
     marks-end (c .before .before .args .s .now) (l .i) (l .n) (omega arith) (omega arith) ∙ sym (l .inv .1 .1)
 

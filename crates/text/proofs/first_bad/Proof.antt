@@ -30,7 +30,7 @@ permitted-requires : tie.Need-permitted-requires Inv-loop μ-loop
 permitted-requires c κs = tt
 
 returns : tie.Need-returns Inv-loop μ-loop
-returns c = 
+returns c =
     let a = c .before .before .before .before .before .before .args in
     let l = c .before .before .before .before .loop in
     scan-stops (a .class) (a .s .now) (l .i) (omega arith) (sym (c .before .permitted .ensures) ∙ not-true _ (c .if1 .taken)) ∙ sym (l .inv .1)
@@ -42,13 +42,13 @@ loop-less : tie.Need-loop-less Inv-loop μ-loop
 loop-less c = omega arith
 
 loop-again : tie.Need-loop-again Inv-loop μ-loop
-loop-again c = 
+loop-again c =
     let a = c .before .before .before .before .before .before .args in
     let l = c .before .before .before .before .loop in
     (omega arith, l .inv .1 ∙ scan-on (a .class) (a .s .now) (l .i) (omega arith) (sym (c .before .permitted .ensures) ∙ not-false _ (c .if1 .left)))
 
 returns-2 : tie.Need-returns-2 Inv-loop μ-loop
-returns-2 c = 
+returns-2 c =
     let a = c .before .before .before .args in
     let l = c .before .loop in
     scan-ends (a .class) (a .s .now) (l .i) (omega arith) (omega arith) ∙ sym (l .inv .1)

@@ -1,0 +1,193 @@
+-- From how the code reads digits (specs/Run.antt) to what a check digit is (specs/CheckDigit.antt), and the same for remainders over 97.
+-- Assumes nothing.
+use mathlib.Core.Path.{_≡_, refl, sym, ap, _∙_}
+use mathlib.Core.Bool.{Bool, true, false, cond}
+use mathlib.Core.List.{List, [], _∷_, _++_}
+use Prim.Native.Nat.{ℕ, zero, suc, _+_, _-_, _*_, _/_, _%_, _≤_, _<_}
+use native.Mathlib.Nat.{mod-lt, mod-eq-of-lt, mod-eq-sub-mod, mul-add, add-mul, suc-mul, mul-assoc, mul-left-comm, mul-comm, zero-mul, div-add-mod, add-mul-mod-self-left, mod-mod, add-zero}
+use native.Mathlib.Numerals.{add-one}
+use native.Mathlib.Omega.{arith}
+use lib.Dec.{eqb, leb, ltb, lit<}
+use borrow.Author.Tests.{ne-eqb, lt-ltb, le-ltb, lt-leb, le-leb}
+use Rattle.text.proofs.Laws.{taken, left, and-first, and-second, digits-append, value-append}
+use lib.ListN.{length, drop, take, getD}
+use lib.Seq.{drop-cons, drop-length}
+use Rattle.text.specs.Bytes.{isDigit}
+use Rattle.text.specs.Digits.{digitsOf, valueFrom}
+use Rattle.check_digits.specs.declared.Rule.{Rule}
+use Rattle.check_digits.specs.declared.Rule.the-variants.{Ini, Mod1110}
+use Rattle.check_digits.specs.declared.Run.{Run}
+use Rattle.check_digits.specs.CheckDigit.{weighted, carry, carriedOver, checkDigit, digitFor, remainder, tenForZero}
+use Rattle.check_digits.specs.Answers.{sized}
+use Rattle.check_digits.specs.Run.{Small, startOf, stepOf, readOf, runOf, digitOf}
+
+-- ---------------------------------------------------------------------------
+-- Small remainders
+
+-- one subtraction is enough below twice the modulus
+pub folds : (x m : ℕ) → m ≤ x → x < m + m → x - m ≡ x % m
+folds x m h g = sym (mod-eq-sub-mod h ∙ mod-eq-of-lt (omega arith))
+
+carry-small : (p d : ℕ) → carry p d < 11
+carry-small p d = mod-lt (2 * tenForZero ((p + d) % 10)) (lit< tt)
+
+-- MOD 11,10 where p and the digit do not make ten
+pub carried-on : (p d t r : ℕ) → t ≡ (p + d) % 10 → (t ≡ 0 → ⊥) → r ≡ (t + t) % 11 → r ≡ carry p d
+carried-on p d t r e n f =
+    f ∙ rw (← e, ne-eqb t 0 n) (ap (λ (x : ℕ). x % 11) (omega arith))
+
+-- and where they do
+pub carried-over : (p d t : ℕ) → t ≡ (p + d) % 10 → t ≡ 0 → 9 ≡ carry p d
+carried-over p d t e n = rw (← e, n)
+
+-- INI's digit of the remainder of a sum
+pub ini-small : (r : ℕ) → r < 2 → 0 ≡ digitFor Ini r
+ini-small r h = taken (ltb r 2) 0 (11 - r) (lt-ltb r 2 h)
+
+pub ini-large : (r : ℕ) → 2 ≤ r → 11 - r ≡ digitFor Ini r
+ini-large r h = left (ltb r 2) 0 (11 - r) (11 - r) (le-ltb r 2 h) refl
+
+pub folded-digit : (d x r : ℕ) → r ≡ x → d ≡ digitFor Ini r → d ≡ digitFor Ini x
+folded-digit d x r e f = f ∙ ap (digitFor Ini) e
+
+pub start-small : (rule : Rule) → Small (startOf rule)
+start-small Ini = (lit< tt, lit< tt)
+start-small Mod1110 = (lit< tt, lit< tt)
+
+pub step-small : (rule : Rule) (run : Run) (d : ℕ) → Small (stepOf rule run d)
+step-small Ini run d = (mod-lt (run .sum + d) (lit< tt), mod-lt (run .sums + (run .sum + d) % 11) (lit< tt))
+step-small Mod1110 run d = (carry-small (run .sum) d, lit< tt)
+
+pub read-small : (rule : Rule) (run : Run) (b : ℕ) → Small run → Small (readOf rule run b)
+read-small rule run b h = go (isDigit b)
+  where
+    go : (t : Bool) → Small (cond t (stepOf rule run (b - 48)) run)
+    go true = step-small rule run (b - 48)
+    go false = h
+
+-- ---------------------------------------------------------------------------
+-- Reading a text is reading its digits
+
+unfoldable pub runDigits : Rule → Run → List ℕ → Run
+runDigits rule run [] = run
+runDigits rule run (d ∷ ds) = runDigits rule (stepOf rule run d) ds
+
+run-of-digits : (rule : Rule) (run : Run) (s : List ℕ) → runOf rule run s ≡ runDigits rule run (digitsOf s)
+unfolding runOf runDigits digitsOf
+run-of-digits rule run [] = refl
+run-of-digits rule run (b ∷ s) = go (isDigit b) (λ (r : Run). run-of-digits rule r s)
+  where
+    go : (t : Bool) → ((r : Run) → runOf rule r s ≡ runDigits rule r (digitsOf s)) → runOf rule (cond t (stepOf rule run (b - 48)) run) s ≡ runDigits rule run (cond t ((b - 48) ∷ digitsOf s) (digitsOf s))
+    go true e = e (stepOf rule run (b - 48))
+    go false e = e run
+
+-- ---------------------------------------------------------------------------
+-- MOD 11,10: the run's number is p
+
+iso-run : (run : Run) (ds : List ℕ) → runDigits Mod1110 run ds .sum ≡ carriedOver (run .sum) ds
+unfolding runDigits carriedOver
+iso-run run [] = refl
+iso-run run (d ∷ ds) = iso-run (stepOf Mod1110 run d) ds
+
+-- ---------------------------------------------------------------------------
+-- INI: the sum, and the sum of the sums, make up the weighted sum
+
+-- the weights of a sum taken apart by 11
+scaled : (n a d q a₁ : ℕ) → 11 * q + a₁ ≡ a + d → n * a + n * d ≡ 11 * (n * q) + n * a₁
+scaled n a d q a₁ e = sym (mul-add n a d) ∙ ap (λ (x : ℕ). n * x) (sym e) ∙ mul-add n (11 * q) a₁ ∙ ap (λ (x : ℕ). x + n * a₁) (mul-left-comm n 11 q)
+
+-- one digit more: what is read and what is defined differ by elevens
+ini-elevens : (a b d n w q a₁ r b₁ : ℕ) → 11 * q + a₁ ≡ a + d → 11 * r + b₁ ≡ b + a₁ → a + b + (suc n * a + ((n + 2) * d + w)) ≡ a₁ + b₁ + (n * a₁ + w) + 11 * (q + q + r + n * q)
+ini-elevens a b d n w q a₁ r b₁ e f = omega (arith, scaled n a d q a₁ e, suc-mul n a, add-mul n 2 d)
+
+-- one digit more, over 11: n is how many follow, w what they weigh
+ini-turn : (a b d n w : ℕ) → ((a + d) % 11 + (b + (a + d) % 11) % 11 + (n * ((a + d) % 11) + w)) % 11 ≡ (a + b + (suc n * a + ((n + 2) * d + w))) % 11
+ini-turn a b d n w =
+    let a₁ = (a + d) % 11 in
+    let b₁ = (b + a₁) % 11 in
+    let q = (a + d) / 11 in
+    let r = (b + a₁) / 11 in
+    sym (ap (λ (x : ℕ). x % 11) (ini-elevens a b d n w q a₁ r b₁ (div-add-mod (a + d) 11) (div-add-mod (b + a₁) 11))
+    ∙ add-mul-mod-self-left (a₁ + b₁ + (n * a₁ + w)) 11 (q + q + r + n * q))
+
+ini-run : (run : Run) (ds : List ℕ) → (runDigits Ini run ds .sum + runDigits Ini run ds .sums) % 11 ≡ (run .sum + run .sums + (length ds * run .sum + weighted ds)) % 11
+unfolding runDigits weighted
+ini-run run [] = ap (λ (x : ℕ). x % 11) (omega (arith, zero-mul (run .sum)))
+ini-run run (d ∷ ds) = ini-run (stepOf Ini run d) ds ∙ ini-turn (run .sum) (run .sums) d (length ds) (weighted ds)
+
+-- ---------------------------------------------------------------------------
+-- What the loop reads is what the definition says
+
+pub read-check-digit : (rule : Rule) (s : List ℕ) → digitOf rule (runOf rule (startOf rule) s) ≡ checkDigit rule (digitsOf s)
+unfolding checkDigit
+read-check-digit Ini s =
+    ap (λ (r : Run). digitFor Ini ((r .sum + r .sums) % 11)) (run-of-digits Ini (startOf Ini) s)
+    ∙ ap (digitFor Ini) (ini-run (startOf Ini) (digitsOf s) ∙ ap (λ (x : ℕ). x % 11) (zeros (length (digitsOf s)) (weighted (digitsOf s))))
+  where
+    zeros : (n w : ℕ) → 0 + 0 + (n * 0 + w) ≡ w
+    zeros n w = omega arith
+read-check-digit Mod1110 s =
+    ap (λ (r : Run). digitFor Mod1110 (r .sum)) (run-of-digits Mod1110 (startOf Mod1110) s)
+    ∙ ap (digitFor Mod1110) (iso-run (startOf Mod1110) (digitsOf s))
+
+-- the loop's turn, and its end
+module _ (rule : Rule) (run : Run) (s : List ℕ) (i : ℕ) where
+  pub run-on : i < length s → runOf rule run (drop i s) ≡ runOf rule (readOf rule run (getD s i 0)) (drop (i + 1) s)
+  unfolding runOf
+  run-on h = rw (drop-cons s i 0 h, add-one)
+
+  pub run-ends : length s ≤ i → i ≤ length s → run ≡ runOf rule run (drop i s)
+  unfolding runOf
+  run-ends h g = let e : i ≡ length s = omega arith in rw (e, drop-length)
+
+-- ---------------------------------------------------------------------------
+-- Remainders over 97
+
+ninety-sevens : (v d q r : ℕ) → 97 * q + r ≡ v → v * 10 + d ≡ r * 10 + d + 97 * (q * 10)
+ninety-sevens v d q r e = omega arith
+
+-- one digit more, over 97
+digit-over-97 : (v d : ℕ) → (v * 10 + d) % 97 ≡ (v % 97 * 10 + d) % 97
+digit-over-97 v d =
+    ap (λ (x : ℕ). x % 97) (ninety-sevens v d (v / 97) (v % 97) (div-add-mod v 97))
+    ∙ add-mul-mod-self-left (v % 97 * 10 + d) 97 (v / 97 * 10)
+
+-- numbers that leave the same remainder leave the same after more digits
+pub value-over-97 : (v w : ℕ) (ds : List ℕ) → v % 97 ≡ w % 97 → valueFrom v ds % 97 ≡ valueFrom w ds % 97
+unfolding valueFrom
+value-over-97 v w [] e = e
+value-over-97 v w (d ∷ ds) e = value-over-97 (v * 10 + d) (w * 10 + d) ds (digit-over-97 v d ∙ ap (λ (x : ℕ). (x * 10 + d) % 97) e ∙ sym (digit-over-97 w d))
+
+pub value-skips : (r b : ℕ) → r < 97 → isDigit b ≡ false → r ≡ valueFrom r (digitsOf (b ∷ [])) % 97
+unfolding valueFrom digitsOf
+value-skips r b h e = rw e (sym (mod-eq-of-lt h))
+
+pub value-takes : (r b : ℕ) → isDigit b ≡ true → (r * 10 + (b - 48)) % 97 ≡ valueFrom r (digitsOf (b ∷ [])) % 97
+unfolding valueFrom digitsOf
+value-takes r b e = rw e
+
+-- the loop's turn, and its end
+module _ (r : ℕ) (s : List ℕ) (i : ℕ) where
+  pub value-on : (q : ℕ) → i < length s → q ≡ valueFrom r (digitsOf (getD s i 0 ∷ [])) % 97 → valueFrom r (digitsOf (drop i s)) % 97 ≡ valueFrom q (digitsOf (drop (i + 1) s)) % 97
+  value-on q h e =
+      rw (drop-cons s i 0 h, add-one)
+      (ap (λ (l : List ℕ). valueFrom r l % 97) (digits-append (getD s i 0 ∷ []) (drop (suc i) s))
+      ∙ ap (λ (n : ℕ). n % 97) (value-append r (digitsOf (getD s i 0 ∷ [])) (digitsOf (drop (suc i) s)))
+      ∙ value-over-97 (valueFrom r (digitsOf (getD s i 0 ∷ []))) q (digitsOf (drop (suc i) s)) (sym (mod-mod (valueFrom r (digitsOf (getD s i 0 ∷ []))) 97) ∙ ap (λ (n : ℕ). n % 97) (sym e)))
+
+  pub value-ends : length s ≤ i → i ≤ length s → r < 97 → r ≡ valueFrom r (digitsOf (drop i s)) % 97
+  unfolding valueFrom digitsOf
+  value-ends h g l = let e : i ≡ length s = omega arith in rw (e, drop-length) (sym (mod-eq-of-lt l))
+
+-- ---------------------------------------------------------------------------
+-- Sizes
+
+module _ (b : ℕ) (s : List ℕ) where
+  pub none-is-unsized : length s ≡ 0 → sized 1 b s ≡ false
+  none-is-unsized e = sym (and-first (leb 1 (length s)) (leb (length s) b) (lt-leb 1 (length s) (omega arith)))
+
+  pub many-is-unsized : (length s ≡ 0 → ⊥) → b < length s → sized 1 b s ≡ false
+  many-is-unsized e h = sym (and-second (leb 1 (length s)) (leb (length s) b) false (le-leb 1 (length s) (omega arith)) (sym (lt-leb (length s) b h)))
+
+  pub some-is-sized : (length s ≡ 0 → ⊥) → length s ≤ b → sized 1 b s ≡ true
+  some-is-sized e h = sym (and-second (leb 1 (length s)) (leb (length s) b) true (le-leb 1 (length s) (omega arith)) (sym (le-leb (length s) b h)))

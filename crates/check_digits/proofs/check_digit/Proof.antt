@@ -1,0 +1,73 @@
+-- `check_digits::check_digit` meets its contract. The loop's invariant: what is read of the whole is what is read of the rest from here.
+-- Assumes nothing.
+use Prim.Native.Nat.{_≤_, _+_, _-_}
+use mathlib.Core.Path.{_≡_, refl, sym, ap, _∙_}
+use native.Mathlib.Omega.{arith}
+use lib.ListN.{length, drop, getD}
+use Rattle.check_digits.specs.Run.{Small, startOf, runOf, digitOf}
+use Rattle.check_digits.proofs.Laws.{start-small, read-small, run-on, run-ends, read-check-digit}
+use Rattle.check_digits.proofs.check_digit.Statement.{statement}
+use Rattle.check_digits.proofs.check_digit.Tie as tie
+use Rattle.check_digits.proofs.check_digit.Reads as reads
+use Rattle.check_digits.proofs.check_digit.Lts as lts
+use Rattle.check_digits.proofs.digit_for.Reads as digit-for-reads
+use Rattle.check_digits.proofs.read.Reads as read-reads
+use Rattle.check_digits.proofs.started.Reads as started-reads
+
+abbrev Inv-loop : tie.InvT-loop
+Inv-loop rule s run₀ i₀ run i = (i ≤ length s) × ((Small run) × (runOf rule (startOf rule) s ≡ runOf rule run (drop i s)))
+
+abbrev μ-loop : tie.MeasureT-loop
+μ-loop rule s run₀ i₀ run i = length s - i
+
+started-requires : tie.Need-started-requires Inv-loop μ-loop
+started-requires c κs = tt
+
+loop-holds : tie.Need-loop-holds Inv-loop μ-loop
+loop-holds c = rw (c .started .ensures) (omega arith, (start-small (c .before .before .args .rule), refl))
+
+shared-slice-read-read : tie.Need-shared-slice-read-read Inv-loop μ-loop
+shared-slice-read-read c = omega arith
+
+read-requires : tie.Need-read-requires Inv-loop μ-loop
+read-requires c κs = c .before .before .loop .inv .1 .0
+
+add-i : tie.Need-add-i Inv-loop μ-loop
+add-i c = omega arith
+
+loop-less : tie.Need-loop-less Inv-loop μ-loop
+loop-less c = omega arith
+
+loop-again : tie.Need-loop-again Inv-loop μ-loop
+loop-again c =
+    let a = c .before .before .before .before .before .before .args in
+    let l = c .before .before .before .loop in
+    rw (c .read .ensures)
+    (omega arith, (read-small (a .rule) (l .run) (getD (a .s .now) (l .i) 0) (l .inv .1 .0), l .inv .1 .1 ∙ run-on (a .rule) (l .run) (a .s .now) (l .i) (omega arith)))
+
+digit-for-requires : tie.Need-digit-for-requires Inv-loop μ-loop
+digit-for-requires c κs = c .before .loop .inv .1 .0
+
+returns : tie.Need-returns Inv-loop μ-loop
+returns c =
+    let a = c .before .before .before .before .before .args in
+    let l = c .before .before .loop in
+    c .digit-for .ensures
+    ∙ ap (digitOf (a .rule)) (run-ends (a .rule) (l .run) (a .s .now) (l .i) (omega arith) (omega arith) ∙ sym (l .inv .1 .1))
+    ∙ read-check-digit (a .rule) (a .s .now)
+
+pub check-digit-spec : {M : Type 1} → statement M
+check-digit-spec =
+    tie.close
+    (tie.spec
+    Inv-loop
+    μ-loop
+    started-requires
+    loop-holds
+    shared-slice-read-read
+    read-requires
+    add-i
+    loop-less
+    loop-again
+    digit-for-requires
+    returns)

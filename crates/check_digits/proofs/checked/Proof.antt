@@ -1,0 +1,76 @@
+-- `check_digits::checked` meets its contract: each return is the definition's choice on the tests that led there. Assumes nothing.
+use mathlib.Core.Path.{refl, sym, _∙_}
+use lib.ListN.{length}
+use borrow.Author.Tests.{not-true, not-false}
+use Rattle.text.proofs.Laws.{taken, left, entered}
+use Rattle.check_digits.proofs.Laws.{none-is-unsized, many-is-unsized, some-is-sized}
+use borrow.Author.Needs.{needs}
+use Rattle.check_digits.proofs.checked.Statement.{statement}
+use Rattle.check_digits.proofs.checked.Tie as tie
+use Rattle.check_digits.proofs.checked.Reads as reads
+use Rattle.check_digits.proofs.checked.Lts as lts
+use Rattle.check_digits.proofs.ends_right.Reads as ends-right-reads
+use Rattle.refusal.proofs.nowhere.Reads as nowhere-reads
+use Rattle.text.proofs.all_of.Reads as all-of-reads
+
+nowhere-requires : tie.Need-nowhere-requires
+nowhere-requires c κs = search needs
+
+returns : tie.Need-returns
+returns c = rw (c .nowhere .ensures) (left _ _ _ _ (none-is-unsized 22 (c .before .before .before .args .s .now) (c .before .if1 .taken)) refl)
+
+nowhere-requires-2 : tie.Need-nowhere-requires-2
+nowhere-requires-2 c κs = search needs
+
+returns-2 : tie.Need-returns-2
+returns-2 c = rw (c .nowhere2 .ensures) (left _ _ _ _ (many-is-unsized 22 (c .before .before .before .before .args .s .now) (c .before .before .if1 .left) (c .before .if2 .taken)) refl)
+
+all-of-requires : tie.Need-all-of-requires
+all-of-requires c κs = search needs
+
+nowhere-requires-3 : tie.Need-nowhere-requires-3
+nowhere-requires-3 c κs = search needs
+
+returns-3 : tie.Need-returns-3
+returns-3 c =
+    let s = c .before .before .before .before .before .before .args .s .now in
+    rw (c .nowhere3 .ensures)
+    (entered _ _ _ _ (some-is-sized 22 s (c .before .before .before .before .if1 .left) (c .before .before .before .if2 .left))
+    (left _ _ _ _ (sym (c .before .before .all-of .ensures) ∙ not-true _ (c .before .if3 .taken)) refl))
+
+ends-right-requires : tie.Need-ends-right-requires
+ends-right-requires c κs = search needs
+
+returns-4 : tie.Need-returns-4
+returns-4 c =
+    let s = c .before .before .before .before .before .before .before .args .s .now in
+    entered _ _ _ _ (some-is-sized 22 s (c .before .before .before .before .before .if1 .left) (c .before .before .before .before .if2 .left))
+    (entered _ _ _ _ (sym (c .before .before .before .all-of .ensures) ∙ not-false _ (c .before .before .if3 .left))
+    (taken _ _ _ (sym (c .before .ends-right .ensures) ∙ c .if4 .taken)))
+
+nowhere-requires-4 : tie.Need-nowhere-requires-4
+nowhere-requires-4 c κs = search needs
+
+returns-5 : tie.Need-returns-5
+returns-5 c =
+    let s = c .before .before .before .before .before .before .before .before .args .s .now in
+    rw (c .nowhere4 .ensures)
+    (entered _ _ _ _ (some-is-sized 22 s (c .before .before .before .before .before .before .if1 .left) (c .before .before .before .before .before .if2 .left))
+    (entered _ _ _ _ (sym (c .before .before .before .before .all-of .ensures) ∙ not-false _ (c .before .before .before .if3 .left))
+    (left _ _ _ _ (sym (c .before .before .ends-right .ensures) ∙ c .before .if4 .left) refl)))
+
+pub checked-spec : {M : Type 1} → statement M
+checked-spec =
+    tie.close
+    (tie.spec
+    nowhere-requires
+    returns
+    nowhere-requires-2
+    returns-2
+    all-of-requires
+    nowhere-requires-3
+    returns-3
+    ends-right-requires
+    returns-4
+    nowhere-requires-4
+    returns-5)

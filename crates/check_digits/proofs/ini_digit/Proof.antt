@@ -1,0 +1,22 @@
+-- `check_digits::ini_digit` meets its contract: the test is the definition's. Assumes nothing.
+use Rattle.check_digits.proofs.Laws.{ini-small, ini-large}
+use borrow.Author.Needs.{needs}
+use Rattle.check_digits.proofs.ini_digit.Statement.{statement}
+use Rattle.check_digits.proofs.ini_digit.Tie as tie
+use Rattle.check_digits.proofs.ini_digit.Reads as reads
+use Rattle.check_digits.proofs.ini_digit.Lts as lts
+
+returns : tie.Need-returns
+returns c = ini-small _ (c .if1 .taken)
+
+sub-result : tie.Need-sub-result
+sub-result c = search needs
+
+cast-result : tie.Need-cast-result
+cast-result c = search needs
+
+returns-2 : tie.Need-returns-2
+returns-2 c = ini-large _ (c .if1 .left)
+
+pub ini-digit-spec : {M : Type 1} → statement M
+ini-digit-spec = tie.close (tie.spec returns sub-result cast-result returns-2)

@@ -1,0 +1,64 @@
+-- `check_digits::remainder97` meets its contract. The loop's invariant: the remainder of the whole is that of `r` and the rest from here.
+-- Assumes nothing.
+use Prim.Native.Nat.{_≤_, _<_, _+_, _-_, _%_}
+use mathlib.Core.Path.{_≡_, refl, sym, ap, _∙_}
+use native.Mathlib.Omega.{arith}
+use native.Mathlib.Nat.{mod-lt, mod-mod}
+use lib.Dec.{lit<}
+use lib.ListN.{length, drop, getD}
+use Rattle.text.specs.Digits.{digitsOf, valueFrom}
+use Rattle.check_digits.proofs.Laws.{value-over-97, value-on, value-ends}
+use Rattle.check_digits.proofs.remainder97.Statement.{statement}
+use Rattle.check_digits.proofs.remainder97.Tie as tie
+use Rattle.check_digits.proofs.remainder97.Reads as reads
+use Rattle.check_digits.proofs.remainder97.Lts as lts
+use Rattle.check_digits.proofs.read97.Reads as read97-reads
+
+abbrev Inv-loop : tie.InvT-loop
+Inv-loop before s r₀ i₀ r i = (i ≤ length s) × ((r < 97) × (valueFrom before (digitsOf s) % 97 ≡ valueFrom r (digitsOf (drop i s)) % 97))
+
+abbrev μ-loop : tie.MeasureT-loop
+μ-loop before s r₀ i₀ r i = length s - i
+
+loop-holds : tie.Need-loop-holds Inv-loop μ-loop
+loop-holds c =
+    let a = c .before .args in
+    (omega arith, (mod-lt (a .before) (lit< tt), value-over-97 (a .before) (a .before % 97) (digitsOf (a .s .now)) (sym (mod-mod (a .before) 97))))
+
+shared-slice-read-read97 : tie.Need-shared-slice-read-read97 Inv-loop μ-loop
+shared-slice-read-read97 c = omega arith
+
+read97-requires : tie.Need-read97-requires Inv-loop μ-loop
+read97-requires c κs = c .before .before .loop .inv .1 .0
+
+add-i : tie.Need-add-i Inv-loop μ-loop
+add-i c = omega arith
+
+loop-less : tie.Need-loop-less Inv-loop μ-loop
+loop-less c = omega arith
+
+loop-again : tie.Need-loop-again Inv-loop μ-loop
+loop-again c =
+    let a = c .before .before .before .before .before .args in
+    let l = c .before .before .before .loop in
+    (omega arith, (c .read97 .ensures .0, l .inv .1 .1 ∙ value-on (l .r) (a .s .now) (l .i) (c .read97 .result) (omega arith) (c .read97 .ensures .1)))
+
+returns : tie.Need-returns Inv-loop μ-loop
+returns c =
+    let a = c .before .before .before .args in
+    let l = c .before .loop in
+    value-ends (l .r) (a .s .now) (l .i) (omega arith) (omega arith) (l .inv .1 .0) ∙ sym (l .inv .1 .1)
+
+pub remainder97-spec : {M : Type 1} → statement M
+remainder97-spec =
+    tie.close
+    (tie.spec
+    Inv-loop
+    μ-loop
+    loop-holds
+    shared-slice-read-read97
+    read97-requires
+    add-i
+    loop-less
+    loop-again
+    returns)

@@ -1,0 +1,21 @@
+-- `check_digits::started` meets its contract: each arm says which rule it is. Assumes nothing.
+use borrow.Author.Needs.{needs}
+use Rattle.check_digits.proofs.started.Statement.{statement}
+use Rattle.check_digits.proofs.started.Tie as tie
+use Rattle.check_digits.proofs.started.Reads as reads
+use Rattle.check_digits.proofs.started.Lts as lts
+
+enum-told : tie.Need-enum-told
+enum-told c = search needs
+
+enum-told-2 : tie.Need-enum-told-2
+enum-told-2 c = search needs
+
+returns : tie.Need-returns
+returns c = rw (c .enum-told .given .1)
+
+returns-2 : tie.Need-returns-2
+returns-2 c = rw (c .enum-told2 .given .1)
+
+pub started-spec : {M : Type 1} → statement M
+started-spec = tie.close (tie.spec enum-told enum-told-2 returns returns-2)
