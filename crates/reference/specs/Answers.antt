@@ -13,9 +13,9 @@ use Rattle.text.specs.Bytes.{firstBad}
 use Rattle.text.specs.declared.Class.the-variants.{Reference}
 use Rattle.text.specs.declared.Found.{Found}
 use Rattle.text.specs.declared.Found.the-variants.{At, Nothing}
-use Rattle.reference.specs.declared.Model as declared
+use Rattle.models.specs.declared.Model as declared
 use Rattle.reference.specs.Parts.{partsOf, formed, groupsRight}
-use Rattle.reference.specs.Models.{modelNumber, modelOf}
+use Rattle.models.specs.Models.{modelNumber, modelOf}
 
 -- 8, then 9
 unfoldable pub obeyAnswer : declared.Model → List ℕ → Answer
@@ -28,9 +28,13 @@ obeyAnswer model s =
 abbrev pub obeys : declared.Model → List ℕ → Bool
 obeys model s = formed model s && groupsRight (model .groups) (partsOf s)
 
+-- 3, told of a byte
+abbrev pub byteAt : ℕ → Answer
+byteAt i = Refused (Byte (record { line = 0; field = 0; byte = i }))
+
 -- 3 with its byte, then 4, then what the model says
 abbrev pub textAnswer : declared.Model → List ℕ → Found → Answer
-textAnswer model s (At i) = Refused (Byte (record { line = 0; field = 0; byte = i }))
+textAnswer model s (At i) = byteAt i
 textAnswer model s Nothing = cond (leb (length s) 22) (obeyAnswer model s) (Refused (Length none))
 
 -- 7, then the text

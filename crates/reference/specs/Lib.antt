@@ -1,4 +1,5 @@
 -- The definitions of the crate `reference`.
 pub mod Parts
-pub mod Models
 pub mod Answers
+pub mod Readers
+pub mod Groups

@@ -7,8 +7,8 @@ use lib.ListN.{length, take, drop}
 use Rattle.text.specs.Bytes.{allOf}
 use Rattle.text.specs.declared.Class.the-variants.{Digits}
 use Rattle.check_digits.specs.CheckDigit.{passes}
-use Rattle.reference.specs.declared.Group.{Group}
-use Rattle.reference.specs.declared.Model.{Model}
+use Rattle.models.specs.declared.Group.{Group}
+use Rattle.models.specs.declared.Model.{Model}
 
 -- ---------------------------------------------------------------------------
 -- "Parts are digits, joined by hyphens"
@@ -54,7 +54,7 @@ joined (p ∷ ps) = p ++ joined ps
 
 -- the parts of a group that are present
 abbrev pub present : Group → List (List ℕ) → List (List ℕ)
-present g ps = take (suc (g .last) - g .first) (drop (g .first - 1) ps)
+present g ps = take (g .joins) (drop (g .skipped) ps)
 
 -- "A check group joins those of its parts that are present and ends in its check digit; with none present it is not checked"
 unfoldable pub groupRight : Group → List (List ℕ) → Bool

@@ -1,36 +1,227 @@
-// References: the parts of a text, a model's rules as one value, and what judging a reference answers.
+// References: the parts of a text, its check groups, and what judging a reference answers.
 //
-// Document 01, "Reference models", with source 003. A model's choices stand in one decision, `rules`; everything else
-// goes by the value that it gives. The digit reader and the part reader call each other, as 01 asks.
+// Document 01, "Reference models". A model is the value that `models` gives. The digit reader and the part reader
+// call each other, as 01 asks; what a listing asks again and again, the check groups, is loops.
 ghost use mathlib.Core.Path.{_≡_};
+ghost use mathlib.Core.Bool.{_&&_};
+ghost use Prim.Native.Nat.{_≤_, _<_, _+_, _^_};
+ghost use lib.Dec.{leb};
+ghost use lib.ListN.{length};
 ghost use Rattle.reference.specs.Parts.{formed};
-ghost use Rattle.reference.specs.Models.{modelNumber, modelOf};
-ghost use Rattle.reference.specs.Answers.{obeyAnswer, referenceAnswer};
+ghost use Rattle.reference.specs.Groups.{afterHyphens, headHolds, groupHolds, groupsHold};
+ghost use Rattle.reference.specs.Readers.{fitsNext, partRead, digitRead};
+ghost use Rattle.reference.specs.Answers.{byteAt, obeyAnswer, textAnswer, referenceAnswer};
+ghost use Rattle.text.specs.Bytes.{firstBad};
 use check_digits::Rule;
+use models::Group;
+use models::Model;
 use refusal::Answer;
+use refusal::Place;
 use refusal::Refusal;
 use text::Class;
 use text::Found;
 
-// A check group: its parts, counted from 1, and the rule that its last digit obeys. `last` below `first` is no group.
-pub struct Group {
-    pub first: usize,
-    pub last: usize,
-    pub rule: Rule,
+// What reading the parts of a reference finds: how many there are, or that one of them does not fit.
+pub enum Read {
+    Parts(usize),
+    Broken,
 }
 
-// A model's rules: how many parts, the least and most digits of each of four, and its check groups.
-pub struct Model {
-    pub handled: bool,
-    pub fewest: usize,
-    pub most: usize,
-    pub lengths: [u8; 8],
-    pub groups: [Group; 4],
-}
+// ---------------------------------------------------------------------------
+// Parts
 
-// The number of a model's text, `HR` and two digits.
-pub fn number(s: &[u8]) -> Found
-    ensures { λ r. ⌜ r ≡ modelNumber (now (s .entry)) ⌝ }
+// Whether a part of n digits fits the next lengths, least and most.
+fn fits(lengths: &[u8], n: usize) -> bool
+    ensures { λ r. ⌜ r ≡ fitsNext (now (lengths .entry)) n ⌝ }
 {
+    if lengths.len() < 2 {
+        return false;
+    }
+    if n < lengths[0] as usize {
+        return false;
+    }
+    n <= lengths[1] as usize
+}
+
+// Reads a part, the first of what is left, after `count` parts: its digits, where the model has lengths for it.
+fn part(s: &[u8], lengths: &[u8], count: usize) -> Read
+    requires { ⌜ count + length (now s) < 2 ^ 63 ⌝ }
+    ensures { λ r. ⌜ r ≡ partRead (now (lengths .entry)) count (now (s .entry)) ⌝ }
+{
+    if lengths.len() < 2 {
+        return Read::Broken;
+    }
+    digit(s, lengths, 0, count)
+}
+
+// Reads on after n digits of a part: a digit is one more, and a hyphen hands over to the reading of the next part.
+fn digit(s: &[u8], lengths: &[u8], n: usize, count: usize) -> Read
+    requires { ⌜ (count + length (now s) < 2 ^ 63) × (n + length (now s) < 2 ^ 63) ⌝ }
+    ensures { λ r. ⌜ r ≡ digitRead (now (lengths .entry)) n count (now (s .entry)) ⌝ }
+{
+    if s.len() == 0 {
+        if fits(lengths, n) {
+            return Read::Parts(count + 1);
+        }
+        return Read::Broken;
+    }
+    let b = s[0];
+    if b == 45 {
+        if fits(lengths, n) {
+            return part(&s[1..], &lengths[2..], count + 1);
+        }
+        return Read::Broken;
+    }
+    if text::is_digit(b) {
+        return digit(&s[1..], lengths, n + 1, count);
+    }
+    Read::Broken
+}
+
+// Whether a text has the parts that the model asks, each of its length.
+pub fn is_formed(model: Model, s: &[u8]) -> bool
+    ensures { λ r. ⌜ r ≡ formed model (now (s .entry)) ⌝ }
+{
+    let fewest = model.fewest;
+    let most = model.most;
+    if s.len() == 0 {
+        return fewest == 0;
+    }
+    let lengths = model.lengths;
+    match part(s, &lengths, 0) {
+        Read::Parts(n) => within(n, fewest, most),
+        Read::Broken => false,
+    }
+}
+
+// Whether n lies between two numbers.
+fn within(n: usize, least: usize, most: usize) -> bool
+    ensures { λ r. ⌜ r ≡ (leb least n && leb n most) ⌝ }
+{
+    if n < least {
+        return false;
+    }
+    n <= most
+}
+
+// ---------------------------------------------------------------------------
+// Check groups
+
+// The place after the first k hyphens of a text.
+fn after(s: &[u8], k: usize) -> Found
+    ensures { λ r. ⌜ r ≡ afterHyphens k (now (s .entry)) ⌝ }
+{
+    let mut left = k;
+    let mut i = 0;
+    while i < s.len() {
+        if left == 0 {
+            return Found::At(i);
+        }
+        if s[i] == 45 {
+            left -= 1;
+            i += 1;
+        } else {
+            i += 1;
+        }
+    }
+    if left == 0 {
+        return Found::At(i);
+    }
     Found::Nothing
+}
+
+// Whether the first `joins` parts of a text end in their check digit.
+fn head_holds(rule: Rule, joins: usize, s: &[u8]) -> bool
+    ensures { λ r. ⌜ r ≡ headHolds rule joins (now (s .entry)) ⌝ }
+{
+    match after(s, joins) {
+        Found::At(e) => {
+            if e == 0 {
+                return true;
+            }
+            let end = e - 1;
+            check_digits::ends_right(rule, &s[..end])
+        }
+        Found::Nothing => check_digits::ends_right(rule, s),
+    }
+}
+
+// Whether a group ends in its check digit; with no part present it is not checked.
+pub fn group_holds(g: Group, s: &[u8]) -> bool
+    ensures { λ r. ⌜ r ≡ groupHolds g (now (s .entry)) ⌝ }
+{
+    let skipped = g.skipped;
+    let joins = g.joins;
+    let rule = g.rule;
+    match after(s, skipped) {
+        Found::At(a) => head_holds(rule, joins, &s[a..]),
+        Found::Nothing => true,
+    }
+}
+
+// Whether each of a model's groups does.
+pub fn groups_hold(groups: [Group; 4], s: &[u8]) -> bool
+    ensures { λ r. ⌜ r ≡ groupsHold groups (now (s .entry)) ⌝ }
+{
+    let mut i = 0;
+    while i < 4 {
+        let g = groups[i];
+        if !group_holds(g, s) {
+            return false;
+        }
+        i += 1;
+    }
+    true
+}
+
+// ---------------------------------------------------------------------------
+// Answers
+
+// 8 where the parts are not the model's, then 9 where a check group fails.
+pub fn obeys(model: Model, s: &[u8]) -> Answer
+    ensures { λ r. ⌜ r ≡ obeyAnswer model (now (s .entry)) ⌝ }
+{
+    if !is_formed(model, s) {
+        return Answer::Refused(Refusal::Parts(refusal::nowhere()));
+    }
+    let groups = model.groups;
+    if groups_hold(groups, s) {
+        return Answer::Accepted;
+    }
+    Answer::Refused(Refusal::Digit(refusal::nowhere()))
+}
+
+// A reference's text under a handled model: 3 with its byte, then 4, 8, 9.
+fn judged_text(model: Model, s: &[u8]) -> Answer
+    ensures { λ r. ⌜ r ≡ textAnswer model (now (s .entry)) (firstBad Class.Reference (now (s .entry))) ⌝ }
+{
+    match text::first_bad(Class::Reference, s) {
+        Found::At(i) => Answer::Refused(Refusal::Byte(Place {
+            line: 0,
+            field: 0,
+            byte: i,
+        })),
+        Found::Nothing => {
+            if 22 < s.len() {
+                return Answer::Refused(Refusal::Length(refusal::nowhere()));
+            }
+            obeys(model, s)
+        }
+    }
+}
+
+// A reference by its model's text: 5 and 7 of the model, then 3 with its byte, 4, 8 and 9 of the reference.
+pub fn reference(model: &[u8], s: &[u8]) -> Answer
+    ensures { λ r. ⌜ r ≡ referenceAnswer (now (model .entry)) (now (s .entry)) ⌝ }
+{
+    match models::number(model) {
+        Found::At(n) => {
+            let m = models::rules(n);
+            if !m.handled {
+                return Answer::Refused(Refusal::Model(refusal::nowhere()));
+            }
+            judged_text(m, s)
+        }
+        Found::Nothing => Answer::Refused(Refusal::Form(refusal::nowhere())),
+    }
 }

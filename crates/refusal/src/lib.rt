@@ -7,9 +7,9 @@ ghost use Rattle.refusal.specs.Refusal.{none, numberOf, placeOf, neededO
 
 // Where a refusal stands. Lines and fields count from 1, bytes from 0; 0 stands for "none".
 pub struct Place {
-    pub line: u32,
-    pub field: u32,
-    pub byte: u32,
+    pub line: usize,
+    pub field: usize,
+    pub byte: usize,
 }
 
 // The seventeen refusals, in the order of their numbers.

@@ -10,7 +10,7 @@ use native.Mathlib.Nat.{zero-add, add-zero}
 use lib.Dec.{eqb, leb}
 use lib.ListN.{length, drop, getD}
 use lib.Seq.{drop-cons, drop-length}
-use borrow.Author.Tests.{ne-eqb, lt-leb, le-leb}
+use borrow.Author.Tests.{ne-eqb, lt-leb, le-leb, leb-true}
 use Rattle.text.specs.declared.Class.{Class}
 use Rattle.text.specs.declared.Found.{Found}
 use Rattle.text.specs.declared.Found.the-variants.{At, Nothing}
@@ -55,6 +55,10 @@ pub and-second : (a b r : Bool) → a ≡ true → r ≡ b → r ≡ (a && b)
 and-second true b r e h = h
 and-second false b r e h = let z : _≡_ {A = ℕ} 0 1 = cc in absurd (omega arith)
 
+pub both-true : (a b : Bool) → (a && b) ≡ true → (a ≡ true) × (b ≡ true)
+both-true true b e = (refl, e)
+both-true false b e = let z : _≡_ {A = ℕ} 0 1 = cc in absurd (omega arith)
+
 -- ---------------------------------------------------------------------------
 -- Digits of a text
 
@@ -66,6 +70,9 @@ no-digit-above b g h = sym (and-second (leb 48 b) (leb b 57) false (le-leb 48 b 
 
 pub digit-between : (b : ℕ) → 48 ≤ b → b ≤ 57 → isDigit b ≡ true
 digit-between b g h = sym (and-second (leb 48 b) (leb b 57) true (le-leb 48 b g) (sym (le-leb b 57 h)))
+
+pub digit-bounds : (b : ℕ) → isDigit b ≡ true → (48 ≤ b) × (b ≤ 57)
+digit-bounds b e = let h = both-true (leb 48 b) (leb b 57) e in (leb-true 48 b (h .0), leb-true b 57 (h .1))
 
 pub digits-append : (s t : List ℕ) → digitsOf (s ++ t) ≡ digitsOf s ++ digitsOf t
 unfolding digitsOf

@@ -9,14 +9,18 @@ use Rattle.text.specs.declared.Found.{Found}
 use Rattle.text.specs.declared.Found.the-variants.{At, Nothing}
 use Rattle.check_digits.specs.declared.Rule.{Rule}
 use Rattle.check_digits.specs.declared.Rule.the-variants.{Ini, Mod1110}
-use Rattle.reference.specs.declared.Group.{Group}
-use Rattle.reference.specs.declared.Model.{Model}
+use Rattle.models.specs.declared.Group.{Group}
+use Rattle.models.specs.declared.Model.{Model}
 
--- "`HR` and two digits": the model's number
+-- the number that two digits write
+abbrev pub twoDigits : ℕ → ℕ → Found
+twoDigits a b = cond (isDigit a && isDigit b) (At ((a - 48) * 10 + (b - 48))) Nothing
+
+-- "`HR` and two digits": the model's number; `H` is 72, `R` is 82
 abbrev pub modelNumber : List ℕ → Found
 modelNumber s =
-    cond (eqb (length s) 4 && (eqb (getD s 0 0) 72 && (eqb (getD s 1 0) 82 && (isDigit (getD s 2 0) && isDigit (getD s 3 0)))))
-    (At ((getD s 2 0 - 48) * 10 + (getD s 3 0 - 48)))
+    cond (eqb (length s) 4 && (eqb (getD s 0 0) 72 && eqb (getD s 1 0) 82))
+    (twoDigits (getD s 2 0) (getD s 3 0))
     Nothing
 
 -- ---------------------------------------------------------------------------
@@ -24,7 +28,7 @@ modelNumber s =
 
 -- the group of the parts from first to last
 abbrev pub over : Rule → ℕ → ℕ → Group
-over rule first last = record { first = first; last = last; rule = rule }
+over rule first last = record { skipped = first - 1; joins = last + 1 - first; rule = rule }
 
 -- no group: it has no part
 abbrev pub noGroup : Group
@@ -45,6 +49,10 @@ model fewest most lengths g h k =
 abbrev pub usual : List ℕ
 usual = 1 ∷ (12 ∷ (1 ∷ (12 ∷ (1 ∷ (12 ∷ (1 ∷ (12 ∷ [])))))))
 
+-- no model
+abbrev pub unhandled : Model
+unhandled = record { handled = false; fewest = 0; most = 0; lengths = usual; groups = noGroup ∷ (noGroup ∷ (noGroup ∷ (noGroup ∷ []))) }
+
 -- a model with the usual parts
 abbrev pub plain : Group → Group → Group → Model
 plain g h k = model 1 3 usual g h k
@@ -52,7 +60,17 @@ plain g h k = model 1 3 usual g h k
 -- ---------------------------------------------------------------------------
 -- The models
 
--- the sixteen models by number; another number is not handled
+-- the models with lengths or a check of their own; another number is not handled
+unfoldable pub specialOf : ℕ → Model
+specialOf n =
+    cond (eqb n 16) (model 3 3 (5 ∷ (5 ∷ (4 ∷ (4 ∷ (8 ∷ (8 ∷ (1 ∷ (12 ∷ [])))))))) (ini 1 1) (ini 2 2) noGroup)
+    (cond (eqb n 17) (plain (iso 1 1) noGroup noGroup)
+    (cond (eqb n 35) (model 2 2 (1 ∷ (10 ∷ (11 ∷ (11 ∷ (1 ∷ (12 ∷ (1 ∷ (12 ∷ [])))))))) (ini 1 1) (iso 2 2) noGroup)
+    (cond (eqb n 69) (model 2 3 (5 ∷ (5 ∷ (11 ∷ (11 ∷ (3 ∷ (3 ∷ (1 ∷ (12 ∷ [])))))))) (ini 1 1) (iso 2 2) noGroup)
+    (cond (eqb n 99) (model 0 0 usual noGroup noGroup noGroup)
+    unhandled))))
+
+-- the models of the usual parts, then the others
 unfoldable pub modelOf : ℕ → Model
 modelOf n =
     cond (eqb n 0) (plain noGroup noGroup noGroup)
@@ -66,12 +84,4 @@ modelOf n =
     (cond (eqb n 9) (plain (ini 1 2) noGroup noGroup)
     (cond (eqb n 10) (plain (ini 1 1) (ini 2 3) noGroup)
     (cond (eqb n 11) (plain (ini 1 1) (ini 2 2) noGroup)
-    (cond (eqb n 16) (model 3 3 (5 ∷ (5 ∷ (4 ∷ (4 ∷ (8 ∷ (8 ∷ (1 ∷ (12 ∷ [])))))))) (ini 1 1) (ini 2 2) noGroup)
-    (cond (eqb n 17) (plain (iso 1 1) noGroup noGroup)
-    (cond (eqb n 35) (model 2 2 (1 ∷ (10 ∷ (11 ∷ (11 ∷ (1 ∷ (12 ∷ (1 ∷ (12 ∷ [])))))))) (ini 1 1) (iso 2 2) noGroup)
-    (cond (eqb n 69) (model 2 3 (5 ∷ (5 ∷ (11 ∷ (11 ∷ (3 ∷ (3 ∷ (1 ∷ (12 ∷ [])))))))) (ini 1 1) (iso 2 2) noGroup)
-    (cond (eqb n 99) (model 0 0 usual noGroup noGroup noGroup)
-    unhandled)))))))))))))))
-  where
-    unhandled : Model
-    unhandled = record { handled = false; fewest = 0; most = 0; lengths = usual; groups = noGroup ∷ (noGroup ∷ (noGroup ∷ (noGroup ∷ []))) }
+    (specialOf n)))))))))))

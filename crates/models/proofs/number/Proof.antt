@@ -1,0 +1,59 @@
+-- `models::number` meets its contract: each return is the definition's choice on the tests that led there. Assumes nothing.
+use mathlib.Core.Path.{refl, sym}
+use borrow.Author.Tests.{ne-eqb, eq-eqb}
+use Rattle.text.proofs.Laws.{left, entered, and-first, and-second}
+use borrow.Author.Needs.{needs}
+use Rattle.models.proofs.number.Statement.{statement}
+use Rattle.models.proofs.number.Tie as tie
+use Rattle.models.proofs.number.Reads as reads
+use Rattle.models.proofs.number.Lts as lts
+use Rattle.models.proofs.two_digits.Reads as two-digits-reads
+
+returns : tie.Need-returns
+returns c = left _ _ _ _ (sym (and-first _ _ (ne-eqb _ _ (c .if1 .taken)))) refl
+
+shared-slice-read-if2 : tie.Need-shared-slice-read-if2
+shared-slice-read-if2 c = search needs
+
+returns-2 : tie.Need-returns-2
+returns-2 c = left _ _ _ _ (sym (and-second _ _ _ (eq-eqb _ _ (c .before .before .if1 .left)) (and-first _ _ (ne-eqb _ _ (c .if2 .taken))))) refl
+
+shared-slice-read-if3 : tie.Need-shared-slice-read-if3
+shared-slice-read-if3 c = search needs
+
+returns-3 : tie.Need-returns-3
+returns-3 c =
+    left _ _ _ _
+    (sym (and-second _ _ _ (eq-eqb _ _ (c .before .before .before .before .if1 .left))
+    (and-second _ _ _ (eq-eqb _ _ (c .before .before .if2 .left)) (sym (ne-eqb _ _ (c .if3 .taken))))))
+    refl
+
+shared-slice-read-two-digits : tie.Need-shared-slice-read-two-digits
+shared-slice-read-two-digits c = search needs
+
+shared-slice-read-two-digits-2 : tie.Need-shared-slice-read-two-digits-2
+shared-slice-read-two-digits-2 c = search needs
+
+two-digits-requires : tie.Need-two-digits-requires
+two-digits-requires c κs = search needs
+
+returns-4 : tie.Need-returns-4
+returns-4 c =
+    entered _ _ _ _
+    (sym (and-second _ _ _ (eq-eqb _ _ (c .before .before .before .before .before .before .before .if1 .left))
+    (and-second _ _ _ (eq-eqb _ _ (c .before .before .before .before .before .if2 .left)) (sym (eq-eqb _ _ (c .before .before .before .if3 .left))))))
+    (c .two-digits .ensures)
+
+pub number-spec : {M : Type 1} → statement M
+number-spec =
+    tie.close
+    (tie.spec
+    returns
+    shared-slice-read-if2
+    returns-2
+    shared-slice-read-if3
+    returns-3
+    shared-slice-read-two-digits
+    shared-slice-read-two-digits-2
+    two-digits-requires
+    returns-4)

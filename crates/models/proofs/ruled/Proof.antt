@@ -1,0 +1,16 @@
+-- `models::ruled` meets its contract. Assumes nothing.
+use borrow.Author.Needs.{needs}
+use Rattle.models.proofs.ruled.Statement.{statement}
+use Rattle.models.proofs.ruled.Tie as tie
+use Rattle.models.proofs.ruled.Reads as reads
+use Rattle.models.proofs.ruled.Lts as lts
+use Rattle.models.proofs.joined.Reads as joined-reads
+
+joined-requires : tie.Need-joined-requires
+joined-requires c κs = search needs
+
+returns : tie.Need-returns
+returns c = rw (c .joined .ensures)
+
+pub ruled-spec : {M : Type 1} → statement M
+ruled-spec = tie.close (tie.spec joined-requires returns)

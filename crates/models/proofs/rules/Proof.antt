@@ -1,0 +1,200 @@
+-- `models::rules` meets its contract: each arm says the number, and its model is the definition's at that number.
+-- Assumes nothing.
+use borrow.Author.Tests.{ne-eqb}
+use Rattle.models.specs.Models.{modelOf}
+use borrow.Author.Needs.{needs}
+use Rattle.models.proofs.rules.Statement.{statement}
+use Rattle.models.proofs.rules.Tie as tie
+use Rattle.models.proofs.rules.Reads as reads
+use Rattle.models.proofs.rules.Lts as lts
+use Rattle.models.proofs.common.Reads as common-reads
+use Rattle.models.proofs.joined.Reads as joined-reads
+use Rattle.models.proofs.special.Reads as special-reads
+
+joined-requires : tie.Need-joined-requires
+joined-requires c κs = search needs
+
+common-requires : tie.Need-common-requires
+common-requires c κs = search needs
+
+joined-requires-2 : tie.Need-joined-requires-2
+joined-requires-2 c κs = search needs
+
+common-requires-2 : tie.Need-common-requires-2
+common-requires-2 c κs = search needs
+
+joined-requires-3 : tie.Need-joined-requires-3
+joined-requires-3 c κs = search needs
+
+joined-requires-4 : tie.Need-joined-requires-4
+joined-requires-4 c κs = search needs
+
+common-requires-3 : tie.Need-common-requires-3
+common-requires-3 c κs = search needs
+
+joined-requires-5 : tie.Need-joined-requires-5
+joined-requires-5 c κs = search needs
+
+joined-requires-6 : tie.Need-joined-requires-6
+joined-requires-6 c κs = search needs
+
+joined-requires-7 : tie.Need-joined-requires-7
+joined-requires-7 c κs = search needs
+
+common-requires-4 : tie.Need-common-requires-4
+common-requires-4 c κs = search needs
+
+joined-requires-8 : tie.Need-joined-requires-8
+joined-requires-8 c κs = search needs
+
+joined-requires-9 : tie.Need-joined-requires-9
+joined-requires-9 c κs = search needs
+
+common-requires-5 : tie.Need-common-requires-5
+common-requires-5 c κs = search needs
+
+joined-requires-10 : tie.Need-joined-requires-10
+joined-requires-10 c κs = search needs
+
+common-requires-6 : tie.Need-common-requires-6
+common-requires-6 c κs = search needs
+
+joined-requires-11 : tie.Need-joined-requires-11
+joined-requires-11 c κs = search needs
+
+common-requires-7 : tie.Need-common-requires-7
+common-requires-7 c κs = search needs
+
+joined-requires-12 : tie.Need-joined-requires-12
+joined-requires-12 c κs = search needs
+
+joined-requires-13 : tie.Need-joined-requires-13
+joined-requires-13 c κs = search needs
+
+common-requires-8 : tie.Need-common-requires-8
+common-requires-8 c κs = search needs
+
+joined-requires-14 : tie.Need-joined-requires-14
+joined-requires-14 c κs = search needs
+
+common-requires-9 : tie.Need-common-requires-9
+common-requires-9 c κs = search needs
+
+joined-requires-15 : tie.Need-joined-requires-15
+joined-requires-15 c κs = search needs
+
+joined-requires-16 : tie.Need-joined-requires-16
+joined-requires-16 c κs = search needs
+
+common-requires-10 : tie.Need-common-requires-10
+common-requires-10 c κs = search needs
+
+joined-requires-17 : tie.Need-joined-requires-17
+joined-requires-17 c κs = search needs
+
+joined-requires-18 : tie.Need-joined-requires-18
+joined-requires-18 c κs = search needs
+
+common-requires-11 : tie.Need-common-requires-11
+common-requires-11 c κs = search needs
+
+special-requires : tie.Need-special-requires
+special-requires c κs = search needs
+
+returns : tie.Need-returns
+unfolding modelOf
+returns c = rw (c .before .match .keys1) (cc)
+
+returns-2 : tie.Need-returns-2
+unfolding modelOf
+returns-2 c = rw (c .before .before .match .keys2) (cc)
+
+returns-3 : tie.Need-returns-3
+unfolding modelOf
+returns-3 c = rw (c .before .before .before .match .keys3) (cc)
+
+returns-4 : tie.Need-returns-4
+unfolding modelOf
+returns-4 c = rw (c .before .before .before .before .match .keys4) (cc)
+
+returns-5 : tie.Need-returns-5
+unfolding modelOf
+returns-5 c = rw (c .before .before .before .match .keys5) (cc)
+
+returns-6 : tie.Need-returns-6
+unfolding modelOf
+returns-6 c = rw (c .before .before .match .keys6) (cc)
+
+returns-7 : tie.Need-returns-7
+unfolding modelOf
+returns-7 c = rw (c .before .before .match .keys7) (cc)
+
+returns-8 : tie.Need-returns-8
+unfolding modelOf
+returns-8 c = rw (c .before .before .before .match .keys8) (cc)
+
+returns-9 : tie.Need-returns-9
+unfolding modelOf
+returns-9 c = rw (c .before .before .match .keys9) (cc)
+
+returns-10 : tie.Need-returns-10
+unfolding modelOf
+returns-10 c = rw (c .before .before .before .match .keys10) (cc)
+
+returns-11 : tie.Need-returns-11
+unfolding modelOf
+returns-11 c = rw (c .before .before .before .match .keys11) (cc)
+
+returns-12 : tie.Need-returns-12
+unfolding modelOf
+returns-12 c =
+    let n = c .before .before .before .args .n in
+    let r = c .before .match .rest in
+    rw (ne-eqb n 0 (r .0 .0 .0 .0 .0 .0 .0 .0 .0 .0 .1), ne-eqb n 1 (r .0 .0 .0 .0 .0 .0 .0 .0 .0 .1), ne-eqb n 2 (r .0 .0 .0 .0 .0 .0 .0 .0 .1), ne-eqb n 3 (r .0 .0 .0 .0 .0 .0 .0 .1), ne-eqb n 4 (r .0 .0 .0 .0 .0 .0 .1), ne-eqb n 6 (r .0 .0 .0 .0 .0 .1), ne-eqb n 7 (r .0 .0 .0 .0 .1), ne-eqb n 8 (r .0 .0 .0 .1), ne-eqb n 9 (r .0 .0 .1), ne-eqb n 10 (r .0 .1), ne-eqb n 11 (r .1)) (c .special .ensures)
+
+pub rules-spec : {M : Type 1} → statement M
+rules-spec =
+    tie.close
+    (tie.spec
+    joined-requires
+    common-requires
+    joined-requires-2
+    common-requires-2
+    joined-requires-3
+    joined-requires-4
+    common-requires-3
+    joined-requires-5
+    joined-requires-6
+    joined-requires-7
+    common-requires-4
+    joined-requires-8
+    joined-requires-9
+    common-requires-5
+    joined-requires-10
+    common-requires-6
+    joined-requires-11
+    common-requires-7
+    joined-requires-12
+    joined-requires-13
+    common-requires-8
+    joined-requires-14
+    common-requires-9
+    joined-requires-15
+    joined-requires-16
+    common-requires-10
+    joined-requires-17
+    joined-requires-18
+    common-requires-11
+    special-requires
+    returns
+    returns-2
+    returns-3
+    returns-4
+    returns-5
+    returns-6
+    returns-7
+    returns-8
+    returns-9
+    returns-10
+    returns-11
+    returns-12)

@@ -1,0 +1,90 @@
+-- `models::special` meets its contract: each arm says the number, and its model is the definition's at that number.
+-- Assumes nothing.
+use borrow.Author.Tests.{ne-eqb}
+use Rattle.models.specs.Models.{specialOf}
+use borrow.Author.Needs.{needs}
+use Rattle.models.proofs.special.Statement.{statement}
+use Rattle.models.proofs.special.Tie as tie
+use Rattle.models.proofs.special.Reads as reads
+use Rattle.models.proofs.special.Lts as lts
+use Rattle.models.proofs.common.Reads as common-reads
+use Rattle.models.proofs.joined.Reads as joined-reads
+use Rattle.models.proofs.ruled.Reads as ruled-reads
+
+joined-requires : tie.Need-joined-requires
+joined-requires c κs = search needs
+
+joined-requires-2 : tie.Need-joined-requires-2
+joined-requires-2 c κs = search needs
+
+joined-requires-3 : tie.Need-joined-requires-3
+joined-requires-3 c κs = search needs
+
+joined-requires-4 : tie.Need-joined-requires-4
+joined-requires-4 c κs = search needs
+
+ruled-requires : tie.Need-ruled-requires
+ruled-requires c κs = search needs
+
+joined-requires-5 : tie.Need-joined-requires-5
+joined-requires-5 c κs = search needs
+
+common-requires : tie.Need-common-requires
+common-requires c κs = search needs
+
+ruled-requires-2 : tie.Need-ruled-requires-2
+ruled-requires-2 c κs = search needs
+
+ruled-requires-3 : tie.Need-ruled-requires-3
+ruled-requires-3 c κs = search needs
+
+ruled-requires-4 : tie.Need-ruled-requires-4
+ruled-requires-4 c κs = search needs
+
+returns : tie.Need-returns
+unfolding specialOf
+returns c = rw (c .before .before .match .keys1) (cc)
+
+returns-2 : tie.Need-returns-2
+unfolding specialOf
+returns-2 c = rw (c .before .before .match .keys2) (cc)
+
+returns-3 : tie.Need-returns-3
+unfolding specialOf
+returns-3 c = rw (c .before .match .keys3) (cc)
+
+returns-4 : tie.Need-returns-4
+unfolding specialOf
+returns-4 c = rw (c .before .match .keys4) (cc)
+
+returns-5 : tie.Need-returns-5
+unfolding specialOf
+returns-5 c = rw (c .before .match .keys5) (cc)
+
+returns-6 : tie.Need-returns-6
+unfolding specialOf
+returns-6 c =
+    let n = c .before .before .before .before .args .n in
+    let r = c .match .rest in
+    rw (ne-eqb n 16 (r .0 .0 .0 .0 .1), ne-eqb n 17 (r .0 .0 .0 .1), ne-eqb n 35 (r .0 .0 .1), ne-eqb n 69 (r .0 .1), ne-eqb n 99 (r .1)) (cc)
+
+pub special-spec : {M : Type 1} → statement M
+special-spec =
+    tie.close
+    (tie.spec
+    joined-requires
+    joined-requires-2
+    joined-requires-3
+    joined-requires-4
+    ruled-requires
+    joined-requires-5
+    common-requires
+    ruled-requires-2
+    ruled-requires-3
+    ruled-requires-4
+    returns
+    returns-2
+    returns-3
+    returns-4
+    returns-5
+    returns-6)

@@ -1,0 +1,142 @@
+// The models of references: each model's rules as one value.
+//
+// Document 01, "Reference models", with source 003. A model's choices stand in one decision, `rules` and `special`;
+// whoever judges a reference goes by the value that it gives.
+ghost use mathlib.Core.Path.{_≡_};
+ghost use Prim.Native.Nat.{_≤_, _<_, _+_};
+ghost use Rattle.models.specs.Models.{model, plain, over, twoDigits, modelNumber, modelOf, specialOf};
+use check_digits::Rule;
+use text::Found;
+
+// A check group: how many parts stand before it, how many it joins, and the rule that its last digit obeys.
+pub struct Group {
+    pub skipped: usize,
+    pub joins: usize,
+    pub rule: Rule,
+}
+
+// A model's rules: how many parts, the least and most digits of each of four, and its check groups.
+pub struct Model {
+    pub handled: bool,
+    pub fewest: usize,
+    pub most: usize,
+    pub lengths: [u8; 8],
+    pub groups: [Group; 4],
+}
+
+// The number of a model's text, `HR` and two digits.
+pub fn number(s: &[u8]) -> Found
+    ensures { λ r. ⌜ r ≡ modelNumber (now (s .entry)) ⌝ }
+{
+    if s.len() != 4 {
+        return Found::Nothing;
+    }
+    if s[0] != 72 {
+        return Found::Nothing;
+    }
+    if s[1] != 82 {
+        return Found::Nothing;
+    }
+    two_digits(s[2], s[3])
+}
+
+// The number that two digits write.
+fn two_digits(a: u8, b: u8) -> Found
+    ensures { λ r. ⌜ r ≡ twoDigits a b ⌝ }
+{
+    if !text::is_digit(a) {
+        return Found::Nothing;
+    }
+    if !text::is_digit(b) {
+        return Found::Nothing;
+    }
+    Found::At(((a - 48) as usize) * 10 + (b - 48) as usize)
+}
+
+// The group of the parts from `first` to `last`, counted from 1; `last` below `first` is no group.
+fn joined(rule: Rule, first: usize, last: usize) -> Group
+    requires { ⌜ (0 < first) × ((first ≤ last + 1) × (last < 5)) ⌝ }
+    ensures { λ r. ⌜ r ≡ over rule first last ⌝ }
+{
+    Group {
+        skipped: first - 1,
+        joins: last + 1 - first,
+        rule,
+    }
+}
+
+// A model of its parts, lengths and three groups.
+fn ruled(fewest: usize, most: usize, lengths: [u8; 8], g: Group, h: Group, k: Group) -> Model
+    ensures { λ r. ⌜ r ≡ model fewest most lengths g h k ⌝ }
+{
+    let none = joined(Rule::Ini, 1, 0);
+    Model {
+        handled: true,
+        fewest,
+        most,
+        lengths,
+        groups: [g, h, k, none],
+    }
+}
+
+// A model of one to three parts of one to twelve digits.
+fn common(g: Group, h: Group, k: Group) -> Model
+    ensures { λ r. ⌜ r ≡ plain g h k ⌝ }
+{
+    ruled(1, 3, [1, 12, 1, 12, 1, 12, 1, 12], g, h, k)
+}
+
+// The rules of a model's number.
+pub fn rules(n: usize) -> Model
+    ensures { λ r. ⌜ r ≡ modelOf n ⌝ }
+{
+    let none = joined(Rule::Ini, 1, 0);
+    match n {
+        0 => common(none, none, none),
+        1 => common(joined(Rule::Ini, 1, 3), none, none),
+        2 => common(joined(Rule::Ini, 2, 2), joined(Rule::Ini, 3, 3), none),
+        3 => common(
+            joined(Rule::Ini, 1, 1),
+            joined(Rule::Ini, 2, 2),
+            joined(Rule::Ini, 3, 3),
+        ),
+        4 => common(joined(Rule::Ini, 1, 1), joined(Rule::Ini, 3, 3), none),
+        6 => common(joined(Rule::Ini, 2, 3), none, none),
+        7 => common(joined(Rule::Ini, 2, 2), none, none),
+        8 => common(joined(Rule::Ini, 1, 2), joined(Rule::Ini, 3, 3), none),
+        9 => common(joined(Rule::Ini, 1, 2), none, none),
+        10 => common(joined(Rule::Ini, 1, 1), joined(Rule::Ini, 2, 3), none),
+        11 => common(joined(Rule::Ini, 1, 1), joined(Rule::Ini, 2, 2), none),
+        _ => special(n),
+    }
+}
+
+// The rules of the models with lengths or a check of their own; another number is not handled.
+fn special(n: usize) -> Model
+    ensures { λ r. ⌜ r ≡ specialOf n ⌝ }
+{
+    let none = joined(Rule::Ini, 1, 0);
+    let one = joined(Rule::Ini, 1, 1);
+    let two = joined(Rule::Mod1110, 2, 2);
+    match n {
+        16 => ruled(
+            3,
+            3,
+            [5, 5, 4, 4, 8, 8, 1, 12],
+            one,
+            joined(Rule::Ini, 2, 2),
+            none,
+        ),
+        17 => common(joined(Rule::Mod1110, 1, 1), none, none),
+        35 => ruled(2, 2, [1, 10, 11, 11, 1, 12, 1, 12], one, two, none),
+        69 => ruled(2, 3, [5, 5, 11, 11, 3, 3, 1, 12], one, two, none),
+        99 => ruled(0, 0, [1, 12, 1, 12, 1, 12, 1, 12], none, none, none),
+        _ => Model {
+            handled: false,
+            fewest: 0,
+            most: 0,
+            lengths: [1, 12, 1, 12, 1, 12, 1, 12],
+            groups: [none, none, none, none],
+        },
+    }
+}

@@ -1,0 +1,40 @@
+-- A check group as a stretch of the text, hyphens and all: it mirrors src/, and is what a listing asks of each filling. Where the text
+-- is formed, proofs/Laws.antt says that it is `groupsRight` of Parts.antt.
+use Prim.Native.Nat.{ℕ, zero, suc, _-_}
+use mathlib.Core.Bool.{Bool, true, cond, _&&_}
+use mathlib.Core.List.{List, [], _∷_}
+use lib.Dec.{eqb}
+use lib.ListN.{take, drop}
+use Rattle.text.specs.Bytes.{later}
+use Rattle.text.specs.declared.Found.{Found}
+use Rattle.text.specs.declared.Found.the-variants.{At, Nothing}
+use Rattle.check_digits.specs.declared.Rule.{Rule}
+use Rattle.check_digits.specs.CheckDigit.{passes}
+use Rattle.models.specs.declared.Group.{Group}
+
+-- the place after the first k hyphens
+unfoldable pub afterHyphens : ℕ → List ℕ → Found
+afterHyphens zero s = At 0
+afterHyphens (suc k) [] = Nothing
+afterHyphens (suc k) (b ∷ s) = later (cond (eqb b 45) (afterHyphens k s) (afterHyphens (suc k) s))
+
+-- the stretch before the hyphen that ends it; no part is no stretch, and passes
+abbrev pub stretchHolds : Rule → List ℕ → Found → Bool
+stretchHolds rule s (At e) = cond (eqb e 0) true (passes rule (take (e - 1) s))
+stretchHolds rule s Nothing = passes rule s
+
+-- the first parts of a text
+abbrev pub headHolds : Rule → ℕ → List ℕ → Bool
+headHolds rule joins s = stretchHolds rule s (afterHyphens joins s)
+
+-- the parts from a place on
+abbrev pub heldFrom : Group → List ℕ → Found → Bool
+heldFrom g s (At a) = headHolds (g .rule) (g .joins) (drop a s)
+heldFrom g s Nothing = true
+
+abbrev pub groupHolds : Group → List ℕ → Bool
+groupHolds g s = heldFrom g s (afterHyphens (g .skipped) s)
+
+unfoldable pub groupsHold : List Group → List ℕ → Bool
+groupsHold [] s = true
+groupsHold (g ∷ gs) s = groupHolds g s && groupsHold gs s
