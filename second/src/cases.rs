@@ -12,11 +12,13 @@ const UNKNOWN: &str = "unknown";
 
 /// Answers every line. What follows the last LF is a line unless empty.
 pub fn answer_all(input: &[u8], mut output: impl Write) -> io::Result<()> {
-    let input = input.strip_suffix(b"\n").map_or_else(
-        || (!input.is_empty()).then_some(input),
-        Some,
-    );
-    for line in input.into_iter().flat_map(|text| text.split(|&b| b == b'\n')) {
+    let input = input
+        .strip_suffix(b"\n")
+        .map_or_else(|| (!input.is_empty()).then_some(input), Some);
+    for line in input
+        .into_iter()
+        .flat_map(|text| text.split(|&b| b == b'\n'))
+    {
         output.write_all(line)?;
         writeln!(output, " -> {}", answer(line))?;
     }
@@ -99,8 +101,14 @@ mod tests {
     fn one_of_each() {
         for (line, expected) in [
             ("iban HR1210010051863000160", "accepted"),
-            ("iban HR1310010051863000160", "refused 6 line 0 field 0 byte 0"),
-            ("iban HR12 10010051863000160", "refused 3 line 0 field 0 byte 4"),
+            (
+                "iban HR1310010051863000160",
+                "refused 6 line 0 field 0 byte 0",
+            ),
+            (
+                "iban HR12 10010051863000160",
+                "refused 3 line 0 field 0 byte 4",
+            ),
             ("iban", "refused 4 line 0 field 0 byte 0"),
             ("oib 12345678903", "accepted"),
             ("oib 1234567890x", "refused 3 line 0 field 0 byte 10"),
@@ -143,7 +151,10 @@ mod tests {
         assert_eq!(run(b""), b"");
         assert_eq!(run(b"\n"), b" -> unknown\n");
         assert_eq!(run(b"a"), b"a -> unknown\n");
-        assert_eq!(run(b"a\n\nb\n"), b"a -> unknown\n -> unknown\nb -> unknown\n");
+        assert_eq!(
+            run(b"a\n\nb\n"),
+            b"a -> unknown\n -> unknown\nb -> unknown\n"
+        );
         assert_eq!(
             run(b"oib 1\xff"),
             b"oib 1\xff -> refused 3 line 0 field 0 byte 1\n"

@@ -37,7 +37,10 @@ pub fn compare(program: &OsStr, second: &Path, seed: u64, count: usize) -> io::R
             eprintln!("  second:  {}", shown(ours.as_deref()));
         }
     }
-    Ok(Outcome { inputs: inputs.len(), differ })
+    Ok(Outcome {
+        inputs: inputs.len(),
+        differ,
+    })
 }
 
 struct Run {
@@ -47,7 +50,10 @@ struct Run {
 
 impl Run {
     fn start(command: &mut Command, input: &[u8]) -> io::Result<Run> {
-        let mut child = command.stdin(Stdio::piped()).stdout(Stdio::piped()).spawn()?;
+        let mut child = command
+            .stdin(Stdio::piped())
+            .stdout(Stdio::piped())
+            .spawn()?;
         let mut stdin = child.stdin.take().expect("piped");
         let mut stdout = child.stdout.take().expect("piped");
         let input = input.to_vec();
@@ -193,6 +199,11 @@ fn hand_picked() -> Vec<Vec<u8>> {
         b"HR1210010051863000160\n",
         b"HR1310010051863000160\n",
         b"HR??10010051863000160\n",
+        // Right 97, 98 and 02; 00, 01 and 99 leave the same remainder.
+        b"HR??10010051863000182\n",
+        b"HR??10010051863000164\n",
+        b"HR??10010051863000243\n",
+        b"HR0?10010051863000182\n",
         b"HR1?100100518630001?0\n",
         b"HR????10051863000160?\n",
         b"HR????10051863000160\n",
@@ -251,7 +262,9 @@ fn hand_picked() -> Vec<Vec<u8>> {
     inputs.push(long(b"HR01 ??\n", b'\n', b""));
     inputs.push(long(b"HR00 ????\n", b'?', b"\n"));
     // Lines about the usual sizes of a buffer.
-    for size in [22, 26, 27, 28, 31, 32, 33, 63, 64, 127, 128, 255, 256, 1024, 4096, 8192, 65536] {
+    for size in [
+        22, 26, 27, 28, 31, 32, 33, 63, 64, 127, 128, 255, 256, 1024, 4096, 8192, 65536,
+    ] {
         for change in [-1isize, 0, 1] {
             let size = size as usize;
             let size = size.wrapping_add_signed(change);

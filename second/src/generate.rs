@@ -97,7 +97,11 @@ fn case(dice: &mut Dice) -> Vec<u8> {
 
 /// An input of the listing program, with its LF or, at times, without.
 pub fn listing_input(dice: &mut Dice) -> Vec<u8> {
-    let mut input = if dice.one_in(20) { noise(dice, 60) } else { wet_line(dice) };
+    let mut input = if dice.one_in(20) {
+        noise(dice, 60)
+    } else {
+        wet_line(dice)
+    };
     if !dice.one_in(15) {
         input.push(b'\n');
         if dice.one_in(6) {
@@ -242,34 +246,68 @@ fn noise(dice: &mut Dice, longest: usize) -> Vec<u8> {
         _ => b"",
     };
     (0..length)
-        .map(|_| if alphabet.is_empty() { dice.byte() } else { *dice.pick(alphabet) })
+        .map(|_| {
+            if alphabet.is_empty() {
+                dice.byte()
+            } else {
+                *dice.pick(alphabet)
+            }
+        })
         .collect()
 }
 
 /// Parts in number and lengths about the limits, of no particular model.
 fn at_the_limits(dice: &mut Dice) -> Vec<u8> {
     const SHAPES: [&[usize]; 22] = [
-        &[12], &[13], &[22], &[23], &[12, 9], &[12, 10], &[9, 12], &[11, 10], &[11, 11],
-        &[13, 1], &[1, 13], &[12, 1, 7], &[12, 1, 8], &[6, 6, 8], &[1, 1, 12], &[1, 1, 13],
-        &[5, 4, 8], &[5, 11, 3], &[10, 11], &[1, 1, 1, 1], &[5, 5, 5, 4], &[1, 1, 1],
+        &[12],
+        &[13],
+        &[22],
+        &[23],
+        &[12, 9],
+        &[12, 10],
+        &[9, 12],
+        &[11, 10],
+        &[11, 11],
+        &[13, 1],
+        &[1, 13],
+        &[12, 1, 7],
+        &[12, 1, 8],
+        &[6, 6, 8],
+        &[1, 1, 12],
+        &[1, 1, 13],
+        &[5, 4, 8],
+        &[5, 11, 3],
+        &[10, 11],
+        &[1, 1, 1, 1],
+        &[5, 5, 5, 4],
+        &[1, 1, 1],
     ];
     let parts: Vec<Vec<u8>> = dice
         .pick(&SHAPES)
         .iter()
-        .map(|&length| if dice.one_in(3) { vec![b'0'; length] } else { dice.digits(length) })
+        .map(|&length| {
+            if dice.one_in(3) {
+                vec![b'0'; length]
+            } else {
+                dice.digits(length)
+            }
+        })
         .collect();
     parts.join(&b'-')
 }
 
 fn model_and_text(dice: &mut Dice) -> (Vec<u8>, Vec<u8>) {
     let model = dice.pick(&MODELS);
-    let name = match dice.below(40) {
+    let name = match dice.below(50) {
         0 => format!("HR{:02}", dice.below(100)).into_bytes(),
-        1 => dice
-            .pick(&["", "H", "HR", "HR0", "HR001", "hr01", "HR0?", "HR?1", "RH01", "01", "HR-1"])
+        1 => format!("HR{:02}", dice.pick(&[5, 12, 15, 18, 34, 36, 68, 70, 98])).into_bytes(),
+        2 => dice
+            .pick(&[
+                "", "H", "HR", "HR0", "HR001", "hr01", "HR0?", "HR?1", "RH01", "01", "HR-1",
+            ])
             .as_bytes()
             .to_vec(),
-        2 => {
+        3 => {
             let mut name = format!("HR{:02}", model.number).into_bytes();
             let place = dice.below(name.len());
             name[place] = match dice.byte() {
@@ -298,7 +336,11 @@ fn check_or_make(dice: &mut Dice) -> Vec<u8> {
     let length = *dice.pick(&[0, 1, 2, 10, 11, 18, 19, 20, 21, 22, 5, 7, 13]);
     let body = dice.digits(length);
     if dice.one_in(2) {
-        let text = if dice.one_in(12) || body.is_empty() { noise(dice, 25) } else { body };
+        let text = if dice.one_in(12) || body.is_empty() {
+            noise(dice, 25)
+        } else {
+            body
+        };
         join(&[b"make", word, &text])
     } else {
         let text = completed(Rule::named(word).unwrap_or(Rule::Ini), body);
@@ -320,7 +362,12 @@ fn wet_line(dice: &mut Dice) -> Vec<u8> {
     if dice.one_in(3) {
         let text = account(dice);
         let mut text = spoilt(dice, text);
-        wet(dice, &mut text, marks);
+        // Both check digits at once: only so can a forbidden twin be listed.
+        if marks == 2 && text.len() > 4 && dice.one_in(3) {
+            text[2..4].fill(b'?');
+        } else {
+            wet(dice, &mut text, marks);
+        }
         text
     } else {
         let (name, mut text) = model_and_text(dice);
@@ -330,7 +377,9 @@ fn wet_line(dice: &mut Dice) -> Vec<u8> {
 }
 
 fn wet(dice: &mut Dice, text: &mut [u8], marks: usize) {
-    let mut dry: Vec<usize> = (0..text.len()).filter(|&k| text[k].is_ascii_digit()).collect();
+    let mut dry: Vec<usize> = (0..text.len())
+        .filter(|&k| text[k].is_ascii_digit())
+        .collect();
     for _ in 0..marks.min(dry.len()) {
         let place = dry.swap_remove(dice.below(dry.len()));
         text[place] = b'?';
@@ -411,13 +460,46 @@ mod tests {
             met.insert(format!("{verb} {kind}"));
         }
         for wanted in [
-            "iban accepted", "iban 3", "iban 4", "iban 5", "iban 6",
-            "oib accepted", "oib 3", "oib 4", "oib 6",
-            "ref accepted", "ref 3", "ref 4", "ref 5", "ref 7", "ref 8", "ref 9",
-            "check accepted", "check 1", "check 3", "check 9", "check unknown",
-            "make digit", "make 1", "make 3", "make unknown",
-            "list some", "list 0", "list 1", "list 3", "list 5", "list 7", "list 16",
-            "room some", "room 0", "room 1", "room 3", "room 5", "room 7", "room 15", "room 16",
+            "iban accepted",
+            "iban 3",
+            "iban 4",
+            "iban 5",
+            "iban 6",
+            "oib accepted",
+            "oib 3",
+            "oib 4",
+            "oib 6",
+            "ref accepted",
+            "ref 3",
+            "ref 4",
+            "ref 5",
+            "ref 7",
+            "ref 8",
+            "ref 9",
+            "check accepted",
+            "check 1",
+            "check 3",
+            "check 9",
+            "check unknown",
+            "make digit",
+            "make 1",
+            "make 3",
+            "make unknown",
+            "list some",
+            "list 0",
+            "list 1",
+            "list 3",
+            "list 5",
+            "list 7",
+            "list 16",
+            "room some",
+            "room 0",
+            "room 1",
+            "room 3",
+            "room 5",
+            "room 7",
+            "room 15",
+            "room 16",
         ] {
             assert!(met.contains(wanted), "{wanted}");
         }

@@ -9,6 +9,6 @@ pub mod cases;
 pub mod checkdigit;
 pub mod compare;
 pub mod generate;
-pub mod refusal;
 pub mod reference;
+pub mod refusal;
 pub mod wet;

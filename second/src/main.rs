@@ -37,7 +37,10 @@ fn run(arguments: &[OsString]) -> io::Result<ExitCode> {
             let program: &OsStr = &arguments[1];
             let (seed, count) = (number(seed)?, number(count)? as usize);
             let outcome = compare::compare(program, &env::current_exe()?, seed, count)?;
-            println!("compare: {} inputs, {} differ", outcome.inputs, outcome.differ);
+            println!(
+                "compare: {} inputs, {} differ",
+                outcome.inputs, outcome.differ
+            );
             if outcome.differ > 0 {
                 return Ok(ExitCode::FAILURE);
             }
@@ -49,6 +52,9 @@ fn run(arguments: &[OsString]) -> io::Result<ExitCode> {
 
 fn number(word: &str) -> io::Result<u64> {
     word.parse().map_err(|_| {
-        io::Error::new(io::ErrorKind::InvalidInput, format!("{word:?} is no number"))
+        io::Error::new(
+            io::ErrorKind::InvalidInput,
+            format!("{word:?} is no number"),
+        )
     })
 }

@@ -23,16 +23,27 @@ pub struct Model {
 const ANY: RangeInclusive<usize> = 1..=12;
 
 const fn ini(first: usize, last: usize) -> Group {
-    Group { rule: Rule::Ini, parts: first - 1..last }
+    Group {
+        rule: Rule::Ini,
+        parts: first - 1..last,
+    }
 }
 
 const fn iso(first: usize, last: usize) -> Group {
-    Group { rule: Rule::Iso, parts: first - 1..last }
+    Group {
+        rule: Rule::Iso,
+        parts: first - 1..last,
+    }
 }
 
 /// One to three parts of one to twelve digits.
 const fn open(number: u8, groups: &'static [Group]) -> Model {
-    Model { number, parts: 1..=3, lengths: [ANY, ANY, ANY], groups }
+    Model {
+        number,
+        parts: 1..=3,
+        lengths: [ANY, ANY, ANY],
+        groups,
+    }
 }
 
 pub static MODELS: [Model; 16] = [
@@ -67,7 +78,12 @@ pub static MODELS: [Model; 16] = [
         groups: &[ini(1, 1), iso(2, 2)],
     },
     // An empty reference has no part at all, and that is what HR99 wants.
-    Model { number: 99, parts: 0..=0, lengths: [ANY, ANY, ANY], groups: &[] },
+    Model {
+        number: 99,
+        parts: 0..=0,
+        lengths: [ANY, ANY, ANY],
+        groups: &[],
+    },
 ];
 
 impl Model {
@@ -157,6 +173,17 @@ mod tests {
             "HR01 10230578-9016",
             "HR01 10-2305789016",
             "HR01 10-230578901-6",
+            "HR02 1023-5789010",
+            "HR02 578901-10235",
+            "HR02 1023-5789-9016",
+            "HR02 1023-57894-19",
+            "HR06 102-3057-89015",
+            "HR06 102-30-5789015",
+            "HR06 102-30578-9015",
+            "HR06 102-30578901-5",
+            "HR06 102305-789011",
+            "HR06 102-305789015",
+            "HR06 10230578-9016",
         ] {
             assert_eq!(answer(line), 0, "{line}");
         }
@@ -239,7 +266,11 @@ mod tests {
                 for part in 1..=count as usize {
                     let mut other = text.clone();
                     let last = 3 * part - 2;
-                    other[last] = if other[last] == b'9' { b'0' } else { other[last] + 1 };
+                    other[last] = if other[last] == b'9' {
+                        b'0'
+                    } else {
+                        other[last] + 1
+                    };
                     let noticed = model.judge(&other).is_err();
                     let expected = watched.contains(char::from(b'0' + part as u8));
                     assert_eq!(noticed, expected, "{name} {count} parts, part {part}");

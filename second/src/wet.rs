@@ -91,7 +91,11 @@ fn try_all(text: &[u8], marks: Vec<usize>, accepted: impl Fn(&[u8]) -> bool) -> 
             accepted(&trial)
         })
         .collect();
-    Listing { text: text.to_vec(), marks, numbers }
+    Listing {
+        text: text.to_vec(),
+        marks,
+        numbers,
+    }
 }
 
 /// Writes the number into the marked places, its last digit into the last.
