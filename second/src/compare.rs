@@ -1,6 +1,7 @@
 //! Runs a listing program and `second listing` side by side on the same bytes.
 
 use crate::generate::{listing_input, Dice};
+use crate::reference::MODELS;
 use std::ffi::OsStr;
 use std::io::{self, Read, Write};
 use std::path::Path;
@@ -178,6 +179,24 @@ fn hand_picked() -> Vec<Vec<u8>> {
         b"HR35 ?-1234567890?\n",
         b"HR16 1000?-100?-????????\n",
         b"HR16 1000?-100?-1234567?\n",
+        // Right check digits, lengths or number of parts one off.
+        b"HR69 40002-12345678903-1?\n",
+        b"HR69 40002-12345678903-1??0\n",
+        b"HR69 40002-12345678903-\n",
+        b"HR69 000?-12345678903\n",
+        b"HR69 00000?-12345678903\n",
+        b"HR35 0-12345678903-?\n",
+        b"HR35 0-0000000000?\n",
+        b"HR35 0-000000000?\n",
+        b"HR35 0-00000000000?\n",
+        b"HR35 000000000?-12345678903\n",
+        b"HR35 0000000000?\n",
+        b"HR16 40002-1007-1234567?\n",
+        b"HR16 40002-1007-123456?\n",
+        b"HR16 40002-1007-12345678?\n",
+        b"HR16 40002-100?\n",
+        b"HR16 0000-1007-1234567?\n",
+        b"HR16 40002-000-1234567?\n",
         b"HR17 ?\n",
         b"HR17 ???-1\n",
         b"HR05 ?????\n",
@@ -224,6 +243,15 @@ fn hand_picked() -> Vec<Vec<u8>> {
     .iter()
     .map(|input| input.to_vec())
     .collect();
+
+    // Every model, with each part open: the fillings show its groups whole.
+    for model in &MODELS {
+        for text in [
+            "", "?", "?-?", "?-?-?", "?-?-?-?", "?1-2?", "1?-0-2?", "0-?1-?3",
+        ] {
+            inputs.push(format!("HR{:02} {text}\n", model.number).into_bytes());
+        }
+    }
 
     // A megabyte, with and without LF, and a space nowhere, near the start and
     // near the end: the line must neither be cut nor break a buffer.

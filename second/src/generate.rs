@@ -151,10 +151,16 @@ fn completed(rule: Rule, mut body: Vec<u8>) -> Vec<u8> {
     body
 }
 
-/// A reference that passes, its parts often of the least or greatest length.
+/// A reference that passes.
 fn reference(dice: &mut Dice, model: &Model) -> Vec<u8> {
+    let shape = shape(dice, model);
+    filled(dice, model, &shape)
+}
+
+/// Lengths of parts that the model permits, often the least or the greatest.
+fn shape(dice: &mut Dice, model: &Model) -> Vec<usize> {
     let count = dice.between(*model.parts.start(), *model.parts.end());
-    let lengths = loop {
+    loop {
         let lengths: Vec<usize> = model.lengths[..count]
             .iter()
             .map(|l| match dice.below(4) {
@@ -164,17 +170,23 @@ fn reference(dice: &mut Dice, model: &Model) -> Vec<u8> {
             })
             .collect();
         if lengths.iter().sum::<usize>() + count.saturating_sub(1) <= LONGEST {
-            break lengths;
+            return lengths;
         }
-    };
+    }
+}
+
+/// Digits in parts of these lengths, with the check digits of the model.
+fn filled(dice: &mut Dice, model: &Model, lengths: &[usize]) -> Vec<u8> {
     let mut parts: Vec<Vec<u8>> = lengths.iter().map(|&l| dice.digits(l)).collect();
     for group in model.groups {
-        let last = group.parts.end.min(count);
+        let last = group.parts.end.min(parts.len());
         if group.parts.start < last {
             let mut body = parts[group.parts.start..last].concat();
             body.pop();
             let check = b'0' + group.rule.digit(values(&body));
-            *parts[last - 1].last_mut().expect("no part is empty") = check;
+            if let Some(digit) = parts[last - 1].last_mut() {
+                *digit = check;
+            }
         }
     }
     parts.join(&b'-')
@@ -184,8 +196,14 @@ fn reference(dice: &mut Dice, model: &Model) -> Vec<u8> {
 
 fn spoilt(dice: &mut Dice, text: Vec<u8>) -> Vec<u8> {
     match dice.below(20) {
-        0..=7 => text,
-        8..=18 => {
+        0..=6 => text,
+        7..=10 if !text.is_empty() => {
+            let mut text = text;
+            let place = dice.below(text.len());
+            text[place] = dice.digit();
+            text
+        }
+        7..=18 => {
             let mut text = text;
             for _ in 0..dice.between(1, 3) {
                 damage(dice, &mut text);
@@ -194,6 +212,23 @@ fn spoilt(dice: &mut Dice, text: Vec<u8>) -> Vec<u8> {
         }
         _ => noise(dice, 26),
     }
+}
+
+/// Right check digits in a shape that is one off: a wrong shape must be
+/// noticed even where nothing else is wrong.
+fn misshapen(dice: &mut Dice, model: &Model) -> Vec<u8> {
+    let mut lengths = shape(dice, model);
+    let place = dice.below(lengths.len().max(1));
+    match dice.below(4) {
+        0 => {
+            lengths.pop();
+        }
+        1 => lengths.push(dice.between(1, 4)),
+        2 if !lengths.is_empty() => lengths[place] += 1,
+        3 if !lengths.is_empty() => lengths[place] -= 1,
+        _ => {}
+    }
+    filled(dice, model, &lengths)
 }
 
 fn damage(dice: &mut Dice, text: &mut Vec<u8>) {
@@ -318,11 +353,13 @@ fn model_and_text(dice: &mut Dice) -> (Vec<u8>, Vec<u8>) {
         }
         _ => format!("HR{:02}", model.number).into_bytes(),
     };
-    let text = if dice.one_in(8) {
-        at_the_limits(dice)
-    } else {
-        let text = reference(dice, model);
-        spoilt(dice, text)
+    let text = match dice.below(16) {
+        0 | 1 => at_the_limits(dice),
+        2 | 3 => misshapen(dice, model),
+        _ => {
+            let text = reference(dice, model);
+            spoilt(dice, text)
+        }
     };
     (name, text)
 }
