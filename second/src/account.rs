@@ -1,0 +1,110 @@
+//! IBAN and OIB, as fields 10 of the slip and the OIB places judge them.
+
+use crate::checkdigit::{values, Rule};
+use crate::refusal::{only, Reason, Refusal};
+
+pub const IBAN_LENGTH: usize = 21;
+pub const OIB_LENGTH: usize = 11;
+
+/// `HR` moved behind the account and written as digits: H is 17, R is 27.
+const COUNTRY: u128 = 17_27;
+
+pub fn iban(text: &[u8]) -> Result<(), Refusal> {
+    only(text, |b| b.is_ascii_uppercase() || b.is_ascii_digit())?;
+    if text.len() != IBAN_LENGTH {
+        return Err(Reason::Length.into());
+    }
+    let digits = text
+        .strip_prefix(b"HR")
+        .filter(|rest| rest.iter().all(u8::is_ascii_digit))
+        .ok_or(Reason::Form)?;
+    let (check, account) = digits.split_at(2);
+    let check = number(check);
+    if (2..=98).contains(&check) && remainder(number(account), check) == 1 {
+        Ok(())
+    } else {
+        Err(Reason::AccountCheck.into())
+    }
+}
+
+/// The check digits, 02 to 98, that make this account number an IBAN.
+pub fn iban_check(account: u128) -> u128 {
+    98 - remainder(account, 0)
+}
+
+/// What the rearranged IBAN leaves on division by 97. Its 23 digits fit.
+fn remainder(account: u128, check: u128) -> u128 {
+    ((account * 10_000 + COUNTRY) * 100 + check) % 97
+}
+
+fn number(digits: &[u8]) -> u128 {
+    values(digits).fold(0, |n, d| n * 10 + u128::from(d))
+}
+
+pub fn oib(text: &[u8]) -> Result<(), Refusal> {
+    only(text, |b| b.is_ascii_digit())?;
+    if text.len() != OIB_LENGTH {
+        return Err(Reason::Length.into());
+    }
+    if Rule::Iso.passes(values(text)) {
+        Ok(())
+    } else {
+        Err(Reason::AccountCheck.into())
+    }
+}
+
+#[cfg(test)]
+mod tests {
+    use super::*;
+
+    fn refused(reason: Reason) -> Result<(), Refusal> {
+        Err(reason.into())
+    }
+
+    #[test]
+    fn printed_ibans() {
+        assert_eq!(iban(b"HR1210010051863000160"), Ok(()));
+        assert_eq!(iban(b"HR7023400091510946338"), Ok(()));
+        assert_eq!(
+            iban(b"HR1310010051863000160"),
+            refused(Reason::AccountCheck)
+        );
+    }
+
+    #[test]
+    fn the_twins_of_right_check_digits() {
+        // 00, 01 and 99 leave the remainder of 97, 98 and 02.
+        let mut met = [false; 3];
+        for account in 10010051863000000u128..10010051863000200 {
+            let right = iban_check(account);
+            assert!((2..=98).contains(&right));
+            let twins = [(97, 0), (98, 1), (2, 99)];
+            for check in 0..100 {
+                let text = format!("HR{check:02}{account:017}");
+                assert_eq!(iban(text.as_bytes()).is_ok(), check == right, "{text}");
+            }
+            if let Some(k) = twins.iter().position(|t| t.0 == right) {
+                assert_eq!(remainder(account, twins[k].1), 1);
+                met[k] = true;
+            }
+        }
+        assert_eq!(met, [true; 3]);
+    }
+
+    #[test]
+    fn order_of_refusals() {
+        assert_eq!(iban(b"HR12?"), Err(Refusal::at(Reason::Byte, 4)));
+        assert_eq!(iban(b""), refused(Reason::Length));
+        assert_eq!(iban(b"HR12100100518630001600"), refused(Reason::Length));
+        assert_eq!(iban(b"HX1210010051863000160"), refused(Reason::Form));
+        assert_eq!(iban(b"HR121001005186300016A"), refused(Reason::Form));
+    }
+
+    #[test]
+    fn oibs() {
+        assert_eq!(oib(b"12345678903"), Ok(()));
+        assert_eq!(oib(b"12345678904"), refused(Reason::AccountCheck));
+        assert_eq!(oib(b"1234567890"), refused(Reason::Length));
+        assert_eq!(oib(b"1234567890A3"), Err(Refusal::at(Reason::Byte, 10)));
+    }
+}

@@ -1,0 +1,14 @@
+//! The ground of document 01 written a second time: check digits, IBAN, OIB,
+//! the sixteen reference models and the listing of wet texts.
+//!
+//! It shares only the formats with the first implementation, so that an answer
+//! both give is unlikely to be the same slip of the pen twice.
+
+pub mod account;
+pub mod cases;
+pub mod checkdigit;
+pub mod compare;
+pub mod generate;
+pub mod reference;
+pub mod refusal;
+pub mod wet;

@@ -1,0 +1,65 @@
+//! The refusals of 01 that this ground can give.
+
+use std::fmt;
+
+/// Why a text is refused; the discriminant is 01's number.
+#[derive(Clone, Copy, Debug, PartialEq, Eq)]
+#[repr(u8)]
+pub enum Reason {
+    Size = 1,
+    Byte = 3,
+    Length = 4,
+    Form = 5,
+    AccountCheck = 6,
+    Model = 7,
+    Parts = 8,
+    ReferenceCheck = 9,
+    Room = 15,
+    Marks = 16,
+}
+
+#[derive(Clone, Copy, Debug, PartialEq, Eq)]
+pub struct Refusal {
+    pub reason: Reason,
+    /// The offending byte for `Reason::Byte`, the needed number for
+    /// `Reason::Room`, otherwise 0.
+    pub detail: usize,
+}
+
+impl Refusal {
+    pub const fn at(reason: Reason, detail: usize) -> Self {
+        Refusal { reason, detail }
+    }
+
+    pub const fn number(&self) -> u8 {
+        self.reason as u8
+    }
+}
+
+impl From<Reason> for Refusal {
+    fn from(reason: Reason) -> Self {
+        Refusal::at(reason, 0)
+    }
+}
+
+impl fmt::Display for Refusal {
+    fn fmt(&self, f: &mut fmt::Formatter<'_>) -> fmt::Result {
+        match self.reason {
+            Reason::Room => write!(f, "refused 15 needed {}", self.detail),
+            _ => write!(
+                f,
+                "refused {} line 0 field 0 byte {}",
+                self.number(),
+                self.detail
+            ),
+        }
+    }
+}
+
+/// 3 at the first byte that is not permitted.
+pub fn only(text: &[u8], permitted: impl Fn(u8) -> bool) -> Result<(), Refusal> {
+    match text.iter().position(|&b| !permitted(b)) {
+        Some(place) => Err(Refusal::at(Reason::Byte, place)),
+        None => Ok(()),
+    }
+}
