@@ -1,20 +1,16 @@
 -- Document 01, "Reference models": the sixteen models, each as one value.
-use Prim.Native.Nat.{ℕ, _+_, _-_, _*_}
+use Prim.Native.Nat.{ℕ, _+_, _-_}
 use mathlib.Core.Bool.{Bool, true, false, cond, _&&_}
 use mathlib.Core.List.{List, [], _∷_}
 use lib.Dec.{eqb}
 use lib.ListN.{length, getD}
-use Rattle.text.specs.Bytes.{isDigit}
+use Rattle.text.specs.Digits.{twoDigits}
 use Rattle.text.specs.declared.Found.{Found}
-use Rattle.text.specs.declared.Found.the-variants.{At, Nothing}
+use Rattle.text.specs.declared.Found.the-variants.{Nothing}
 use Rattle.check_digits.specs.declared.Rule.{Rule}
 use Rattle.check_digits.specs.declared.Rule.the-variants.{Ini, Mod1110}
 use Rattle.models.specs.declared.Group.{Group}
 use Rattle.models.specs.declared.Model.{Model}
-
--- the number that two digits write
-abbrev pub twoDigits : ℕ → ℕ → Found
-twoDigits a b = cond (isDigit a && isDigit b) (At ((a - 48) * 10 + (b - 48))) Nothing
 
 -- "`HR` and two digits": the model's number; `H` is 72, `R` is 82
 abbrev pub modelNumber : List ℕ → Found

@@ -4,7 +4,7 @@
 // whoever judges a reference goes by the value that it gives.
 ghost use mathlib.Core.Path.{_≡_};
 ghost use Prim.Native.Nat.{_≤_, _<_, _+_};
-ghost use Rattle.models.specs.Models.{model, plain, over, twoDigits, modelNumber, modelOf, specialOf};
+ghost use Rattle.models.specs.Models.{model, plain, over, modelNumber, modelOf, specialOf};
 use check_digits::Rule;
 use text::Found;
 
@@ -37,20 +37,7 @@ pub fn number(s: &[u8]) -> Found
     if s[1] != 82 {
         return Found::Nothing;
     }
-    two_digits(s[2], s[3])
-}
-
-// The number that two digits write.
-fn two_digits(a: u8, b: u8) -> Found
-    ensures { λ r. ⌜ r ≡ twoDigits a b ⌝ }
-{
-    if !text::is_digit(a) {
-        return Found::Nothing;
-    }
-    if !text::is_digit(b) {
-        return Found::Nothing;
-    }
-    Found::At(((a - 48) as usize) * 10 + (b - 48) as usize)
+    text::two_digits(s[2], s[3])
 }
 
 // The group of the parts from `first` to `last`, counted from 1; `last` below `first` is no group.

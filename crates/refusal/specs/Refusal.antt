@@ -139,6 +139,10 @@ abbrev pub answerNumber : Answer → ℕ
 answerNumber Accepted = 0
 answerNumber (Refused r) = numberOf r
 
+-- 3, told of a byte alone
+abbrev pub byteAt : ℕ → Answer
+byteAt i = Refused (Byte (record { line = 0; field = 0; byte = i }))
+
 -- an answer's place, where a judging call was asked of a part that stands at q
 abbrev pub placed : Place → Answer → Answer
 placed q Accepted = Accepted

@@ -1,7 +1,9 @@
 -- The digits of a text, and the number that digits write.
 use Prim.Native.Nat.{ℕ, _+_, _-_, _*_}
-use mathlib.Core.Bool.{cond}
+use mathlib.Core.Bool.{cond, _&&_}
 use mathlib.Core.List.{List, [], _∷_}
+use Rattle.text.specs.declared.Found.{Found}
+use Rattle.text.specs.declared.Found.the-variants.{At, Nothing}
 use Rattle.text.specs.Bytes.{isDigit}
 
 -- the digits of a text as numbers, first to last; a hyphen, or whatever is no digit, is passed over
@@ -17,3 +19,7 @@ valueFrom v (d ∷ ds) = valueFrom (v * 10 + d) ds
 -- the number that digits write
 abbrev pub valueOf : List ℕ → ℕ
 valueOf ds = valueFrom 0 ds
+
+-- the number that two bytes write, where both are digits
+abbrev pub twoDigits : ℕ → ℕ → Found
+twoDigits a b = cond (isDigit a && isDigit b) (At ((a - 48) * 10 + (b - 48))) Nothing

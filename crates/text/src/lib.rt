@@ -3,6 +3,7 @@
 // One scan serves every field: it finds the first byte that a class does not permit. Document 01 names the
 // classes; specs/Bytes.antt says them once.
 ghost use mathlib.Core.Path.{_≡_};
+ghost use Rattle.text.specs.Digits.{twoDigits};
 ghost use Rattle.text.specs.Bytes.{permits, isDigit, firstBad, allOf, marks};
 
 // The classes of bytes that document 01 names.
@@ -37,6 +38,19 @@ pub fn is_digit(b: u8) -> bool
         return false;
     }
     b <= 57
+}
+
+// The number that two bytes write, where both are digits.
+pub fn two_digits(a: u8, b: u8) -> Found
+    ensures { λ r. ⌜ r ≡ twoDigits a b ⌝ }
+{
+    if !is_digit(a) {
+        return Found::Nothing;
+    }
+    if !is_digit(b) {
+        return Found::Nothing;
+    }
+    Found::At(((a - 48) as usize) * 10 + (b - 48) as usize)
 }
 
 // Whether a class permits a byte.

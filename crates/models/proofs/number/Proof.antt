@@ -5,9 +5,6 @@ use Rattle.text.proofs.Laws.{left, entered, and-first, and-second}
 use borrow.Author.Needs.{needs}
 use Rattle.models.proofs.number.Statement.{statement}
 use Rattle.models.proofs.number.Tie as tie
-use Rattle.models.proofs.number.Reads as reads
-use Rattle.models.proofs.number.Lts as lts
-use Rattle.models.proofs.two_digits.Reads as two-digits-reads
 
 returns : tie.Need-returns
 returns c = left _ _ _ _ (sym (and-first _ _ (ne-eqb _ _ (c .if1 .taken)))) refl

@@ -1,13 +1,10 @@
--- `models::two_digits` meets its contract: each return is the definition's choice on the tests that led there. Assumes nothing.
+-- `text::two_digits` meets its contract: each return is the definition's choice on the tests that led there. Assumes nothing.
 use mathlib.Core.Path.{refl, sym, _∙_}
 use borrow.Author.Tests.{not-true, not-false}
 use Rattle.text.proofs.Laws.{left, taken, and-first, and-second, digit-bounds}
 use borrow.Author.Needs.{needs}
-use Rattle.models.proofs.two_digits.Statement.{statement}
-use Rattle.models.proofs.two_digits.Tie as tie
-use Rattle.models.proofs.two_digits.Reads as reads
-use Rattle.models.proofs.two_digits.Lts as lts
-use Rattle.text.proofs.is_digit.Reads as is-digit-reads
+use Rattle.text.proofs.two_digits.Statement.{statement}
+use Rattle.text.proofs.two_digits.Tie as tie
 
 is-digit-requires : tie.Need-is-digit-requires
 is-digit-requires c κs = search needs

@@ -1,0 +1,50 @@
+-- `account::iban_check` meets its contract: each return is the definition's choice on the tests that led there. Assumes nothing.
+use mathlib.Core.Path.{refl, sym, _∙_}
+use borrow.Author.Tests.{not-true, not-false}
+use Rattle.text.proofs.Laws.{taken, left, entered}
+use borrow.Author.Needs.{needs}
+use Rattle.account.proofs.iban_check.Statement.{statement}
+use Rattle.account.proofs.iban_check.Tie as tie
+use Rattle.account.proofs.iban_check.Reads as reads
+use Rattle.account.proofs.iban_check.Lts as lts
+use Rattle.account.proofs.iban_passes.Reads as iban-passes-reads
+use Rattle.account.proofs.is_iban_formed.Reads as is-iban-formed-reads
+use Rattle.refusal.proofs.nowhere.Reads as nowhere-reads
+
+is-iban-formed-requires : tie.Need-is-iban-formed-requires
+is-iban-formed-requires c κs = search needs
+
+nowhere-requires : tie.Need-nowhere-requires
+nowhere-requires c κs = search needs
+
+returns : tie.Need-returns
+returns c = rw (c .nowhere .ensures) (left _ _ _ _ (sym (c .before .before .is-iban-formed .ensures) ∙ not-true _ (c .before .if1 .taken)) refl)
+
+iban-passes-requires : tie.Need-iban-passes-requires
+iban-passes-requires c κs = search needs
+
+returns-2 : tie.Need-returns-2
+returns-2 c =
+    entered _ _ _ _ (sym (c .before .before .before .is-iban-formed .ensures) ∙ not-false _ (c .before .before .if1 .left))
+    (taken _ _ _ (sym (c .before .iban-passes .ensures) ∙ c .if2 .taken))
+
+nowhere-requires-2 : tie.Need-nowhere-requires-2
+nowhere-requires-2 c κs = search needs
+
+returns-3 : tie.Need-returns-3
+returns-3 c =
+    rw (c .nowhere2 .ensures)
+    (entered _ _ _ _ (sym (c .before .before .before .before .is-iban-formed .ensures) ∙ not-false _ (c .before .before .before .if1 .left))
+    (left _ _ _ _ (sym (c .before .before .iban-passes .ensures) ∙ c .before .if2 .left) refl))
+
+pub iban-check-spec : {M : Type 1} → statement M
+iban-check-spec =
+    tie.close
+    (tie.spec
+    is-iban-formed-requires
+    nowhere-requires
+    returns
+    iban-passes-requires
+    returns-2
+    nowhere-requires-2
+    returns-3)

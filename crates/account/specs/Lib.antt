@@ -1,0 +1,3 @@
+-- The definitions of the crate `account`.
+pub mod Account
+pub mod Answers

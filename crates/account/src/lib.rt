@@ -1,0 +1,119 @@
+// Accounts: IBAN and OIB, each behind one name.
+//
+// Document 01, "Check digits". What an IBAN's check is stands in `iban_passes` alone: requests W3 and W7 change what is
+// behind that name, and whoever judges an IBAN goes by it.
+ghost use mathlib.Core.Path.{_≡_};
+ghost use Rattle.account.specs.Account.{inRange, ibanFormed, ibanPasses, oibPasses};
+ghost use Rattle.account.specs.Answers.{ibanCheckAnswer, ibanAnswer, oibAnswer};
+use check_digits::Rule;
+use refusal::Answer;
+use refusal::Place;
+use refusal::Refusal;
+use text::Class;
+use text::Found;
+
+// Whether a text is `HR` and nineteen digits.
+pub fn is_iban_formed(s: &[u8]) -> bool
+    ensures { λ r. ⌜ r ≡ ibanFormed (now (s .entry)) ⌝ }
+{
+    if s.len() != 21 {
+        return false;
+    }
+    if s[0] != 72 {
+        return false;
+    }
+    if s[1] != 82 {
+        return false;
+    }
+    text::all_of(Class::Digits, &s[2..])
+}
+
+// Whether check digits lie in 02 to 98.
+fn is_in_range(digits: Found) -> bool
+    ensures { λ r. ⌜ r ≡ inRange digits ⌝ }
+{
+    match digits {
+        Found::At(k) => {
+            if k < 2 {
+                return false;
+            }
+            k <= 98
+        }
+        Found::Nothing => false,
+    }
+}
+
+// Whether an IBAN's check holds: its check digits lie in 02 to 98, and its number leaves 1 over 97.
+pub fn iban_passes(s: &[u8]) -> bool
+    ensures { λ r. ⌜ r ≡ ibanPasses (now (s .entry)) ⌝ }
+{
+    if s.len() < 4 {
+        return false;
+    }
+    if !is_in_range(text::two_digits(s[2], s[3])) {
+        return false;
+    }
+    let account = check_digits::remainder97(0, &s[4..]);
+    check_digits::remainder97(account * 10000 + 1727, &s[2..4]) == 1
+}
+
+// 5 where a text has not an IBAN's form, then 6 where its check fails.
+pub fn iban_check(s: &[u8]) -> Answer
+    ensures { λ r. ⌜ r ≡ ibanCheckAnswer (now (s .entry)) ⌝ }
+{
+    if !is_iban_formed(s) {
+        return Answer::Refused(Refusal::Form(refusal::nowhere()));
+    }
+    if iban_passes(s) {
+        return Answer::Accepted;
+    }
+    Answer::Refused(Refusal::Check(refusal::nowhere()))
+}
+
+// An IBAN: 3 with its byte, 4, 5, 6.
+pub fn iban(s: &[u8]) -> Answer
+    ensures { λ r. ⌜ r ≡ ibanAnswer (now (s .entry)) ⌝ }
+{
+    match text::first_bad(Class::Account, s) {
+        Found::At(i) => Answer::Refused(Refusal::Byte(Place {
+            line: 0,
+            field: 0,
+            byte: i,
+        })),
+        Found::Nothing => {
+            if s.len() != 21 {
+                return Answer::Refused(Refusal::Length(refusal::nowhere()));
+            }
+            iban_check(s)
+        }
+    }
+}
+
+// Whether an OIB's check holds.
+pub fn oib_passes(s: &[u8]) -> bool
+    ensures { λ r. ⌜ r ≡ oibPasses (now (s .entry)) ⌝ }
+{
+    check_digits::ends_right(Rule::Mod1110, s)
+}
+
+// An OIB: 3 with its byte, 4, 6.
+pub fn oib(s: &[u8]) -> Answer
+    ensures { λ r. ⌜ r ≡ oibAnswer (now (s .entry)) ⌝ }
+{
+    match text::first_bad(Class::Digits, s) {
+        Found::At(i) => Answer::Refused(Refusal::Byte(Place {
+            line: 0,
+            field: 0,
+            byte: i,
+        })),
+        Found::Nothing => {
+            if s.len() != 11 {
+                return Answer::Refused(Refusal::Length(refusal::nowhere()));
+            }
+            if oib_passes(s) {
+                return Answer::Accepted;
+            }
+            Answer::Refused(Refusal::Check(refusal::nowhere()))
+        }
+    }
+}
