@@ -1,0 +1,3 @@
+-- The definitions of the crate `line`.
+pub mod Line
+pub mod Kept
