@@ -3,12 +3,16 @@
 // The listing is stated once, over any rule (specs/Fillings.antt): a changed rule moves `accepted` and nothing else
 // here. As document 01 asks, the listing calls itself for each digit at the first open mark.
 ghost use mathlib.Core.Path.{_≡_};
-ghost use Prim.Native.Nat.{_≤_};
-ghost use lib.ListN.{length};
+ghost use mathlib.Core.Bool.{cond};
+ghost use mathlib.Core.List.{[], _∷_};
+ghost use Prim.Native.Nat.{suc, _*_, _^_, _≤_, _<_};
+ghost use lib.ListN.{length, take};
 ghost use Rattle.text.specs.Bytes.{marks};
-ghost use Rattle.fillings.specs.Fillings.{fill, fillings};
+ghost use Rattle.fillings.specs.Fillings.{fillings};
+ghost use Rattle.fillings.specs.ByMark.{block, Written};
 ghost use Rattle.fillings.specs.Accepts.{accepts};
-ghost use Rattle.fillings.specs.Answers.{roomAnswer, leftBy};
+ghost use Rattle.fillings.specs.Answers.{roomAnswer, leftBy, filledAnswer, filledBy};
+use refusal::Answer;
 use refusal::Refusal;
 use text::Class;
 use text::Found;
@@ -37,10 +41,102 @@ fn accepted(aim: Aim, s: &[u8]) -> bool
     s[0] == 49
 }
 
-// Lists the fillings of a text of at most 22 bytes and four marks.
-fn listed(aim: Aim, s: &[u8], out: &mut [u16]) -> Listed
+// A text of at most 22 bytes, held by value.
+fn held(s: &[u8]) -> [u8; 22]
+    requires { ⌜ length (now s) ≤ 22 ⌝ }
+    ensures { λ r. ⌜ take (length (now (s .entry))) r ≡ now (s .entry) ⌝ }
+{
+    let mut t = [0; 22];
+    let mut i = 0;
+    while i < s.len() {
+        t[i] = s[i];
+        i += 1;
+    }
+    t
+}
+
+// A text with no mark left: its number is written at the place `at`, if there is room, where the text is accepted.
+fn leaf(aim: Aim, s: &[u8], number: u32, out: &mut [u16], at: usize) -> usize
+    requires { ⌜ (number < 10000) × (at ≤ number) ⌝ }
+    ensures { λ r. ⌜ Written (now (out .entry)) at (cond (accepts aim (now (s .entry))) (number ∷ []) []) r (now (out .exit)) ⌝ }
+{
+    if !accepted(aim, s) {
+        return at;
+    }
+    if at < out.len() {
+        out[at] = number as u16;
+        return at + 1;
+    }
+    at + 1
+}
+
+// Lists the fillings of the first `n` bytes of `t`, of which `left` are marks, from the place `at` on: each digit
+// at the first mark leaves one mark fewer. `number` has the digits that were put at earlier marks.
+fn list(
+    aim: Aim,
+    t: [u8; 22],
+    n: usize,
+    left: usize,
+    number: u32,
+    out: &mut [u16],
+    at: usize,
+) -> usize
+    requires { ⌜ (n ≤ 22) × ((left ≡ marks (take n t)) × ((suc number * 10 ^ left ≤ 10000) × (at ≤ number * 10 ^ left))) ⌝ }
+    ensures { λ r. ⌜ Written (now (out .entry)) at (block (accepts aim) (take n t) number) r (now (out .exit)) ⌝ }
+{
+    if left == 0 {
+        return leaf(aim, &t[..n], number, out, at);
+    }
+    let Found::At(i) = text::first_bad(Class::Dry, &t[..n]) else {
+        return at;
+    };
+    let mut next = at;
+    let mut d: u32 = 0;
+    while d < 10 {
+        let mut w = t;
+        w[i] = 48 + d as u8;
+        next = list(aim, w, n, left - 1, number * 10 + d, out, next);
+        d += 1;
+    }
+    next
+}
+
+// Lists the fillings of a text of at most 22 bytes and four marks. They are counted first, so that a refusal
+// leaves `out` as it was.
+fn list_into(aim: Aim, s: &[u8], out: &mut [u16]) -> Listed
     requires { ⌜ (length (now s) ≤ 22) × (marks (now s) ≤ 4) ⌝ }
     ensures { λ r. ⌜ (r ≡ roomAnswer (fillings (accepts aim) (now (s .entry))) (length (now (out .entry)))) × (now (out .exit) ≡ leftBy r (fillings (accepts aim) (now (s .entry))) (now (out .entry))) ⌝ }
 {
-    Listed::Count(0)
+    let t = held(s);
+    let n = s.len();
+    let left = text::count_marks(s);
+    let mut scratch: [u16; 1] = [0];
+    let count = list(aim, t, n, left, 0, &mut scratch, 0);
+    if count > out.len() {
+        return Listed::Refused(Refusal::Room(refusal::nowhere(), count));
+    }
+    list(aim, t, n, left, 0, out, 0);
+    Listed::Count(count)
+}
+
+// Writes the filling of a text by a number at the front of `out`; the bytes beyond it stay as they were.
+pub fn filled(s: &[u8], number: u16, out: &mut [u8]) -> Answer
+    ensures { λ r. ⌜ (r ≡ filledAnswer (now (s .entry)) (length (now (out .entry)))) × (now (out .exit) ≡ filledBy r (now (s .entry)) number (now (out .entry))) ⌝ }
+{
+    let n = s.len();
+    if n > out.len() {
+        return Answer::Refused(Refusal::Room(refusal::nowhere(), n));
+    }
+    let mut k = number;
+    let mut i = n;
+    while i > 0 {
+        i -= 1;
+        if s[i] == 63 {
+            out[i] = 48 + (k % 10) as u8;
+            k /= 10;
+        } else {
+            out[i] = s[i];
+        }
+    }
+    Answer::Accepted
 }

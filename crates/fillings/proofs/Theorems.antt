@@ -1,0 +1,257 @@
+-- What holds of every listing, over any rule p and any text s: it has every accepted filling and no other, ascending, each once, and as many
+-- as there are; a rule that agrees on the fillings of s lists the same; and the fillings of s are the texts that fill it, each by one number.
+-- Assumes nothing.
+use mathlib.Core.Path.{_≡_, refl, sym, ap, _∙_}
+use mathlib.Core.Bool.{Bool, true, false, cond}
+use mathlib.Core.Logic.{inl, inr, ⊎-elim}
+use mathlib.Core.List.{List, [], _∷_, _++_}
+use Prim.Native.Nat.{ℕ, zero, suc, _+_, _-_, _*_, _/_, _%_, _^_, _≤_, _<_}
+use native.Mathlib.Numerals.{add-one}
+use native.Mathlib.Omega.{arith}
+use native.Mathlib.Nat.{zero-add, zero-mul, mul-assoc, pow-succ', one-le-pow, mod-one, mod-eq-of-lt, mul-add-div-right}
+use lib.Arith.{digits-lt, digits-div, mod-mul}
+use lib.Dec.{eqb, ltb}
+use lib.ListN.{length, getD, drop, length-append}
+use borrow.Author.Tests.{eq-eqb, ne-eqb, eqb-true, eqb-false, ltb-true, ltb-false}
+use Rattle.text.specs.Bytes.{marks}
+use Rattle.refusal.specs.declared.Answer.{Answer}
+use Rattle.fillings.specs.declared.Listed.{Listed}
+use Rattle.fillings.specs.Answers.{roomAnswer, leftBy, filledAnswer, filledBy}
+use Rattle.fillings.specs.ByMark.{between}
+use Rattle.fillings.specs.Fillings.{fill, among, fillings}
+use Rattle.fillings.specs.Listing.{Member, Ascending, countOf, Fills, numberIn}
+use Rattle.fillings.proofs.Laws.{among-append, among-ext, block-dry}
+
+-- ---------------------------------------------------------------------------
+-- The accepted numbers of a range: complete, sound, ascending
+
+-- what stands in a list stands in it behind one number more
+member-behind : (b : Bool) (k x : ℕ) (xs : List ℕ) → Member k xs → Member k (cond b (x ∷ xs) xs)
+unfolding Member
+member-behind true k x xs m = inr m
+member-behind false k x xs m = m
+
+-- every accepted number of the range is listed
+among-complete : (q : ℕ → Bool) (a n k : ℕ) → a ≤ k → k < a + n → q k ≡ true → Member k (among q a n)
+unfolding among Member
+among-complete q a zero k l u e = absurd (omega arith)
+among-complete q a (suc n) k l u e = go (eqb k a) refl (among-complete q (suc a) n k)
+  where
+    go : (t : Bool) → eqb k a ≡ t → (suc a ≤ k → k < suc a + n → q k ≡ true → Member k (among q (suc a) n)) → Member k (cond (q a) (a ∷ among q (suc a) n) (among q (suc a) n))
+    go true g ih = let z : k ≡ a = eqb-true k a g in rw (← z, e) (inl refl)
+    go false g ih = let z : k ≡ a → ⊥ = eqb-false k a g in member-behind (q a) k a (among q (suc a) n) (ih (omega arith) (omega arith) e)
+
+-- what is listed is an accepted number of the range
+among-sound : (q : ℕ → Bool) (a n k : ℕ) → Member k (among q a n) → (a ≤ k) × ((k < a + n) × (q k ≡ true))
+unfolding among Member
+among-sound q a zero k m = absurd m
+among-sound q a (suc n) k m = go (q a) refl (among-sound q (suc a) n k) m
+  where
+    wider : (suc a ≤ k) × ((k < suc a + n) × (q k ≡ true)) → (a ≤ k) × ((k < a + suc n) × (q k ≡ true))
+    wider h = (omega arith, (omega arith, h .1 .1))
+
+    go : (t : Bool) → q a ≡ t → (Member k (among q (suc a) n) → (suc a ≤ k) × ((k < suc a + n) × (q k ≡ true))) → Member k (cond t (a ∷ among q (suc a) n) (among q (suc a) n)) → (a ≤ k) × ((k < a + suc n) × (q k ≡ true))
+    go true g ih m = ⊎-elim (λ (e : k ≡ a). (omega arith, (omega arith, ap q e ∙ g))) (λ h. wider (ih h)) m
+    go false g ih m = wider (ih m)
+
+-- every entry is in the range
+among-above : (q : ℕ → Bool) (a n i : ℕ) → i < length (among q a n) → a ≤ getD (among q a n) i 0
+unfolding among
+among-above q a zero i h = absurd (omega arith)
+among-above q a (suc n) i h = go (q a) i (among-above q (suc a) n) h
+  where
+    go : (t : Bool) (i : ℕ) → ((j : ℕ) → j < length (among q (suc a) n) → suc a ≤ getD (among q (suc a) n) j 0) → i < length (cond t (a ∷ among q (suc a) n) (among q (suc a) n)) → a ≤ getD (cond t (a ∷ among q (suc a) n) (among q (suc a) n)) i 0
+    go true zero ih h = omega arith
+    go true (suc i) ih h = omega (arith, ih i (omega arith))
+    go false i ih h = omega (arith, ih i h)
+
+-- the numbers of a range ascend
+among-ascending : (q : ℕ → Bool) (a n : ℕ) → Ascending (among q a n)
+unfolding among
+among-ascending q a zero i h = absurd (omega arith)
+among-ascending q a (suc n) i h = go (q a) i (among-ascending q (suc a) n) h
+  where
+    go : (t : Bool) (i : ℕ) → Ascending (among q (suc a) n) → suc i < length (cond t (a ∷ among q (suc a) n) (among q (suc a) n)) → getD (cond t (a ∷ among q (suc a) n) (among q (suc a) n)) i 0 < getD (cond t (a ∷ among q (suc a) n) (among q (suc a) n)) (suc i) 0
+    go true zero ih h = among-above q (suc a) n 0 (omega arith)
+    go true (suc i) ih h = ih i (omega arith)
+    go false i ih h = ih i h
+
+-- the last number of a range
+among-last : (q : ℕ → Bool) (a n : ℕ) → among q a (suc n) ≡ among q a n ++ cond (q (a + n)) ((a + n) ∷ []) []
+unfolding among
+among-last q a n = ap (among q a) (sym (add-one n)) ∙ among-append q a n 1
+
+-- a list, and one number more or none
+length-last : (b : Bool) (x : ℕ) (xs : List ℕ) → length (xs ++ cond b (x ∷ []) []) ≡ cond b (suc (length xs)) (length xs)
+length-last true x xs = length-append xs (x ∷ []) ∙ omega arith
+length-last false x xs = length-append xs [] ∙ omega arith
+
+-- a range has as many as are accepted
+among-counted : (q : ℕ → Bool) (n : ℕ) → length (among q 0 n) ≡ countOf q n
+unfolding countOf
+among-counted q zero = unfold among in refl
+among-counted q (suc n) = rw (among-last q 0 n, length-last (q (0 + n)) (0 + n) (among q 0 n), zero-add, among-counted q n)
+
+-- ---------------------------------------------------------------------------
+-- Lists that ascend
+
+-- an earlier place holds a smaller number
+ascending-below : (xs : List ℕ) → Ascending xs → (i j : ℕ) → i < j → j < length xs → getD xs i 0 < getD xs j 0
+ascending-below xs up i zero l u = absurd (omega arith)
+ascending-below xs up i (suc j) l u = go (eqb i j) refl (ascending-below xs up i j)
+  where
+    go : (t : Bool) → eqb i j ≡ t → (i < j → j < length xs → getD xs i 0 < getD xs j 0) → getD xs i 0 < getD xs (suc j) 0
+    go true g ih = let z : i ≡ j = eqb-true i j g in rw z (up j u)
+    go false g ih = let z : i ≡ j → ⊥ = eqb-false i j g in omega (arith, ih (omega arith) (omega arith), up j u)
+
+-- two places hold two numbers
+pub ascending-once : (xs : List ℕ) → Ascending xs → (i j : ℕ) → i < length xs → j < length xs → (i ≡ j → ⊥) → getD xs i 0 ≡ getD xs j 0 → ⊥
+ascending-once xs up i j h g ne e = go (ltb i j) refl
+  where
+    go : (t : Bool) → ltb i j ≡ t → ⊥
+    go true z = let l : i < j = ltb-true i j z in omega (arith, ascending-below xs up i j l g)
+    go false z = let l : j ≤ i = ltb-false i j z in omega (arith, ascending-below xs up j i (omega arith) h)
+
+-- ---------------------------------------------------------------------------
+-- The listing
+
+module _ (p : List ℕ → Bool) (s : List ℕ) where
+  -- every accepted filling is listed
+  pub complete : (k : ℕ) → k < 10 ^ marks s → p (fill s k) ≡ true → Member k (fillings p s)
+  unfolding fillings
+  complete k h e = among-complete (λ (k : ℕ). p (fill s k)) 0 (10 ^ marks s) k (omega arith) (omega arith) e
+
+  -- and nothing else
+  pub sound : (k : ℕ) → Member k (fillings p s) → (k < 10 ^ marks s) × (p (fill s k) ≡ true)
+  unfolding fillings
+  sound k m = let h = among-sound (λ (k : ℕ). p (fill s k)) 0 (10 ^ marks s) k m in (omega arith, h .1 .1)
+
+  -- in ascending order
+  pub ascending : Ascending (fillings p s)
+  unfolding fillings
+  ascending = among-ascending (λ (k : ℕ). p (fill s k)) 0 (10 ^ marks s)
+
+  -- each once
+  pub once : (i j : ℕ) → i < length (fillings p s) → j < length (fillings p s) → (i ≡ j → ⊥) → getD (fillings p s) i 0 ≡ getD (fillings p s) j 0 → ⊥
+  once = ascending-once (fillings p s) ascending
+
+  -- as many as there are
+  pub counted : length (fillings p s) ≡ countOf (λ (k : ℕ). p (fill s k)) (10 ^ marks s)
+  unfolding fillings
+  counted = among-counted (λ (k : ℕ). p (fill s k)) (10 ^ marks s)
+
+-- a rule that agrees on the fillings of s lists the same
+pub changed-rule : (p p′ : List ℕ → Bool) (s : List ℕ) → ((k : ℕ) → k < 10 ^ marks s → p (fill s k) ≡ p′ (fill s k)) → fillings p s ≡ fillings p′ s
+unfolding fillings
+changed-rule p p′ s h = among-ext (λ (k : ℕ). p (fill s k)) (λ (k : ℕ). p′ (fill s k)) 0 (10 ^ marks s) (λ k l u. h k (omega arith))
+
+-- "No mark: the number 0 if the text is accepted, else nothing"
+pub no-mark-listed : (p : List ℕ → Bool) (s : List ℕ) → marks s ≡ 0 → fillings p s ≡ cond (p s) (0 ∷ []) []
+unfolding fillings between
+no-mark-listed p s e = rw zero-mul at (block-dry p s 0 e)
+
+-- ---------------------------------------------------------------------------
+-- "one possible answer and one content of the lent slices"
+
+-- a listing's answer and what it leaves
+pub listed-only :
+    (xs out : List ℕ) (r r′ : Listed) (o o′ : List ℕ) → (r ≡ roomAnswer xs (length out)) × (o ≡ leftBy r xs out)
+    → (r′ ≡ roomAnswer xs (length out)) × (o′ ≡ leftBy r′ xs out) → (r ≡ r′) × (o ≡ o′)
+listed-only xs out r r′ o o′ h g = let e : r ≡ r′ = h .0 ∙ sym (g .0) in (e, h .1 ∙ ap (λ (r : Listed). leftBy r xs out) e ∙ sym (g .1))
+
+-- a filled text's answer and what it leaves
+pub filled-only :
+    (s out : List ℕ) (k : ℕ) (r r′ : Answer) (o o′ : List ℕ) → (r ≡ filledAnswer s (length out)) × (o ≡ filledBy r s k out)
+    → (r′ ≡ filledAnswer s (length out)) × (o′ ≡ filledBy r′ s k out) → (r ≡ r′) × (o ≡ o′)
+filled-only s out k r r′ o o′ h g = let e : r ≡ r′ = h .0 ∙ sym (g .0) in (e, h .1 ∙ ap (λ (r : Answer). filledBy r s k out) e ∙ sym (g .1))
+
+-- ---------------------------------------------------------------------------
+-- The texts that fill a text
+
+-- a filling has the text's length
+pub fill-length : (s : List ℕ) (k : ℕ) → length (fill s k) ≡ length s
+unfolding fill
+fill-length [] k = refl
+fill-length (b ∷ s) k = ap suc (fill-length s k)
+
+-- what a filling has at a place
+fill-at : (s : List ℕ) (k i : ℕ) → i < length s → getD (fill s k) i 0 ≡ cond (eqb (getD s i 0) 63) (48 + (k / 10 ^ marks (drop (suc i) s)) % 10) (getD s i 0)
+unfolding fill
+fill-at [] k i h = absurd (omega arith)
+fill-at (b ∷ s) k zero h = refl
+fill-at (b ∷ s) k (suc i) h = fill-at s k i (omega arith)
+
+-- a filling fills the text
+pub fill-fills : (s : List ℕ) (k : ℕ) → Fills s (fill s k)
+fill-fills s k =
+    record {
+      size = fill-length s k;
+      same = λ i h n. fill-at s k i h ∙ rw (ne-eqb (getD s i 0) 63 n);
+      digit = λ i h e. let z : getD (fill s k) i 0 ≡ 48 + (k / 10 ^ marks (drop (suc i) s)) % 10 = fill-at s k i h ∙ rw (eq-eqb (getD s i 0) 63 e) in (omega arith, omega arith);
+    }
+
+-- what fills a text fills its rest
+rest-fills : (b c : ℕ) (s t : List ℕ) → Fills (b ∷ s) (c ∷ t) → Fills s t
+rest-fills b c s t f =
+    record {
+      size = omega (arith, f .size);
+      same = λ i h n. f .same (suc i) (omega arith) n;
+      digit = λ i h e. f .digit (suc i) (omega arith) e;
+    }
+
+-- digits in front of the number of a rest leave the rest's filling as it is
+fill-rest : (s : List ℕ) (d k : ℕ) → fill s (d * 10 ^ marks s + k) ≡ fill s k
+unfolding fill marks
+fill-rest [] d k = refl
+fill-rest (b ∷ s) d k = go (eqb b 63) (λ d. fill-rest s d k)
+  where
+    go : (t : Bool) → ((d : ℕ) → fill s (d * 10 ^ marks s + k) ≡ fill s k) → _≡_ {A = List ℕ} (cond t (48 + ((d * 10 ^ cond t (suc (marks s)) (marks s) + k) / 10 ^ marks s) % 10) b ∷ fill s (d * 10 ^ cond t (suc (marks s)) (marks s) + k)) (cond t (48 + (k / 10 ^ marks s) % 10) b ∷ fill s k)
+    go true ih =
+        let e : d * 10 ^ suc (marks s) ≡ d * 10 * 10 ^ marks s = rw (pow-succ', mul-assoc) in
+        rw (e, ih (d * 10), mul-add-div-right (one-le-pow (marks s) 10 (omega arith)) (d * 10) k) (ap (λ (x : ℕ). x ∷ fill s k) (omega arith))
+    go false ih = rw (ih d)
+
+-- the number of a filling is the number, as far as the marks have digits for it
+pub number-of-fill : (s : List ℕ) (k : ℕ) → numberIn s (fill s k) ≡ k % 10 ^ marks s
+unfolding fill marks numberIn
+number-of-fill [] k = sym (mod-one k)
+number-of-fill (b ∷ s) k = go (eqb b 63) (number-of-fill s k)
+  where
+    go : (t : Bool) → numberIn s (fill s k) ≡ k % 10 ^ marks s → cond t ((cond t (48 + (k / 10 ^ marks s) % 10) b - 48) * 10 ^ marks s + numberIn s (fill s k)) (numberIn s (fill s k)) ≡ k % 10 ^ cond t (suc (marks s)) (marks s)
+    go true ih =
+        let e : 48 + (k / 10 ^ marks s) % 10 - 48 ≡ (k / 10 ^ marks s) % 10 = omega arith in
+        rw (e, ih, pow-succ', mod-mul k {m = 10} {c = 10 ^ marks s} (omega arith) (one-le-pow (marks s) 10 (omega arith)))
+    go false ih = ih
+
+-- two numbers, two fillings
+pub fill-injective : (s : List ℕ) (k k′ : ℕ) → k < 10 ^ marks s → k′ < 10 ^ marks s → fill s k ≡ fill s k′ → k ≡ k′
+fill-injective s k k′ h h′ e = sym (mod-eq-of-lt h) ∙ sym (number-of-fill s k) ∙ ap (numberIn s) e ∙ number-of-fill s k′ ∙ mod-eq-of-lt h′
+
+-- the number of a text that fills s has as many digits as s has marks
+number-below : (s t : List ℕ) → Fills s t → numberIn s t < 10 ^ marks s
+unfolding marks numberIn
+number-below [] t f = omega arith
+number-below (b ∷ s) [] f = absurd (omega (arith, f .size))
+number-below (b ∷ s) (c ∷ t) f = go (eqb b 63) refl (number-below s t (rest-fills b c s t f))
+  where
+    go : (x : Bool) → eqb b 63 ≡ x → numberIn s t < 10 ^ marks s → cond x ((c - 48) * 10 ^ marks s + numberIn s t) (numberIn s t) < 10 ^ cond x (suc (marks s)) (marks s)
+    go true e ih = let h = f .digit 0 (omega arith) (eqb-true b 63 e) in rw pow-succ' (digits-lt (omega arith) ih)
+    go false e ih = ih
+
+-- a text that fills s is the filling by its number
+fill-of-number : (s t : List ℕ) → Fills s t → fill s (numberIn s t) ≡ t
+unfolding fill marks numberIn
+fill-of-number [] [] f = refl
+fill-of-number [] (c ∷ t) f = absurd (omega (arith, f .size))
+fill-of-number (b ∷ s) [] f = absurd (omega (arith, f .size))
+fill-of-number (b ∷ s) (c ∷ t) f = go (eqb b 63) refl (fill-of-number s t (rest-fills b c s t f))
+  where
+    go : (x : Bool) → eqb b 63 ≡ x → fill s (numberIn s t) ≡ t → _≡_ {A = List ℕ} (cond x (48 + (cond x ((c - 48) * 10 ^ marks s + numberIn s t) (numberIn s t) / 10 ^ marks s) % 10) b ∷ fill s (cond x ((c - 48) * 10 ^ marks s + numberIn s t) (numberIn s t))) (c ∷ t)
+    go true e ih =
+        let h = f .digit 0 (omega arith) (eqb-true b 63 e) in
+        rw (fill-rest s (c - 48) (numberIn s t), ih, digits-div (c - 48) (number-below s t (rest-fills b c s t f))) (ap (λ (x : ℕ). x ∷ t) (omega arith))
+    go false e ih = rw (ih, f .same 0 (omega arith) (eqb-false b 63 e))
+
+-- every text that fills s is its filling by a number of as many digits as s has marks
+pub fill-onto : (s t : List ℕ) → Fills s t → (k : ℕ) × ((k < 10 ^ marks s) × (fill s k ≡ t))
+fill-onto s t f = (numberIn s t, (number-below s t f, fill-of-number s t f))
