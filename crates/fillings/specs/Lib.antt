@@ -4,3 +4,4 @@ pub mod ByMark
 pub mod Accepts
 pub mod Answers
 pub mod Listing
+pub mod Wet

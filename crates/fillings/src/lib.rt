@@ -8,18 +8,25 @@ ghost use mathlib.Core.List.{[], _∷_};
 ghost use Prim.Native.Nat.{suc, _*_, _^_, _≤_, _<_};
 ghost use lib.ListN.{length, take};
 ghost use Rattle.text.specs.Bytes.{marks};
-ghost use Rattle.fillings.specs.Fillings.{fillings};
+ghost use Rattle.fillings.specs.Fillings.{fill, fillings};
+ghost use Rattle.fillings.specs.Wet.{wetIban, ibanListing, modelListing, numberListing, numberFillings, referenceListing, referenceFillings};
+ghost use Rattle.account.specs.Answers.{isIban};
+ghost use Rattle.reference.specs.Parts.{formed};
+ghost use Rattle.reference.specs.Answers.{obeys};
 ghost use Rattle.fillings.specs.ByMark.{block, Written};
 ghost use Rattle.fillings.specs.Accepts.{accepts};
 ghost use Rattle.fillings.specs.Answers.{roomAnswer, leftBy, filledAnswer, filledBy};
+use models::Group;
+use models::Model;
 use refusal::Answer;
 use refusal::Refusal;
 use text::Class;
 use text::Found;
 
-// What is listed: IBANs, or references.
+// What is listed: IBANs, or references with these check groups.
 pub struct Aim {
     pub iban: bool,
+    pub groups: [Group; 4],
 }
 
 // What a listing answers: how many fillings were written at the front of the lent slice, or a refusal.
@@ -28,17 +35,15 @@ pub enum Listed {
     Refused(Refusal),
 }
 
-// Whether a filled text is accepted.
+// Whether a filled text, of the right form, is accepted.
 fn accepted(aim: Aim, s: &[u8]) -> bool
     ensures { λ r. ⌜ r ≡ accepts aim (now (s .entry)) ⌝ }
 {
     if aim.iban {
-        return s.len() == 21;
+        return account::iban_passes(s);
     }
-    if s.len() == 0 {
-        return false;
-    }
-    s[0] == 49
+    let groups = aim.groups;
+    reference::groups_hold(groups, s)
 }
 
 // A text of at most 22 bytes, held by value.
@@ -139,4 +144,94 @@ pub fn filled(s: &[u8], number: u16, out: &mut [u8]) -> Answer
         }
     }
     Answer::Accepted
+}
+
+// ---------------------------------------------------------------------------
+// The listings of IBANs and of references
+
+// Whether a text is `HR` and then digits or `?`.
+fn is_wet_iban(s: &[u8]) -> bool
+    ensures { λ r. ⌜ r ≡ wetIban (now (s .entry)) ⌝ }
+{
+    if s.len() < 2 {
+        return false;
+    }
+    if s[0] != 72 {
+        return false;
+    }
+    if s[1] != 82 {
+        return false;
+    }
+    text::all_of(Class::WetAccount, &s[2..])
+}
+
+// The fillings of an IBAN that the rules accept, ascending, at the front of `out`. Refusals: 1, 3, 16, 15.
+pub fn list_iban(s: &[u8], out: &mut [u16]) -> Listed
+    ensures { λ r. ⌜ (r ≡ ibanListing (now (s .entry)) (length (now (out .entry)))) × (now (out .exit) ≡ leftBy r (fillings isIban (now (s .entry))) (now (out .entry))) ⌝ }
+{
+    if s.len() != 21 {
+        return Listed::Refused(Refusal::Size(refusal::nowhere()));
+    }
+    if !is_wet_iban(s) {
+        return Listed::Refused(Refusal::Byte(refusal::nowhere()));
+    }
+    if 4 < text::count_marks(s) {
+        return Listed::Refused(Refusal::Marks(refusal::nowhere()));
+    }
+    let none = models::rules(0);
+    let groups = none.groups;
+    list_into(Aim { iban: true, groups }, s, out)
+}
+
+// Whether the fillings of a text have the model's form: its first one, by 0, tells of all.
+fn can_be_formed(model: Model, s: &[u8]) -> bool
+    requires { ⌜ length (now s) ≤ 22 ⌝ }
+    ensures { λ r. ⌜ r ≡ formed model (fill (now (s .entry)) 0) ⌝ }
+{
+    let n = s.len();
+    let mut t = [0u8; 22];
+    filled(s, 0, &mut t);
+    reference::is_formed(model, &t[..n])
+}
+
+// The listing under a model: 7, then 15.
+fn list_model(model: Model, s: &[u8], out: &mut [u16]) -> Listed
+    requires { ⌜ (length (now s) ≤ 22) × (marks (now s) ≤ 4) ⌝ }
+    ensures { λ r. ⌜ (r ≡ modelListing model (now (s .entry)) (length (now (out .entry)))) × (now (out .exit) ≡ leftBy r (fillings (obeys model) (now (s .entry))) (now (out .entry))) ⌝ }
+{
+    if !model.handled {
+        return Listed::Refused(Refusal::Model(refusal::nowhere()));
+    }
+    if !can_be_formed(model, s) {
+        return Listed::Count(0);
+    }
+    let groups = model.groups;
+    list_into(Aim { iban: false, groups }, s, out)
+}
+
+// The listing under a model's number: 5, then what the model says.
+fn list_numbered(number: Found, s: &[u8], out: &mut [u16]) -> Listed
+    requires { ⌜ (length (now s) ≤ 22) × (marks (now s) ≤ 4) ⌝ }
+    ensures { λ r. ⌜ (r ≡ numberListing number (now (s .entry)) (length (now (out .entry)))) × (now (out .exit) ≡ leftBy r (numberFillings number (now (s .entry))) (now (out .entry))) ⌝ }
+{
+    match number {
+        Found::At(n) => list_model(models::rules(n), s, out),
+        Found::Nothing => Listed::Refused(Refusal::Form(refusal::nowhere())),
+    }
+}
+
+// The fillings of a reference that its model accepts, ascending, at the front of `out`. Refusals: 1, 3, 16, 5, 7, 15.
+pub fn list_reference(model: &[u8], s: &[u8], out: &mut [u16]) -> Listed
+    ensures { λ r. ⌜ (r ≡ referenceListing (now (model .entry)) (now (s .entry)) (length (now (out .entry)))) × (now (out .exit) ≡ leftBy r (referenceFillings (now (model .entry)) (now (s .entry))) (now (out .entry))) ⌝ }
+{
+    if 22 < s.len() {
+        return Listed::Refused(Refusal::Size(refusal::nowhere()));
+    }
+    if !text::all_of(Class::WetReference, s) {
+        return Listed::Refused(Refusal::Byte(refusal::nowhere()));
+    }
+    if 4 < text::count_marks(s) {
+        return Listed::Refused(Refusal::Marks(refusal::nowhere()));
+    }
+    list_numbered(models::number(model), s, out)
 }

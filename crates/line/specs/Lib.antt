@@ -1,3 +1,4 @@
 -- The definitions of the crate `line`.
 pub mod Line
 pub mod Kept
+pub mod Sides

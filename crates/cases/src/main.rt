@@ -1,0 +1,261 @@
+// Runs the cases of document 01, of its sources and a run of made-up ones: one question a line on standard input, each
+// written back with its answer. An independent second implementation answers the same lines (`second cases`), and the
+// gate compares.
+//
+//     iban TEXT, oib TEXT, ref MODEL TEXT, check RULE TEXT, make RULE TEXT, list LINE, room K LINE
+//
+// The starred cases of 01 are proved about the definitions, as one table (proofs/Starred.antt).
+ghost use Prim.Native.Nat.{_≤_};
+ghost use lib.ListN.{length};
+use check::same;
+use check_digits::Made;
+use check_digits::Rule;
+use fillings::Listed;
+use libc::STDOUT_FILENO;
+use refusal::Answer;
+use refusal::Refusal;
+
+fn main() {
+    let mut input = [0u8; 262144];
+    let n = io::read_full(0, &mut input);
+    answer_all(&input[..n]);
+}
+
+// The place of the first byte b, or the length where there is none.
+fn find(s: &[u8], b: u8) -> usize
+    ensures { λ r. ⌜ r ≤ length (now (s .entry)) ⌝ }
+{
+    let mut i = 0;
+    while i < s.len() {
+        if s[i] == b {
+            return i;
+        }
+        i += 1;
+    }
+    i
+}
+
+// What stands after a place.
+fn beyond(s: &[u8], i: usize) -> &[u8] {
+    if i < s.len() {
+        return &s[i + 1..];
+    }
+    &s[..0]
+}
+
+// Answers each line.
+fn answer_all(s: &[u8]) {
+    let mut at = 0;
+    while at < s.len() {
+        let e = find(&s[at..], 10);
+        let end = at + e;
+        answer(&s[at..end]);
+        at = end + 1;
+    }
+}
+
+fn say(s: &[u8]) {
+    io::write_all(STDOUT_FILENO, s);
+}
+
+fn say_number(n: usize) {
+    io::print_decimal(STDOUT_FILENO, n as u64);
+}
+
+// Writes a line back with its answer.
+fn answer(line: &[u8]) {
+    say(line);
+    say(b" -> ");
+    let v = find(line, 32);
+    answer_verb(&line[..v], beyond(line, v));
+    say(b"\n");
+}
+
+fn answer_verb(verb: &[u8], rest: &[u8]) {
+    if same(verb, b"iban") {
+        judged(account::iban(rest));
+        return;
+    }
+    if same(verb, b"oib") {
+        judged(account::oib(rest));
+        return;
+    }
+    if same(verb, b"ref") {
+        let m = find(rest, 32);
+        judged(reference::reference(&rest[..m], beyond(rest, m)));
+        return;
+    }
+    answer_digits(verb, rest);
+}
+
+fn answer_digits(verb: &[u8], rest: &[u8]) {
+    let r = find(rest, 32);
+    if same(verb, b"check") {
+        check_by(&rest[..r], beyond(rest, r));
+        return;
+    }
+    if same(verb, b"make") {
+        make_by(&rest[..r], beyond(rest, r));
+        return;
+    }
+    answer_list(verb, rest);
+}
+
+fn answer_list(verb: &[u8], rest: &[u8]) {
+    if same(verb, b"list") {
+        list(rest, 10000);
+        return;
+    }
+    if same(verb, b"room") {
+        let r = find(rest, 32);
+        list(beyond(rest, r), decimal(&rest[..r]));
+        return;
+    }
+    say(b"unknown");
+}
+
+fn check_by(rule: &[u8], s: &[u8]) {
+    if same(rule, b"ini") {
+        judged(check_digits::checked(Rule::Ini, s));
+        return;
+    }
+    if same(rule, b"iso") {
+        judged(check_digits::checked(Rule::Mod1110, s));
+        return;
+    }
+    say(b"unknown");
+}
+
+fn make_by(rule: &[u8], s: &[u8]) {
+    if same(rule, b"ini") {
+        made(check_digits::make(Rule::Ini, s));
+        return;
+    }
+    if same(rule, b"iso") {
+        made(check_digits::make(Rule::Mod1110, s));
+        return;
+    }
+    say(b"unknown");
+}
+
+fn judged(answer: Answer) {
+    match answer {
+        Answer::Accepted => say(b"accepted"),
+        Answer::Refused(r) => refused(r),
+    }
+}
+
+fn made(digit: Made) {
+    match digit {
+        Made::Digit(d) => {
+            say(b"digit ");
+            say_number(d as usize);
+        }
+        Made::Refused(r) => refused(r),
+    }
+}
+
+fn refused(r: Refusal) {
+    say(b"refused ");
+    let n = refusal::number(r);
+    say_number(n as usize);
+    if n == 15 {
+        say(b" needed ");
+        say_number(refusal::needed(r));
+        return;
+    }
+    let p = refusal::told(r);
+    say(b" line ");
+    say_number(p.line);
+    say(b" field ");
+    say_number(p.field);
+    say(b" byte ");
+    say_number(p.byte);
+}
+
+// The number that decimal digits write, or 10,000 where that is more.
+fn decimal(s: &[u8]) -> usize
+    ensures { λ r. ⌜ r ≤ 10000 ⌝ }
+{
+    let mut n = 0;
+    let mut i = 0;
+    while i < s.len() {
+        n = one_more(n, s[i]);
+        i += 1;
+    }
+    n
+}
+
+fn one_more(n: usize, b: u8) -> usize
+    ensures { λ r. ⌜ r ≤ 10000 ⌝ }
+{
+    if n > 1000 {
+        return 10000;
+    }
+    if b < 48 {
+        return 10000;
+    }
+    let m = n * 10 + (b - 48) as usize;
+    if m > 10000 {
+        return 10000;
+    }
+    m
+}
+
+// Lists an IBAN, or a model and a reference, into `room` entries, 10,000 at most.
+fn list(line: &[u8], room: usize)
+    requires { ⌜ room ≤ 10000 ⌝ }
+{
+    let mut out = [0u16; 10000];
+    let d = find(line, 32);
+    if d == line.len() {
+        let r = fillings::list_iban(line, &mut out[..room]);
+        listed(r, text::count_marks(line), &out);
+        return;
+    }
+    let tail = beyond(line, d);
+    let r = fillings::list_reference(&line[..d], tail, &mut out[..room]);
+    listed(r, text::count_marks(tail), &out);
+}
+
+// Writes a listing: its count, and each number with as many digits as there are marks.
+fn listed(r: Listed, marks: usize, out: &[u16]) {
+    match r {
+        Listed::Count(n) => {
+            say_number(n);
+            say(b" fillings");
+            numbers(n, marks, out);
+        }
+        Listed::Refused(r) => refused(r),
+    }
+}
+
+fn numbers(n: usize, marks: usize, out: &[u16]) {
+    let mut i = 0;
+    while i < n {
+        if i < out.len() {
+            say(b" ");
+            padded(out[i], marks);
+        }
+        i += 1;
+    }
+}
+
+fn padded(n: u16, marks: usize) {
+    if marks > 3 {
+        if n < 1000 {
+            say(b"0");
+        }
+    }
+    if marks > 2 {
+        if n < 100 {
+            say(b"0");
+        }
+    }
+    if marks > 1 {
+        if n < 10 {
+            say(b"0");
+        }
+    }
+    say_number(n as usize);
+}
