@@ -1,0 +1,3 @@
+-- The definitions of the crate `characters`.
+pub mod Characters
+pub mod Answers
