@@ -11,7 +11,7 @@ use lib.Seq.{take-all, take-suc-set, take-append-le, take-nil}
 use borrow.Author.Tests.{ltb-true, ltb-false}
 use Rattle.line.specs.Kept.{Kept, took, feed}
 use Rattle.line.specs.Line.{before, after, has, lineOf, headOf, tailOf}
-use Rattle.line.proofs.Laws.{taken, left, entered, feed-ended}
+use Rattle.line.proofs.Laws.{taken, left, took-feed, took-behind, took-space, took-ahead, feed-ended}
 
 -- ---------------------------------------------------------------------------
 -- One side
@@ -65,23 +65,20 @@ cases false t f = f refl
 module _ (m n : ℕ) where
   -- a line feed ends the line
   feeds : (hs ts : List ℕ) (spaced : Bool) (k : Kept) (b : ℕ) → State m n hs ts spaced false k → eqb b 10 ≡ true → State m n hs ts spaced true (took k b)
-  unfolding took
   feeds hs ts spaced k b g e =
-      subst (State m n hs ts spaced true) (left _ _ _ _ (g .is-ended) (taken _ _ _ e))
+      subst (State m n hs ts spaced true) (took-feed k b (g .is-ended) e)
       (record { head = g .head; tail = g .tail; is-spaced = g .is-spaced; is-ended = refl })
 
   -- the first space divides it
   divides : (hs ts : List ℕ) (k : Kept) (b : ℕ) → State m n hs ts false false k → eqb b 10 ≡ false → eqb b 32 ≡ true → State m n hs ts true false (took k b)
-  unfolding took
   divides hs ts k b g e f =
-      subst (State m n hs ts true false) (left _ _ _ _ (g .is-ended) (left _ _ _ _ e (left _ _ _ _ (g .is-spaced) (taken _ _ _ f))))
+      subst (State m n hs ts true false) (took-space k b (g .is-ended) e (g .is-spaced) f)
       (record { head = g .head; tail = g .tail; is-spaced = refl; is-ended = refl })
 
   -- a byte after the space is the tail's
   behind : (hs ts : List ℕ) (k : Kept) (b : ℕ) → State m n hs ts true false k → eqb b 10 ≡ false → State m n hs (ts ++ (b ∷ [])) true false (took k b)
-  unfolding took
   behind hs ts k b g e =
-      subst (State m n hs (ts ++ (b ∷ [])) true false) (left _ _ _ _ (g .is-ended) (left _ _ _ _ e (entered _ _ _ _ (g .is-spaced) refl)))
+      subst (State m n hs (ts ++ (b ∷ [])) true false) (took-behind k b (g .is-ended) e (g .is-spaced))
       (cases (ltb (k .seen .tail) (length (k .tail)))
       (λ r. subst (State m n hs (ts ++ (b ∷ [])) true false) (taken _ _ _ r)
       (record { head = g .head; tail = holds-more n _ _ ts b (g .tail) (ltb-true _ _ r); is-spaced = refl; is-ended = refl }))
@@ -90,9 +87,8 @@ module _ (m n : ℕ) where
 
   -- any other before the space is the head's
   ahead : (hs ts : List ℕ) (k : Kept) (b : ℕ) → State m n hs ts false false k → eqb b 10 ≡ false → eqb b 32 ≡ false → State m n (hs ++ (b ∷ [])) ts false false (took k b)
-  unfolding took
   ahead hs ts k b g e f =
-      subst (State m n (hs ++ (b ∷ [])) ts false false) (left _ _ _ _ (g .is-ended) (left _ _ _ _ e (left _ _ _ _ (g .is-spaced) (left _ _ _ _ f refl))))
+      subst (State m n (hs ++ (b ∷ [])) ts false false) (took-ahead k b (g .is-ended) e (g .is-spaced) f)
       (cases (ltb (k .seen .head) (length (k .head)))
       (λ r. subst (State m n (hs ++ (b ∷ [])) ts false false) (taken _ _ _ r)
       (record { head = holds-more m _ _ hs b (g .head) (ltb-true _ _ r); tail = g .tail; is-spaced = refl; is-ended = refl }))

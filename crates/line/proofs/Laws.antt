@@ -1,13 +1,15 @@
--- Laws that the proofs here cite: of choices on a test, and of the bytes that the loop feeds. Assumes nothing.
+-- Laws that the proofs here cite: of choices on a test, of one byte, and of the bytes that the loop feeds. Assumes nothing.
 use mathlib.Core.Path.{_≡_, refl, ap}
 use mathlib.Core.Bool.{Bool, true, false, cond}
 use mathlib.Core.List.{List, [], _∷_}
 use Prim.Native.Nat.{ℕ, _+_, _≤_, _<_}
 use native.Mathlib.Numerals.{add-one}
 use native.Mathlib.Omega.{arith}
+use lib.Dec.{eqb}
 use lib.ListN.{length, drop, getD}
 use lib.Seq.{drop-cons, drop-length}
-use Rattle.line.specs.Kept.{Kept, took, feed}
+use Rattle.line.specs.Kept.{Kept, keptOf, took, feed}
+use Rattle.line.specs.Sides.{tookTail, tookHead}
 
 -- ---------------------------------------------------------------------------
 -- Choices on a test
@@ -29,13 +31,38 @@ module _ {A : Type 0} where
   entered false x y r e h = let z : _≡_ {A = ℕ} 0 1 = cc in absurd (omega arith)
 
 -- ---------------------------------------------------------------------------
+-- What one byte does, by the tests that lead there
+
+module _ (k : Kept) (b : ℕ) where
+  -- after the line's end no byte changes anything
+  pub took-ended : k .seen .ended ≡ true → k ≡ took k b
+  unfolding took
+  took-ended e = taken _ _ _ e
+
+  -- a line feed ends the line
+  pub took-feed : k .seen .ended ≡ false → eqb b 10 ≡ true → keptOf (record { head = k .seen .head; tail = k .seen .tail; spaced = k .seen .spaced; ended = true }) (k .head) (k .tail) ≡ took k b
+  unfolding took
+  took-feed e f = left _ _ _ _ e (taken _ _ _ f)
+
+  -- a byte after the space is the tail's
+  pub took-behind : k .seen .ended ≡ false → eqb b 10 ≡ false → k .seen .spaced ≡ true → tookTail k b ≡ took k b
+  unfolding took
+  took-behind e f g = left _ _ _ _ e (left _ _ _ _ f (entered _ _ _ _ g refl))
+
+  -- the first space divides the line
+  pub took-space : k .seen .ended ≡ false → eqb b 10 ≡ false → k .seen .spaced ≡ false → eqb b 32 ≡ true → keptOf (record { head = k .seen .head; tail = k .seen .tail; spaced = true; ended = false }) (k .head) (k .tail) ≡ took k b
+  unfolding took
+  took-space e f g h = left _ _ _ _ e (left _ _ _ _ f (left _ _ _ _ g (taken _ _ _ h)))
+
+  -- any other before the space is the head's
+  pub took-ahead : k .seen .ended ≡ false → eqb b 10 ≡ false → k .seen .spaced ≡ false → eqb b 32 ≡ false → tookHead k b ≡ took k b
+  unfolding took
+  took-ahead e f g h = left _ _ _ _ e (left _ _ _ _ f (left _ _ _ _ g (left _ _ _ _ h refl)))
+
+-- ---------------------------------------------------------------------------
 -- What is fed
 
--- after the line's end no byte changes anything
-pub took-ended : (k : Kept) (b : ℕ) → k .seen .ended ≡ true → k ≡ took k b
-unfolding took
-took-ended k b e = taken _ _ _ e
-
+-- after the line's end no text changes anything
 pub feed-ended : (k : Kept) (s : List ℕ) → k .seen .ended ≡ true → k ≡ feed k s
 unfolding feed
 feed-ended k [] e = refl

@@ -21,6 +21,8 @@ pub record LineKept (m n : ℕ) (s : List ℕ) (k : Kept) : Type 0 where
   pub ended : k .seen .ended ≡ has 10 s
   pub head-within : k .seen .head ≤ m
   pub tail-within : k .seen .tail ≤ n
+  pub head-size : length (k .head) ≡ m
+  pub tail-size : length (k .tail) ≡ n
 
 -- so does what any text leads to, from nothing seen, over any two arrays of m and of n bytes
 pub line-is-kept : (m n : ℕ) (s head₀ tail₀ : List ℕ) → length head₀ ≡ m → length tail₀ ≡ n → LineKept m n s (feed (keptOf starting head₀ tail₀) s)
@@ -33,4 +35,6 @@ line-is-kept m n s head₀ tail₀ g h =
       ended = z .is-ended;
       head-within = z .head .within;
       tail-within = z .tail .within;
+      head-size = z .head .size;
+      tail-size = z .tail .size;
     }

@@ -4,7 +4,7 @@ use mathlib.Core.Bool.{Bool, true, false, cond, not, _&&_, _||_}
 use mathlib.Core.List.{List, [], _∷_}
 use lib.Dec.{eqb, leb}
 use Rattle.text.specs.declared.Class.{Class}
-use Rattle.text.specs.declared.Class.the-variants.{Digits, Account, Reference, WetAccount, WetReference, Dry, Part}
+use Rattle.text.specs.declared.Class.the-variants.{Digits, Account, Reference, WetAccount, WetReference, Dry, Part, Line, Letters}
 use Rattle.text.specs.declared.Found.{Found}
 use Rattle.text.specs.declared.Found.the-variants.{At, Nothing}
 
@@ -23,7 +23,7 @@ isLetter b = leb 65 b && leb b 90
 abbrev pub isReferenceByte : ℕ → Bool
 isReferenceByte b = isDigit b || eqb b 45
 
--- the bytes that each class permits; `-` is 45, `?` is 63
+-- the bytes that each class permits; a line feed is 10, `-` is 45, `?` is 63
 abbrev pub permits : Class → ℕ → Bool
 permits Digits b = isDigit b
 permits Account b = isDigit b || isLetter b
@@ -32,6 +32,8 @@ permits WetAccount b = isDigit b || eqb b 63
 permits WetReference b = isReferenceByte b || eqb b 63
 permits Dry b = not (eqb b 63)
 permits Part b = not (eqb b 45)
+permits Line b = not (eqb b 10)
+permits Letters b = isLetter b
 
 -- ---------------------------------------------------------------------------
 -- "For 3, byte is the first offending byte"

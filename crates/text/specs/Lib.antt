@@ -1,3 +1,4 @@
 -- The definitions of the crate `text`.
 pub mod Bytes
 pub mod Digits
+pub mod Split

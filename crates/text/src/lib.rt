@@ -4,7 +4,7 @@
 // classes; specs/Bytes.antt says them once.
 ghost use mathlib.Core.Path.{_≡_};
 ghost use Rattle.text.specs.Digits.{twoDigits};
-ghost use Rattle.text.specs.Bytes.{permits, isDigit, firstBad, allOf, marks};
+ghost use Rattle.text.specs.Bytes.{permits, isDigit, isLetter, firstBad, allOf, marks};
 
 // The classes of bytes that document 01 names.
 pub enum Class {
@@ -22,6 +22,10 @@ pub enum Class {
     Dry,
     // Everything but a hyphen: what stops at it is the end of a part.
     Part,
+    // Everything but a line feed: what stops at it is the end of a line.
+    Line,
+    // A to Z: a purpose.
+    Letters,
 }
 
 // Where a scan stopped.
@@ -65,7 +69,18 @@ pub fn permitted(class: Class, b: u8) -> bool
         Class::WetReference => is_wet_reference_byte(b),
         Class::Dry => b != 63,
         Class::Part => b != 45,
+        Class::Line => b != 10,
+        Class::Letters => is_letter(b),
     }
+}
+
+fn is_letter(b: u8) -> bool
+    ensures { λ r. ⌜ r ≡ isLetter b ⌝ }
+{
+    if b < 65 {
+        return false;
+    }
+    b <= 90
 }
 
 fn is_account_byte(b: u8) -> bool
@@ -74,10 +89,7 @@ fn is_account_byte(b: u8) -> bool
     if is_digit(b) {
         return true;
     }
-    if b < 65 {
-        return false;
-    }
-    b <= 90
+    is_letter(b)
 }
 
 fn is_reference_byte(b: u8) -> bool

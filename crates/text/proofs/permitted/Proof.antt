@@ -7,6 +7,7 @@ use Rattle.text.proofs.permitted.Reads as reads
 use Rattle.text.proofs.permitted.Lts as lts
 use Rattle.text.proofs.is_account_byte.Reads as is-account-byte-reads
 use Rattle.text.proofs.is_digit.Reads as is-digit-reads
+use Rattle.text.proofs.is_letter.Reads as is-letter-reads
 use Rattle.text.proofs.is_reference_byte.Reads as is-reference-byte-reads
 use Rattle.text.proofs.is_wet_digit.Reads as is-wet-digit-reads
 use Rattle.text.proofs.is_wet_reference_byte.Reads as is-wet-reference-byte-reads
@@ -47,6 +48,15 @@ enum-told-6 c = search needs
 enum-told-7 : tie.Need-enum-told-7
 enum-told-7 c = search needs
 
+enum-told-8 : tie.Need-enum-told-8
+enum-told-8 c = search needs
+
+enum-told-9 : tie.Need-enum-told-9
+enum-told-9 c = search needs
+
+is-letter-requires : tie.Need-is-letter-requires
+is-letter-requires c κs = search needs
+
 returns : tie.Need-returns
 returns c = rw (c .before .enum-told .given .1) (c .is-digit .ensures)
 
@@ -68,6 +78,12 @@ returns-6 c = rw (c .enum-told6 .given .1)
 returns-7 : tie.Need-returns-7
 returns-7 c = rw (c .enum-told7 .given .1)
 
+returns-8 : tie.Need-returns-8
+returns-8 c = rw (c .enum-told8 .given .1)
+
+returns-9 : tie.Need-returns-9
+returns-9 c = rw (c .before .enum-told9 .given .1) (c .is-letter .ensures)
+
 pub permitted-spec : {M : Type 1} → statement M
 permitted-spec =
     tie.close
@@ -84,10 +100,15 @@ permitted-spec =
     is-wet-reference-byte-requires
     enum-told-6
     enum-told-7
+    enum-told-8
+    enum-told-9
+    is-letter-requires
     returns
     returns-2
     returns-3
     returns-4
     returns-5
     returns-6
-    returns-7)
+    returns-7
+    returns-8
+    returns-9)
