@@ -4,7 +4,7 @@ use Prim.Native.Nat.{ℕ, zero, suc, _-_}
 use mathlib.Core.Bool.{Bool, true, cond, _&&_}
 use mathlib.Core.List.{List, [], _∷_}
 use lib.Dec.{eqb}
-use lib.ListN.{take, drop}
+use lib.ListN.{length, take, drop}
 use Rattle.text.specs.Bytes.{later}
 use Rattle.text.specs.declared.Found.{Found}
 use Rattle.text.specs.declared.Found.the-variants.{At, Nothing}
@@ -18,14 +18,18 @@ afterHyphens zero s = At 0
 afterHyphens (suc k) [] = Nothing
 afterHyphens (suc k) (b ∷ s) = later (cond (eqb b 45) (afterHyphens k s) (afterHyphens (suc k) s))
 
--- the stretch before the hyphen that ends it; no part is no stretch, and passes
-abbrev pub stretchHolds : Rule → List ℕ → Found → Bool
-stretchHolds rule s (At e) = cond (eqb e 0) true (passes rule (take (e - 1) s))
-stretchHolds rule s Nothing = passes rule s
+-- a stretch of text ends in its check digit; no byte is no part, and is not checked
+abbrev pub stretchHolds : Rule → List ℕ → Bool
+stretchHolds rule s = cond (eqb (length s) 0) true (passes rule s)
+
+-- the text before the hyphen that stands before a place, or all of it
+abbrev pub before : List ℕ → Found → List ℕ
+before s (At e) = take (e - 1) s
+before s Nothing = s
 
 -- the first parts of a text
 abbrev pub headHolds : Rule → ℕ → List ℕ → Bool
-headHolds rule joins s = stretchHolds rule s (afterHyphens joins s)
+headHolds rule joins s = stretchHolds rule (before s (afterHyphens joins s))
 
 -- the parts from a place on
 abbrev pub heldFrom : Group → List ℕ → Found → Bool

@@ -2,7 +2,7 @@
 use Prim.Native.Nat.{ℕ, suc, _+_, _-_}
 use mathlib.Core.Bool.{Bool, true, false, cond, _&&_}
 use mathlib.Core.List.{List, [], _∷_, _++_}
-use lib.Dec.{eqb, leb}
+use lib.Dec.{eqb, leb, ltb}
 use lib.ListN.{length, take, drop}
 use Rattle.text.specs.Bytes.{allOf}
 use Rattle.text.specs.declared.Class.the-variants.{Digits}
@@ -11,7 +11,7 @@ use Rattle.models.specs.declared.Group.{Group}
 use Rattle.models.specs.declared.Model.{Model}
 
 -- ---------------------------------------------------------------------------
--- "Parts are digits, joined by hyphens"
+-- "Parts are digits, joined by hyphens, none empty"
 
 -- a byte more at the front of the first part
 abbrev pub longer : ℕ → List (List ℕ) → List (List ℕ)
@@ -31,13 +31,14 @@ partsOf (b ∷ s) = split (b ∷ s)
 -- ---------------------------------------------------------------------------
 -- Number and lengths of parts (8)
 
--- each part is digits, of a length that the model gives its place: least, most, least, most ..
+-- each part is digits, not empty, of a length that the model gives its place: least, most, least, most ..
 unfoldable pub partsFit : List ℕ → List (List ℕ) → Bool
 partsFit lengths [] = true
 partsFit [] (p ∷ ps) = false
 partsFit (least ∷ []) (p ∷ ps) = false
 partsFit (least ∷ (most ∷ lengths)) (p ∷ ps) =
-    allOf Digits p && (leb least (length p) && (leb (length p) most && partsFit lengths ps))
+    allOf Digits p &&
+    (ltb 0 (length p) && (leb least (length p) && (leb (length p) most && partsFit lengths ps)))
 
 -- as many parts as the model asks, each of its length
 unfoldable pub formed : Model → List ℕ → Bool

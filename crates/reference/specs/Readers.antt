@@ -9,9 +9,10 @@ use Rattle.text.specs.Bytes.{isDigit}
 use Rattle.reference.specs.declared.Read.{Read}
 use Rattle.reference.specs.declared.Read.the-variants.{Parts, Broken}
 
--- a part of n digits fits the next lengths, least and most
+-- a part of n digits, not empty, fits the next lengths, least and most
 abbrev pub fitsNext : List ℕ → ℕ → Bool
-fitsNext lengths n = ltb 1 (length lengths) && (leb (getD lengths 0 0) n && leb n (getD lengths 1 0))
+fitsNext lengths n =
+    ltb 1 (length lengths) && (ltb 0 n && (leb (getD lengths 0 0) n && leb n (getD lengths 1 0)))
 
 -- a part is read only where there are lengths for it
 abbrev pub begun : List ℕ → Read → Read

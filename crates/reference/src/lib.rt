@@ -8,7 +8,7 @@ ghost use Prim.Native.Nat.{_≤_, _<_, _+_, _^_};
 ghost use lib.Dec.{leb};
 ghost use lib.ListN.{length};
 ghost use Rattle.reference.specs.Parts.{formed};
-ghost use Rattle.reference.specs.Groups.{afterHyphens, headHolds, groupHolds, groupsHold};
+ghost use Rattle.reference.specs.Groups.{afterHyphens, stretchHolds, headHolds, groupHolds, groupsHold};
 ghost use Rattle.reference.specs.Readers.{fitsNext, partRead, digitRead};
 ghost use Rattle.reference.specs.Answers.{byteAt, obeyAnswer, textAnswer, referenceAnswer};
 ghost use Rattle.text.specs.Bytes.{firstBad};
@@ -30,17 +30,26 @@ pub enum Read {
 // ---------------------------------------------------------------------------
 // Parts
 
-// Whether a part of n digits fits the next lengths, least and most.
+fn wide(b: u8) -> usize
+    ensures { λ r. ⌜ r ≡ b ⌝ }
+{
+    b as usize
+}
+
+// Whether a part of n digits, not empty, fits the next lengths, least and most.
 fn fits(lengths: &[u8], n: usize) -> bool
     ensures { λ r. ⌜ r ≡ fitsNext (now (lengths .entry)) n ⌝ }
 {
     if lengths.len() < 2 {
         return false;
     }
-    if n < lengths[0] as usize {
+    if n == 0 {
         return false;
     }
-    n <= lengths[1] as usize
+    if n < wide(lengths[0]) {
+        return false;
+    }
+    n <= wide(lengths[1])
 }
 
 // Reads a part, the first of what is left, after `count` parts: its digits, where the model has lengths for it.
@@ -130,6 +139,16 @@ fn after(s: &[u8], k: usize) -> Found
     Found::Nothing
 }
 
+// Whether a stretch of text ends in its check digit; with no byte there is no part, and it is not checked.
+fn stretch_holds(rule: Rule, s: &[u8]) -> bool
+    ensures { λ r. ⌜ r ≡ stretchHolds rule (now (s .entry)) ⌝ }
+{
+    if s.len() == 0 {
+        return true;
+    }
+    check_digits::ends_right(rule, s)
+}
+
 // Whether the first `joins` parts of a text end in their check digit.
 fn head_holds(rule: Rule, joins: usize, s: &[u8]) -> bool
     ensures { λ r. ⌜ r ≡ headHolds rule joins (now (s .entry)) ⌝ }
@@ -140,9 +159,9 @@ fn head_holds(rule: Rule, joins: usize, s: &[u8]) -> bool
                 return true;
             }
             let end = e - 1;
-            check_digits::ends_right(rule, &s[..end])
+            stretch_holds(rule, &s[..end])
         }
-        Found::Nothing => check_digits::ends_right(rule, s),
+        Found::Nothing => stretch_holds(rule, s),
     }
 }
 

@@ -1,0 +1,450 @@
+-- From how the code goes through a reference (specs/Readers.antt, specs/Groups.antt) to its parts and check groups (specs/Parts.antt).
+-- Assumes nothing.
+use mathlib.Core.Path.{_≡_, refl, sym, ap, _∙_}
+use mathlib.Core.Bool.{Bool, true, false, cond, _&&_, and-true, and-false, and-assoc, false≢true}
+use mathlib.Core.List.{List, [], _∷_, _++_}
+use mathlib.Core.Logic.{_⊎_, inl, inr, ⊎-elim}
+use Prim.Native.Nat.{ℕ, zero, suc, _+_, _-_, _≤_, _<_}
+use native.Mathlib.Numerals.{add-one}
+use native.Mathlib.Omega.{arith}
+use native.Mathlib.Nat.{add-zero, zero-add}
+use lib.Dec.{eqb, leb, ltb, eqb·suc-zero, leb·suc-zero}
+use lib.ListN.{length, take, drop, getD, length-drop, drop-of-length-le}
+use lib.Seq.{drop-cons, drop-length, drop-nil, take-nil, take-all}
+use borrow.Author.Tests.{eq-eqb, ne-eqb, eqb-true, lt-ltb, le-ltb, le-leb, lt-leb, ltb-true}
+use Rattle.text.specs.Bytes.{isDigit, allOf, later}
+use Rattle.text.specs.Digits.{digitsOf}
+use Rattle.text.specs.declared.Class.the-variants.{Digits}
+use Rattle.text.specs.declared.Found.{Found}
+use Rattle.text.specs.declared.Found.the-variants.{At, Nothing}
+use Rattle.text.proofs.Laws.{taken, left, entered, and-first, and-second, both-true, shifted, shifted-later}
+use Rattle.check_digits.specs.declared.Rule.{Rule}
+use Rattle.check_digits.specs.CheckDigit.{checkDigit, passes}
+use Rattle.check_digits.proofs.Theorems.{passes-snoc}
+use Rattle.models.specs.declared.Group.{Group}
+use Rattle.models.specs.declared.Model.{Model}
+use Rattle.reference.specs.declared.Read.{Read}
+use Rattle.reference.specs.declared.Read.the-variants.{Parts, Broken}
+use Rattle.reference.specs.Parts.{longer, split, partsOf, partsFit, formed, joined, present, groupRight, groupsRight}
+use Rattle.reference.specs.Readers.{fitsNext, begun, digitRead, partRead}
+use Rattle.reference.specs.Groups.{afterHyphens, stretchHolds, before, headHolds, heldFrom, groupHolds, groupsHold}
+
+-- ---------------------------------------------------------------------------
+-- The readers' turns
+
+-- what the code lends as `&s[k..]` is all from k on
+pub from-place : {A : Type 0} (k : ℕ) (s : List A) → take (length s - k) (drop k s) ≡ drop k s
+from-place k s = take-all (length s - k) (drop k s) (omega (arith, length-drop k s))
+
+-- a part that fits has lengths
+pub fits-lengths : (lengths : List ℕ) (n : ℕ) → fitsNext lengths n ≡ true → 1 < length lengths
+fits-lengths lengths n e = ltb-true 1 (length lengths) (both-true _ _ e .0)
+
+module _ (lengths : List ℕ) (n count : ℕ) where
+  pub last-fits : (s : List ℕ) → length s ≡ 0 → fitsNext lengths n ≡ true → Parts (count + 1) ≡ digitRead lengths n count s
+  unfolding digitRead
+  last-fits [] h e = taken _ _ _ e
+  last-fits (b ∷ s) h e = absurd (omega arith)
+
+  pub last-breaks : (s : List ℕ) → length s ≡ 0 → fitsNext lengths n ≡ false → Broken ≡ digitRead lengths n count s
+  unfolding digitRead
+  last-breaks [] h e = left _ _ _ _ e refl
+  last-breaks (b ∷ s) h e = absurd (omega arith)
+
+  pub hyphen-fits : (s : List ℕ) (r : Read) → (length s ≡ 0 → ⊥) → getD s 0 0 ≡ 45 → fitsNext lengths n ≡ true → r ≡ partRead (take (length lengths - 2) (drop 2 lengths)) (count + 1) (take (length s - 1) (drop 1 s)) → r ≡ digitRead lengths n count s
+  unfolding digitRead
+  hyphen-fits [] r some h e f = absurd (some refl)
+  hyphen-fits (b ∷ s) r some h e f = entered _ _ _ _ (eq-eqb b 45 h) (entered _ _ _ _ e (rw (from-place 2 lengths, from-place 1 (b ∷ s)) at f))
+
+  pub hyphen-breaks : (s : List ℕ) → (length s ≡ 0 → ⊥) → getD s 0 0 ≡ 45 → fitsNext lengths n ≡ false → Broken ≡ digitRead lengths n count s
+  unfolding digitRead
+  hyphen-breaks [] some h e = absurd (some refl)
+  hyphen-breaks (b ∷ s) some h e = entered _ _ _ _ (eq-eqb b 45 h) (left _ _ _ _ e refl)
+
+  pub digit-reads : (s : List ℕ) (r : Read) → (length s ≡ 0 → ⊥) → (getD s 0 0 ≡ 45 → ⊥) → isDigit (getD s 0 0) ≡ true → r ≡ digitRead lengths (n + 1) count (take (length s - 1) (drop 1 s)) → r ≡ digitRead lengths n count s
+  unfolding digitRead
+  digit-reads [] r some h e f = absurd (some refl)
+  digit-reads (b ∷ s) r some h e f = left _ _ _ _ (ne-eqb b 45 h) (entered _ _ _ _ e (rw (from-place 1 (b ∷ s)) at f))
+
+  pub other-breaks : (s : List ℕ) → (length s ≡ 0 → ⊥) → (getD s 0 0 ≡ 45 → ⊥) → isDigit (getD s 0 0) ≡ false → Broken ≡ digitRead lengths n count s
+  unfolding digitRead
+  other-breaks [] some h e = absurd (some refl)
+  other-breaks (b ∷ s) some h e = left _ _ _ _ (ne-eqb b 45 h) (left _ _ _ _ e refl)
+
+-- ---------------------------------------------------------------------------
+-- What the readers read are the parts
+
+-- the parts fit, where n digits more stand before the first
+unfoldable restFits : List ℕ → ℕ → List (List ℕ) → Bool
+restFits lengths n [] = true
+restFits lengths n (p ∷ ps) = allOf Digits p && (fitsNext lengths (n + length p) && partsFit (drop 2 lengths) ps)
+
+-- a text has a first part
+pub first-part : (s : List ℕ) → (p : List ℕ) × (ps : List (List ℕ)) × (split s ≡ p ∷ ps)
+unfolding split
+first-part [] = ([], [], refl)
+first-part (b ∷ s) = go (eqb b 45) (first-part s)
+  where
+    go : (h : Bool) → (p : List ℕ) × (ps : List (List ℕ)) × (split s ≡ p ∷ ps) → (p : List ℕ) × (ps : List (List ℕ)) × (cond h ([] ∷ split s) (longer b (split s)) ≡ p ∷ ps)
+    go true w = ([], split s, refl)
+    go false w = (b ∷ w .0, w .1, ap (longer b) (w .2))
+
+four : (x y z w : Bool) → (x && (y && z) && w) ≡ (x && (y && (z && w)))
+four true y z w = and-assoc y z w
+four false y z w = refl
+
+-- reading a part asks for its lengths
+part-begins : (lengths p : List ℕ) (ps : List (List ℕ)) (r : Read) → begun lengths (cond (restFits lengths 0 (p ∷ ps)) r Broken) ≡ cond (partsFit lengths (p ∷ ps)) r Broken
+unfolding restFits partsFit
+part-begins [] p ps r = refl
+part-begins (l ∷ []) p ps r = refl
+part-begins (l ∷ (m ∷ ls)) p ps r =
+    rw (lt-ltb 1 (suc (suc (length ls))) (omega arith), zero-add (length p))
+    (ap (λ (t : Bool). cond t r Broken) (ap (λ (t : Bool). allOf Digits p && t) (four (ltb 0 (length p)) (leb l (length p)) (leb (length p) m) (partsFit ls ps))))
+
+-- one test after the other is both
+both : (t u : Bool) (x y z : Read) → x ≡ y → cond t (cond u x z) z ≡ cond (t && u) y z
+both true true x y z e = e
+both true false x y z e = refl
+both false u x y z e = refl
+
+module _ (lengths : List ℕ) (n count : ℕ) (b : ℕ) (s p : List ℕ) (ps : List (List ℕ)) (e : split s ≡ p ∷ ps) where
+  -- a hyphen hands over to the next part
+  read-hyphen :
+      digitRead (drop 2 lengths) 0 (count + 1) s ≡ cond (restFits (drop 2 lengths) 0 (split s)) (Parts (count + 1 + length (split s))) Broken →
+      cond (fitsNext lengths n) (partRead (drop 2 lengths) (count + 1) s) Broken ≡ cond (restFits lengths n ([] ∷ split s)) (Parts (count + suc (length (split s)))) Broken
+  unfolding restFits allOf
+  read-hyphen h =
+      let m : count + 1 + suc (length ps) ≡ count + suc (suc (length ps)) = omega arith in
+      rw (h, e, part-begins (drop 2 lengths) p ps, add-zero n) (both (fitsNext lengths n) (partsFit (drop 2 lengths) (p ∷ ps)) _ _ _ (ap Parts m))
+
+  -- a digit is one more
+  read-digit :
+      digitRead lengths (n + 1) count s ≡ cond (restFits lengths (n + 1) (split s)) (Parts (count + length (split s))) Broken →
+      cond (isDigit b) (digitRead lengths (n + 1) count s) Broken ≡ cond (restFits lengths n (longer b (split s))) (Parts (count + length (longer b (split s)))) Broken
+  unfolding restFits allOf
+  read-digit h =
+      let m : n + 1 + length p ≡ n + suc (length p) = omega arith in
+      rw (h, e, m, and-assoc (isDigit b)) (both (isDigit b) (allOf Digits p && (fitsNext lengths (n + suc (length p)) && partsFit (drop 2 lengths) ps)) _ _ _ refl)
+
+read-parts : (lengths : List ℕ) (n count : ℕ) (s : List ℕ) → digitRead lengths n count s ≡ cond (restFits lengths n (split s)) (Parts (count + length (split s))) Broken
+unfolding digitRead restFits split partsFit allOf
+read-parts lengths n count [] = rw (add-zero n, and-true)
+read-parts lengths n count (b ∷ s) = go (eqb b 45) (first-part s) (read-parts (drop 2 lengths) 0 (count + 1) s) (read-parts lengths (n + 1) count s)
+  where
+    go : (h : Bool) → (p : List ℕ) × (ps : List (List ℕ)) × (split s ≡ p ∷ ps) →
+        digitRead (drop 2 lengths) 0 (count + 1) s ≡ cond (restFits (drop 2 lengths) 0 (split s)) (Parts (count + 1 + length (split s))) Broken →
+        digitRead lengths (n + 1) count s ≡ cond (restFits lengths (n + 1) (split s)) (Parts (count + length (split s))) Broken →
+        cond h (cond (fitsNext lengths n) (partRead (drop 2 lengths) (count + 1) s) Broken) (cond (isDigit b) (digitRead lengths (n + 1) count s) Broken) ≡ cond (restFits lengths n (cond h ([] ∷ split s) (longer b (split s)))) (Parts (count + length (cond h ([] ∷ split s) (longer b (split s))))) Broken
+    go true w f g = read-hyphen lengths n count b s (w .0) (w .1) (w .2) f
+    go false w f g = read-digit lengths n count b s (w .0) (w .1) (w .2) g
+
+read-part : (lengths : List ℕ) (s : List ℕ) → partRead lengths 0 s ≡ cond (partsFit lengths (split s)) (Parts (length (split s))) Broken
+read-part lengths s = let w = first-part s in rw (read-parts lengths 0 0 s, w .2, zero-add) (part-begins lengths (w .0) (w .1) (Parts (suc (length (w .1)))))
+
+-- what is read says whether a text is formed
+abbrev pub readFormed : Model → Read → Bool
+readFormed model (Parts n) = leb (model .fewest) n && leb n (model .most)
+readFormed model Broken = false
+
+pub formed-none : (model : Model) (s : List ℕ) → length s ≡ 0 → eqb (model .fewest) 0 ≡ formed model s
+unfolding formed partsOf partsFit
+formed-none model [] h = rw (and-true, le-leb 0 (model .most) (omega arith), and-true) (go (model .fewest))
+  where
+    go : (n : ℕ) → eqb n 0 ≡ leb n 0
+    go zero = refl
+    go (suc n) = eqb·suc-zero n ∙ sym (leb·suc-zero n)
+formed-none model (b ∷ s) h = absurd (omega arith)
+
+pub formed-read : (model : Model) (s : List ℕ) → (length s ≡ 0 → ⊥) → readFormed model (partRead (model .lengths) 0 s) ≡ formed model s
+unfolding formed partsOf
+formed-read model [] h = absurd (h refl)
+formed-read model (b ∷ s) h = rw (read-part (model .lengths) (b ∷ s)) (go (partsFit (model .lengths) (split (b ∷ s))))
+  where
+    go : (t : Bool) → readFormed model (cond t (Parts (length (split (b ∷ s)))) Broken) ≡ (leb (model .fewest) (length (split (b ∷ s))) && (leb (length (split (b ∷ s))) (model .most) && t))
+    go true = rw and-true
+    go false = rw (and-false, and-false)
+
+-- ---------------------------------------------------------------------------
+-- The place after hyphens, from place i on
+
+turn-hyphen : (b : ℕ) (s : List ℕ) (i n : ℕ) → (n ≡ 0 → ⊥) → b ≡ 45 → shifted i (afterHyphens n (b ∷ s)) ≡ shifted (i + 1) (afterHyphens (n - 1) s)
+unfolding afterHyphens
+turn-hyphen b s i zero h e = absurd (h refl)
+turn-hyphen b s i (suc n) h e =
+    let m : n ≡ suc n - 1 = omega arith in
+    rw (eq-eqb b 45 e) (shifted-later i (afterHyphens n s) ∙ ap (λ (k : ℕ). shifted (i + 1) (afterHyphens k s)) m)
+
+turn-other : (b : ℕ) (s : List ℕ) (i n : ℕ) → (n ≡ 0 → ⊥) → (b ≡ 45 → ⊥) → shifted i (afterHyphens n (b ∷ s)) ≡ shifted (i + 1) (afterHyphens n s)
+unfolding afterHyphens
+turn-other b s i zero h e = absurd (h refl)
+turn-other b s i (suc n) h e = rw (ne-eqb b 45 e) (shifted-later i (afterHyphens (suc n) s))
+
+module _ (s : List ℕ) (i n : ℕ) where
+  pub after-none : n ≡ 0 → At i ≡ shifted i (afterHyphens n (drop i s))
+  unfolding afterHyphens shifted
+  after-none e = rw e (ap At (sym (add-zero i)))
+
+  pub after-hyphen : i < length s → (n ≡ 0 → ⊥) → getD s i 0 ≡ 45 → shifted i (afterHyphens n (drop i s)) ≡ shifted (i + 1) (afterHyphens (n - 1) (drop (i + 1) s))
+  after-hyphen h g e = rw (drop-cons s i 0 h, add-one i) (turn-hyphen (getD s i 0) (drop (suc i) s) i n g e ∙ rw add-one)
+
+  pub after-other : i < length s → (n ≡ 0 → ⊥) → (getD s i 0 ≡ 45 → ⊥) → shifted i (afterHyphens n (drop i s)) ≡ shifted (i + 1) (afterHyphens n (drop (i + 1) s))
+  after-other h g e = rw (drop-cons s i 0 h, add-one i) (turn-other (getD s i 0) (drop (suc i) s) i n g e ∙ rw add-one)
+
+pub after-end : (s : List ℕ) (i n : ℕ) → length s ≤ i → i ≤ length s → (n ≡ 0 → ⊥) → Nothing ≡ shifted i (afterHyphens n (drop i s))
+unfolding afterHyphens shifted
+after-end s i zero f g h = absurd (h refl)
+after-end s i (suc n) f g h = let e : i ≡ length s = omega arith in rw (e, drop-length)
+
+-- a place lies in a text of n bytes
+abbrev pub Within : ℕ → Found → Type 0
+Within n (At a) = a ≤ n
+Within n Nothing = Unit
+
+within-later : (n : ℕ) (f : Found) → Within n f → Within (suc n) (later f)
+within-later n (At a) h = omega arith
+within-later n Nothing h = tt
+
+pub after-within : (k : ℕ) (s : List ℕ) → Within (length s) (afterHyphens k s)
+unfolding afterHyphens
+after-within zero s = omega arith
+after-within (suc k) [] = tt
+after-within (suc k) (b ∷ s) = within-later (length s) (cond (eqb b 45) (afterHyphens k s) (afterHyphens (suc k) s)) (go (eqb b 45) (after-within k s) (after-within (suc k) s))
+  where
+    go : (h : Bool) → Within (length s) (afterHyphens k s) → Within (length s) (afterHyphens (suc k) s) → Within (length s) (cond h (afterHyphens k s) (afterHyphens (suc k) s))
+    go true f g = f
+    go false f g = g
+
+-- a place that was found lies in the text
+pub found-within : (k : ℕ) (s : List ℕ) (a : ℕ) → At a ≡ afterHyphens k s → a ≤ length s
+found-within k s a e = rw (← e) at (after-within k s)
+
+-- before a place that no hyphen stands before there is nothing to check
+pub none-holds : (rule : Rule) (s : List ℕ) (e : ℕ) → e ≡ 0 → true ≡ stretchHolds rule (before s (At e))
+none-holds rule s e h = rw h
+
+-- ---------------------------------------------------------------------------
+-- The groups, from group i on
+
+module _ (gs : List Group) (s : List ℕ) (i : ℕ) (d : Group) (h : i < length gs) where
+  pub groups-on : groupHolds (getD gs i d) s ≡ true → groupsHold (drop i gs) s ≡ groupsHold (drop (i + 1) gs) s
+  unfolding groupsHold
+  groups-on e = rw (drop-cons gs i d h, e, add-one i)
+
+  pub groups-stop : groupHolds (getD gs i d) s ≡ false → false ≡ groupsHold (drop i gs) s
+  unfolding groupsHold
+  groups-stop e = rw (drop-cons gs i d h, e)
+
+pub groups-end : (gs : List Group) (s : List ℕ) (i : ℕ) → length gs ≤ i → true ≡ groupsHold (drop i gs) s
+unfolding groupsHold
+groups-end gs s i h = rw (drop-of-length-le gs h)
+
+-- ---------------------------------------------------------------------------
+-- Parts of the text are stretches of it
+
+-- no part is empty
+abbrev pub Solid : List (List ℕ) → Type 0
+Solid [] = Unit
+Solid (p ∷ ps) = (0 < length p) × Solid ps
+
+solid-drop : (k : ℕ) (ps : List (List ℕ)) → Solid ps → Solid (drop k ps)
+solid-drop zero ps h = h
+solid-drop (suc k) [] h = h
+solid-drop (suc k) (p ∷ ps) h = solid-drop k ps (h .1)
+
+solid-take : (k : ℕ) (ps : List (List ℕ)) → Solid ps → Solid (take k ps)
+solid-take zero ps h = tt
+solid-take (suc k) [] h = h
+solid-take (suc k) (p ∷ ps) h = (h .0, solid-take k ps (h .1))
+
+fit-solid : (lengths : List ℕ) (ps : List (List ℕ)) → partsFit lengths ps ≡ true → Solid ps
+unfolding partsFit
+fit-solid lengths [] e = tt
+fit-solid [] (p ∷ ps) e = absurd (false≢true e)
+fit-solid (l ∷ []) (p ∷ ps) e = absurd (false≢true e)
+fit-solid (l ∷ (m ∷ ls)) (p ∷ ps) e =
+    let d = both-true (leb (length p) m) (partsFit ls ps) in
+    let c = both-true (leb l (length p)) (leb (length p) m && partsFit ls ps) in
+    let b = both-true (ltb 0 (length p)) (leb l (length p) && (leb (length p) m && partsFit ls ps)) in
+    let a = both-true (allOf Digits p) (ltb 0 (length p) && (leb l (length p) && (leb (length p) m && partsFit ls ps))) e .1 in
+    (ltb-true 0 (length p) (b a .0), fit-solid ls ps (d (c (b a .1) .1) .1))
+
+drop-longer : (b k : ℕ) (ps : List (List ℕ)) → drop (suc k) (longer b ps) ≡ drop (suc k) ps
+drop-longer b k [] = drop-nil k
+drop-longer b k (p ∷ ps) = refl
+
+-- the text from a place on has the parts ps
+abbrev From : List (List ℕ) → List ℕ → Found → Type 0
+From ps s (At a) = split (drop a s) ≡ ps
+From ps s Nothing = ps ≡ []
+
+from-later : (b : ℕ) (s : List ℕ) (ps : List (List ℕ)) (f : Found) → From ps s f → From ps (b ∷ s) (later f)
+from-later b s ps (At a) h = h
+from-later b s ps Nothing h = h
+
+-- after k hyphens come the parts after k
+after-from : (k : ℕ) (s : List ℕ) → From (drop k (split s)) s (afterHyphens k s)
+unfolding afterHyphens split
+after-from zero s = refl
+after-from (suc k) [] = drop-nil k
+after-from (suc k) (b ∷ s) = go (eqb b 45) (after-from k s) (after-from (suc k) s)
+  where
+    go : (h : Bool) → From (drop k (split s)) s (afterHyphens k s) → From (drop (suc k) (split s)) s (afterHyphens (suc k) s) → From (drop (suc k) (cond h ([] ∷ split s) (longer b (split s)))) (b ∷ s) (later (cond h (afterHyphens k s) (afterHyphens (suc k) s)))
+    go true f g = from-later b s (drop k (split s)) (afterHyphens k s) f
+    go false f g = rw (drop-longer b k (split s)) (from-later b s (drop (suc k) (split s)) (afterHyphens (suc k) s) g)
+
+-- the text before the hyphen before a place has the parts qs
+abbrev Upto : List (List ℕ) → List ℕ → Found → Type 0
+Upto qs s (At e) = (0 < e) × (split (take (e - 1) s) ≡ qs)
+Upto qs s Nothing = split s ≡ qs
+
+upto-later : (b : ℕ) (s : List ℕ) (qs rs : List (List ℕ)) (f : Found) → ((t : List ℕ) → split t ≡ qs → split (b ∷ t) ≡ rs) → Upto qs s f → Upto rs (b ∷ s) (later f)
+upto-later b s qs rs (At zero) g h = absurd (omega arith)
+upto-later b s qs rs (At (suc e)) g h =
+    let m : suc (suc e) - 1 ≡ suc e = omega arith in
+    let n : suc e - 1 ≡ e = omega arith in
+    (omega arith, rw m (g (take e s) (rw n at (h .1))))
+upto-later b s qs rs Nothing g h = g s h
+
+take-longer : (b k : ℕ) (ps : List (List ℕ)) → longer b (take (suc k) ps) ≡ take (suc k) (longer b ps)
+take-longer b k [] = ap (λ (l : List (List ℕ)). (b ∷ []) ∷ l) (sym (take-nil k))
+take-longer b k (p ∷ ps) = refl
+
+-- before the hyphen after them stand the first parts
+after-upto : (j : ℕ) (s : List ℕ) → Upto (take (suc j) (split s)) s (afterHyphens (suc j) s)
+unfolding afterHyphens split
+after-upto j [] = ap (λ (l : List (List ℕ)). [] ∷ l) (sym (take-nil j))
+after-upto zero (b ∷ s) = go (eqb b 45) refl (after-upto zero s)
+  where
+    go : (h : Bool) → eqb b 45 ≡ h → Upto (take 1 (split s)) s (afterHyphens 1 s) → Upto (take 1 (cond h ([] ∷ split s) (longer b (split s)))) (b ∷ s) (later (cond h (At 0) (afterHyphens 1 s)))
+    go true e f = (omega arith, refl)
+    go false e f = upto-later b s (take 1 (split s)) (take 1 (longer b (split s))) (afterHyphens 1 s) (λ t g. rw (e, g) (take-longer b 0 (split s))) f
+after-upto (suc j) (b ∷ s) = go (eqb b 45) refl (after-upto j s) (after-upto (suc j) s)
+  where
+    go : (h : Bool) → eqb b 45 ≡ h → Upto (take (suc j) (split s)) s (afterHyphens (suc j) s) → Upto (take (suc (suc j)) (split s)) s (afterHyphens (suc (suc j)) s) →
+        Upto (take (suc (suc j)) (cond h ([] ∷ split s) (longer b (split s)))) (b ∷ s) (later (cond h (afterHyphens (suc j) s) (afterHyphens (suc (suc j)) s)))
+    go true e f g = upto-later b s (take (suc j) (split s)) ([] ∷ take (suc j) (split s)) (afterHyphens (suc j) s) (λ t i. rw (e, i)) f
+    go false e f g = upto-later b s (take (suc (suc j)) (split s)) (take (suc (suc j)) (longer b (split s))) (afterHyphens (suc (suc j)) s) (λ t i. rw (e, i) (take-longer b (suc j) (split s))) g
+
+-- ---------------------------------------------------------------------------
+-- Hyphens inside a stretch do not count
+
+-- two texts that end in one byte, after the same digits
+record Ends (s t : List ℕ) : Type 0 where
+  before₁ : List ℕ
+  before₂ : List ℕ
+  last : ℕ
+  ends₁ : s ≡ before₁ ++ (last ∷ [])
+  ends₂ : t ≡ before₂ ++ (last ∷ [])
+  same : digitsOf before₁ ≡ digitsOf before₂
+
+ends-pass : (rule : Rule) (s t : List ℕ) → Ends s t → passes rule s ≡ passes rule t
+ends-pass rule s t w =
+    ap (passes rule) (w .ends₁)
+    ∙ passes-snoc rule (w .before₁) (w .last)
+    ∙ ap (λ (ds : List ℕ). eqb (w .last) (48 + checkDigit rule ds)) (w .same)
+    ∙ sym (ap (passes rule) (w .ends₂) ∙ passes-snoc rule (w .before₂) (w .last))
+
+more-before : (b : ℕ) (s t : List ℕ) → Ends s t → Ends (b ∷ s) (b ∷ t)
+unfolding digitsOf
+more-before b s t w = record {
+  before₁ = b ∷ w .before₁;
+  before₂ = b ∷ w .before₂;
+  last = w .last;
+  ends₁ = ap (λ (l : List ℕ). b ∷ l) (w .ends₁);
+  ends₂ = ap (λ (l : List ℕ). b ∷ l) (w .ends₂);
+  same = ap (λ (l : List ℕ). cond (isDigit b) ((b - 48) ∷ l) l) (w .same);
+}
+
+hyphen-before : (b : ℕ) (s t : List ℕ) → b ≡ 45 → Ends s t → Ends (b ∷ s) t
+unfolding digitsOf
+hyphen-before b s t e w = record {
+  before₁ = b ∷ w .before₁;
+  before₂ = w .before₂;
+  last = w .last;
+  ends₁ = ap (λ (l : List ℕ). b ∷ l) (w .ends₁);
+  ends₂ = w .ends₂;
+  same = rw e (w .same);
+}
+
+one-ends : (b : ℕ) (s : List ℕ) → length s ≡ 0 → Ends (b ∷ s) (b ∷ joined (split s))
+unfolding joined split
+one-ends b (c ∷ s) h = absurd (omega arith)
+one-ends b [] h = record { before₁ = []; before₂ = []; last = b; ends₁ = refl; ends₂ = refl; same = refl }
+
+joined-longer : (b : ℕ) (ps : List (List ℕ)) → joined (longer b ps) ≡ b ∷ joined ps
+unfolding joined
+joined-longer b [] = refl
+joined-longer b (p ∷ ps) = refl
+
+-- a text of solid parts is not empty
+solid-some : (s : List ℕ) → Solid (split s) → length s ≡ 0 → ⊥
+unfolding split
+solid-some [] h e = omega arith
+solid-some (b ∷ s) h e = omega arith
+
+-- a text ends as its parts joined do, where no part after the first is empty
+parts-end : (s : List ℕ) → Solid (drop 1 (split s)) → (length s ≡ 0) ⊎ Ends s (joined (split s))
+unfolding split joined
+parts-end [] h = inl refl
+parts-end (b ∷ s) h = inr (go (eqb b 45) refl h (parts-end s))
+  where
+    go : (t : Bool) → eqb b 45 ≡ t → Solid (drop 1 (cond t ([] ∷ split s) (longer b (split s)))) → (Solid (drop 1 (split s)) → (length s ≡ 0) ⊎ Ends s (joined (split s))) → Ends (b ∷ s) (joined (cond t ([] ∷ split s) (longer b (split s))))
+    go true e g f = ⊎-elim (λ (z : length s ≡ 0). absurd (solid-some s g z)) (hyphen-before b s (joined (split s)) (eqb-true b 45 e)) (f (solid-drop 1 (split s) g))
+    go false e g f = rw (joined-longer b (split s)) (⊎-elim (one-ends b s) (more-before b s (joined (split s))) (f (rw (drop-longer b 0 (split s)) at g)))
+
+-- a stretch of solid parts passes where the parts joined do
+stretch-right : (g : Group) (s : List ℕ) → Solid (split s) → stretchHolds (g .rule) s ≡ groupRight g (split s)
+unfolding groupRight
+stretch-right g s h =
+    rw (ne-eqb (length s) 0 (solid-some s h))
+    (⊎-elim (λ (z : length s ≡ 0). absurd (solid-some s h z)) (ends-pass (g .rule) s (joined (split s))) (parts-end s (solid-drop 1 (split s) h))
+    ∙ rw (first-part s .2))
+
+-- the head of a text of solid parts passes where the parts that it joins do
+head-right : (g : Group) (j : ℕ) (s : List ℕ) → Solid (split s) → headHolds (g .rule) j s ≡ groupRight g (take j (split s))
+unfolding groupRight afterHyphens
+head-right g zero s h = refl
+head-right g (suc j) s h = go (afterHyphens (suc j) s) (after-upto j s)
+  where
+    go : (f : Found) → Upto (take (suc j) (split s)) s f → stretchHolds (g .rule) (before s f) ≡ groupRight g (take (suc j) (split s))
+    go (At e) u = stretch-right g (take (e - 1) s) (rw (u .1) (solid-take (suc j) (split s) h)) ∙ ap (groupRight g) (u .1)
+    go Nothing u = stretch-right g s h ∙ ap (groupRight g) u
+
+-- a text with no byte has no group that fails
+head-of-none : (rule : Rule) (j : ℕ) → headHolds rule j [] ≡ true
+unfolding afterHyphens
+head-of-none rule zero = refl
+head-of-none rule (suc j) = refl
+
+none-held : (g : Group) (k : ℕ) → heldFrom g [] (afterHyphens k []) ≡ true
+unfolding afterHyphens
+none-held g zero = head-of-none (g .rule) (g .joins)
+none-held g (suc k) = refl
+
+-- a group holds where its parts that are present pass
+pub group-right : (g : Group) (s : List ℕ) → Solid (partsOf s) → groupHolds g s ≡ groupRight g (present g (partsOf s))
+unfolding partsOf groupRight
+group-right g [] h = none-held g (g .skipped) ∙ rw (drop-nil (g .skipped), take-nil (g .joins))
+group-right g (b ∷ s) h = go (afterHyphens (g .skipped) (b ∷ s)) (after-from (g .skipped) (b ∷ s))
+  where
+    go : (f : Found) → From (drop (g .skipped) (split (b ∷ s))) (b ∷ s) f → heldFrom g (b ∷ s) f ≡ groupRight g (take (g .joins) (drop (g .skipped) (split (b ∷ s))))
+    go (At a) e = head-right g (g .joins) (drop a (b ∷ s)) (rw e (solid-drop (g .skipped) (split (b ∷ s)) h)) ∙ ap (λ (ps : List (List ℕ)). groupRight g (take (g .joins) ps)) e
+    go Nothing e = rw (e, take-nil (g .joins))
+
+pub groups-right : (gs : List Group) (s : List ℕ) → Solid (partsOf s) → groupsHold gs s ≡ groupsRight gs (partsOf s)
+unfolding groupsHold groupsRight
+groups-right [] s h = refl
+groups-right (g ∷ gs) s h = rw (group-right g s h, groups-right gs s h)
+
+-- the parts of a formed text are solid
+pub formed-solid : (model : Model) (s : List ℕ) → formed model s ≡ true → Solid (partsOf s)
+unfolding formed
+formed-solid model s e =
+    let n = length (partsOf s) in
+    let f = both-true (leb (model .fewest) n) (leb n (model .most) && partsFit (model .lengths) (partsOf s)) e .1 in
+    fit-solid (model .lengths) (partsOf s) (both-true (leb n (model .most)) (partsFit (model .lengths) (partsOf s)) f .1)
+
+-- so the groups of a formed text hold where its parts pass
+pub formed-groups : (model : Model) (s : List ℕ) → formed model s ≡ true → groupsHold (model .groups) s ≡ groupsRight (model .groups) (partsOf s)
+formed-groups model s e = groups-right (model .groups) s (formed-solid model s e)

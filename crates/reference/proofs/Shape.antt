@@ -1,0 +1,124 @@
+-- A reference's shape: where its hyphens are, and that all else is digits. Whether a text is formed, and where its parts stand, depends
+-- on its shape alone; what a listing of fillings asks of each filling is then its groups.
+-- Assumes nothing.
+use mathlib.Core.Path.{_≡_, refl, sym, ap, _∙_}
+use mathlib.Core.Bool.{Bool, true, false, cond, _&&_}
+use mathlib.Core.List.{List, [], _∷_}
+use Prim.Native.Nat.{ℕ, zero, suc}
+use lib.Dec.{eqb, leb, ltb}
+use lib.ListN.{length}
+use native.Mathlib.Omega.{arith}
+use borrow.Author.Tests.{ne-eqb}
+use Rattle.text.specs.Bytes.{isDigit, allOf, later}
+use Rattle.text.specs.declared.Class.the-variants.{Digits}
+use Rattle.text.proofs.Laws.{digit-bounds}
+use Rattle.models.specs.declared.Model.{Model}
+use Rattle.reference.specs.Parts.{longer, split, partsOf, partsFit, formed, groupsRight}
+use Rattle.reference.specs.Groups.{afterHyphens, groupsHold}
+use Rattle.reference.specs.Answers.{obeys}
+use Rattle.reference.proofs.Laws.{formed-groups}
+
+-- ---------------------------------------------------------------------------
+-- The shape
+
+-- each digit as `0`, all else as it is
+abbrev pub shapeByte : ℕ → ℕ
+shapeByte b = cond (isDigit b) 48 b
+
+unfoldable pub shapeOf : List ℕ → List ℕ
+shapeOf [] = []
+shapeOf (b ∷ s) = shapeByte b ∷ shapeOf s
+
+unfoldable shapesOf : List (List ℕ) → List (List ℕ)
+shapesOf [] = []
+shapesOf (p ∷ ps) = shapeOf p ∷ shapesOf ps
+
+-- ---------------------------------------------------------------------------
+-- What the shape keeps
+
+pub shape-length : (s : List ℕ) → length (shapeOf s) ≡ length s
+unfolding shapeOf
+shape-length [] = refl
+shape-length (b ∷ s) = ap suc (shape-length s)
+
+-- a digit is no hyphen
+shape-hyphen : (b : ℕ) → eqb (shapeByte b) 45 ≡ eqb b 45
+shape-hyphen b = go (isDigit b) refl
+  where
+    go : (t : Bool) → isDigit b ≡ t → eqb (cond t 48 b) 45 ≡ eqb b 45
+    go true e = let h = digit-bounds b e in sym (ne-eqb b 45 (λ (z : b ≡ 45). omega arith))
+    go false e = refl
+
+shape-digit : (b : ℕ) → isDigit (shapeByte b) ≡ isDigit b
+shape-digit b = go (isDigit b) refl
+  where
+    go : (t : Bool) → isDigit b ≡ t → isDigit (cond t 48 b) ≡ isDigit b
+    go true e = sym e
+    go false e = refl
+
+shape-digits : (s : List ℕ) → allOf Digits (shapeOf s) ≡ allOf Digits s
+unfolding shapeOf allOf
+shape-digits [] = refl
+shape-digits (b ∷ s) = rw (shape-digit b, shape-digits s)
+
+shapes-length : (ps : List (List ℕ)) → length (shapesOf ps) ≡ length ps
+unfolding shapesOf
+shapes-length [] = refl
+shapes-length (p ∷ ps) = ap suc (shapes-length ps)
+
+shapes-longer : (b : ℕ) (ps : List (List ℕ)) → longer (shapeByte b) (shapesOf ps) ≡ shapesOf (longer b ps)
+unfolding shapesOf shapeOf
+shapes-longer b [] = refl
+shapes-longer b (p ∷ ps) = refl
+
+-- the parts of the shape are the shapes of the parts
+shape-split : (s : List ℕ) → split (shapeOf s) ≡ shapesOf (split s)
+unfolding shapeOf shapesOf split
+shape-split [] = refl
+shape-split (b ∷ s) = rw (shape-hyphen b, shape-split s) (go (eqb b 45))
+  where
+    go : (h : Bool) → cond h ([] ∷ shapesOf (split s)) (longer (shapeByte b) (shapesOf (split s))) ≡ shapesOf (cond h ([] ∷ split s) (longer b (split s)))
+    go true = refl
+    go false = shapes-longer b (split s)
+
+shape-parts : (s : List ℕ) → partsOf (shapeOf s) ≡ shapesOf (partsOf s)
+unfolding shapeOf shapesOf partsOf
+shape-parts [] = refl
+shape-parts (b ∷ s) = shape-split (b ∷ s)
+
+shapes-fit : (lengths : List ℕ) (ps : List (List ℕ)) → partsFit lengths (shapesOf ps) ≡ partsFit lengths ps
+unfolding shapesOf partsFit
+shapes-fit lengths [] = refl
+shapes-fit [] (p ∷ ps) = refl
+shapes-fit (l ∷ []) (p ∷ ps) = refl
+shapes-fit (l ∷ (m ∷ ls)) (p ∷ ps) = rw (shape-digits p, shape-length p, shapes-fit ls ps)
+
+-- a text is formed where its shape is
+pub shape-formed : (model : Model) (s : List ℕ) → formed model (shapeOf s) ≡ formed model s
+unfolding formed
+shape-formed model s = rw (shape-parts s, shapes-length (partsOf s), shapes-fit (model .lengths) (partsOf s))
+
+-- so texts of one shape are both formed, or neither
+pub same-shape-formed : (model : Model) (s t : List ℕ) → shapeOf s ≡ shapeOf t → formed model s ≡ formed model t
+same-shape-formed model s t e = sym (shape-formed model s) ∙ ap (formed model) e ∙ shape-formed model t
+
+-- hyphens stand where they stand in the shape
+pub shape-after : (k : ℕ) (s : List ℕ) → afterHyphens k (shapeOf s) ≡ afterHyphens k s
+unfolding shapeOf afterHyphens
+shape-after zero s = refl
+shape-after (suc k) [] = refl
+shape-after (suc k) (b ∷ s) = rw (shape-hyphen b, shape-after k s, shape-after (suc k) s)
+
+pub same-shape-after : (k : ℕ) (s t : List ℕ) → shapeOf s ≡ shapeOf t → afterHyphens k s ≡ afterHyphens k t
+same-shape-after k s t e = sym (shape-after k s) ∙ ap (afterHyphens k) e ∙ shape-after k t
+
+-- ---------------------------------------------------------------------------
+-- A model obeyed
+
+-- a text is accepted by its model where it is formed and its groups hold
+pub obeys-groups : (model : Model) (s : List ℕ) → obeys model s ≡ (formed model s && groupsHold (model .groups) s)
+obeys-groups model s = go (formed model s) refl
+  where
+    go : (t : Bool) → formed model s ≡ t → (t && groupsRight (model .groups) (partsOf s)) ≡ (t && groupsHold (model .groups) s)
+    go true e = sym (formed-groups model s e)
+    go false e = refl

@@ -1,0 +1,21 @@
+-- `reference::stretch_holds` meets its contract. Assumes nothing.
+use borrow.Author.Tests.{eq-eqb, ne-eqb}
+use Rattle.text.proofs.Laws.{taken, left}
+use borrow.Author.Needs.{needs}
+use Rattle.reference.proofs.stretch_holds.Statement.{statement}
+use Rattle.reference.proofs.stretch_holds.Tie as tie
+use Rattle.reference.proofs.stretch_holds.Reads as reads
+use Rattle.reference.proofs.stretch_holds.Lts as lts
+use Rattle.check_digits.proofs.ends_right.Reads as ends-right-reads
+
+returns : tie.Need-returns
+returns c = taken _ _ _ (eq-eqb _ _ (c .if1 .taken))
+
+ends-right-requires : tie.Need-ends-right-requires
+ends-right-requires c κs = search needs
+
+returns-2 : tie.Need-returns-2
+returns-2 c = left _ _ _ _ (ne-eqb _ _ (c .before .if1 .left)) (c .ends-right .ensures)
+
+pub stretch-holds-spec : {M : Type 1} → statement M
+stretch-holds-spec = tie.close (tie.spec returns ends-right-requires returns-2)

@@ -1,0 +1,3 @@
+-- The definitions of the crate `slip`.
+pub mod Fields
+pub mod Slip
