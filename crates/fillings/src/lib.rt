@@ -199,7 +199,8 @@ fn list_model(model: Model, s: &[u8], out: &mut [u16]) -> Listed
     requires { ⌜ (length (now s) ≤ 22) × (marks (now s) ≤ 4) ⌝ }
     ensures { λ r. ⌜ (r ≡ modelListing model (now (s .entry)) (length (now (out .entry)))) × (now (out .exit) ≡ leftBy r (fillings (obeys model) (now (s .entry))) (now (out .entry))) ⌝ }
 {
-    if !model.handled {
+    let handled = model.handled;
+    if !handled {
         return Listed::Refused(Refusal::Model(refusal::nowhere()));
     }
     if !can_be_formed(model, s) {

@@ -1,27 +1,27 @@
--- `fillings::accepted` meets its contract: each return follows from the tests that led there. Assumes nothing.
-use mathlib.Core.Path.{refl}
-use native.Mathlib.Omega.{arith}
-use lib.ListN.{List·getD-eq-default}
+-- `fillings::accepted` meets its contract: the test is the definition's. Assumes nothing.
 use Rattle.fillings.specs.Accepts.{accepts}
 use Rattle.text.proofs.Laws.{left, entered}
 use borrow.Author.Needs.{needs}
 use Rattle.fillings.proofs.accepted.Statement.{statement}
 use Rattle.fillings.proofs.accepted.Tie as tie
+use Rattle.fillings.proofs.accepted.Reads as reads
+use Rattle.fillings.proofs.accepted.Lts as lts
+use Rattle.account.proofs.iban_passes.Reads as iban-passes-reads
+use Rattle.reference.proofs.groups_hold.Reads as groups-hold-reads
+
+iban-passes-requires : tie.Need-iban-passes-requires
+iban-passes-requires c κs = search needs
 
 returns : tie.Need-returns
 unfolding accepts
-returns c = entered _ _ _ _ (c .if1 .taken) refl
+returns c = entered _ _ _ _ (c .before .if1 .taken) (c .iban-passes .ensures)
+
+groups-hold-requires : tie.Need-groups-hold-requires
+groups-hold-requires c κs = search needs
 
 returns-2 : tie.Need-returns-2
 unfolding accepts
-returns-2 c = left _ _ _ _ (c .before .if1 .left) (rw (List·getD-eq-default (c .before .before .args .s .now) 0 {n = 0} (omega arith)))
-
-shared-slice-read-result : tie.Need-shared-slice-read-result
-shared-slice-read-result c = search needs
-
-returns-3 : tie.Need-returns-3
-unfolding accepts
-returns-3 c = left _ _ _ _ (c .before .before .if1 .left) refl
+returns-2 c = left _ _ _ _ (c .before .before .if1 .left) (c .groups-hold .ensures)
 
 pub accepted-spec : {M : Type 1} → statement M
-accepted-spec = tie.close (tie.spec returns returns-2 shared-slice-read-result returns-3)
+accepted-spec = tie.close (tie.spec iban-passes-requires returns groups-hold-requires returns-2)

@@ -1,0 +1,61 @@
+-- `fillings::is_wet_iban` meets its contract: each return is the definition's choice on the tests that led there. Assumes nothing.
+use mathlib.Core.Path.{ap, _∙_}
+use borrow.Author.Tests.{ne-eqb, eq-eqb}
+use Rattle.text.proofs.Laws.{and-first, and-second}
+use Rattle.text.specs.Bytes.{allOf}
+use Rattle.text.specs.declared.Class.the-variants.{WetAccount}
+use Rattle.account.proofs.Laws.{to-the-end}
+use Rattle.fillings.proofs.Accepts.{short-is-not-wet}
+use borrow.Author.Needs.{needs}
+use Rattle.fillings.proofs.is_wet_iban.Statement.{statement}
+use Rattle.fillings.proofs.is_wet_iban.Tie as tie
+use Rattle.fillings.proofs.is_wet_iban.Reads as reads
+use Rattle.fillings.proofs.is_wet_iban.Lts as lts
+use Rattle.text.proofs.all_of.Reads as all-of-reads
+
+returns : tie.Need-returns
+returns c = short-is-not-wet (c .before .before .args .s .now) (c .if1 .taken)
+
+shared-slice-read-if2 : tie.Need-shared-slice-read-if2
+shared-slice-read-if2 c = search needs
+
+returns-2 : tie.Need-returns-2
+returns-2 c = and-first _ _ (ne-eqb _ _ (c .if2 .taken))
+
+shared-slice-read-if3 : tie.Need-shared-slice-read-if3
+shared-slice-read-if3 c = search needs
+
+returns-3 : tie.Need-returns-3
+returns-3 c = and-second _ _ _ (eq-eqb _ _ (c .before .before .if2 .left)) (and-first _ _ (ne-eqb _ _ (c .if3 .taken)))
+
+sub-all-of : tie.Need-sub-all-of
+sub-all-of c = search needs
+
+part-all-of-start : tie.Need-part-all-of-start
+part-all-of-start c = search needs
+
+part-all-of-end : tie.Need-part-all-of-end
+part-all-of-end c = search needs
+
+all-of-requires : tie.Need-all-of-requires
+all-of-requires c κs = search needs
+
+returns-4 : tie.Need-returns-4
+returns-4 c = 
+    and-second _ _ _ (eq-eqb _ _ (c .before .before .before .before .if2 .left))
+    (and-second _ _ _ (eq-eqb _ _ (c .before .before .if3 .left)) (c .all-of .ensures ∙ ap (allOf WetAccount) (to-the-end 2 (c .before .before .before .before .before .before .before .before .args .s .now))))
+
+pub is-wet-iban-spec : {M : Type 1} → statement M
+is-wet-iban-spec =
+    tie.close
+    (tie.spec
+    returns
+    shared-slice-read-if2
+    returns-2
+    shared-slice-read-if3
+    returns-3
+    sub-all-of
+    part-all-of-start
+    part-all-of-end
+    all-of-requires
+    returns-4)

@@ -1,0 +1,81 @@
+-- `fillings::list_iban` meets its contract: each refusal is the definition's choice on the tests that led there, and the listing over what is
+-- asked of each filling is that over all that the rules ask. Assumes nothing.
+use mathlib.Core.Path.{refl, sym, _∙_}
+use native.Mathlib.Omega.{arith}
+use borrow.Author.Tests.{ne-eqb, eq-eqb, not-true, not-false, lt-leb}
+use Rattle.text.proofs.Laws.{left, entered}
+use Rattle.text.specs.Bytes.{marks}
+use Rattle.fillings.proofs.Accepts.{iban-listed}
+use borrow.Author.Needs.{needs}
+use Rattle.fillings.proofs.list_iban.Statement.{statement}
+use Rattle.fillings.proofs.list_iban.Tie as tie
+use Rattle.fillings.proofs.list_iban.Reads as reads
+use Rattle.fillings.proofs.list_iban.Lts as lts
+use Rattle.fillings.proofs.is_wet_iban.Reads as is-wet-iban-reads
+use Rattle.fillings.proofs.list_into.Reads as list-into-reads
+use Rattle.models.proofs.rules.Reads as rules-reads
+use Rattle.refusal.proofs.nowhere.Reads as nowhere-reads
+use Rattle.text.proofs.count_marks.Reads as count-marks-reads
+
+nowhere-requires : tie.Need-nowhere-requires
+nowhere-requires c κs = search needs
+
+returns : tie.Need-returns
+returns c = (rw (c .nowhere .ensures) (left _ _ _ _ (ne-eqb _ _ (c .before .if1 .taken)) refl), refl)
+
+is-wet-iban-requires : tie.Need-is-wet-iban-requires
+is-wet-iban-requires c κs = search needs
+
+nowhere-requires-2 : tie.Need-nowhere-requires-2
+nowhere-requires-2 c κs = search needs
+
+returns-2 : tie.Need-returns-2
+returns-2 c = 
+    (rw (c .nowhere2 .ensures)
+    (entered _ _ _ _ (eq-eqb _ _ (c .before .before .before .if1 .left)) (left _ _ _ _ (sym (c .before .before .is-wet-iban .ensures) ∙ not-true _ (c .before .if2 .taken)) refl)), refl)
+
+count-marks-requires : tie.Need-count-marks-requires
+count-marks-requires c κs = search needs
+
+nowhere-requires-3 : tie.Need-nowhere-requires-3
+nowhere-requires-3 c κs = search needs
+
+returns-3 : tie.Need-returns-3
+returns-3 c = 
+    (rw (c .nowhere3 .ensures)
+    (entered _ _ _ _ (eq-eqb _ _ (c .before .before .before .before .before .if1 .left))
+    (entered _ _ _ _ (sym (c .before .before .before .before .is-wet-iban .ensures) ∙ not-false _ (c .before .before .before .if2 .left))
+    (left _ _ _ _ (lt-leb (marks (c .before .before .before .before .before .before .before .before .args .s .now)) 4 (omega (arith, c .before .before .count-marks .ensures))) refl))), refl)
+
+rules-requires : tie.Need-rules-requires
+rules-requires c κs = search needs
+
+list-into-requires : tie.Need-list-into-requires
+list-into-requires c κs = search needs
+
+same-length : tie.Need-same-length
+same-length c = search needs
+
+returns-4 : tie.Need-returns-4
+returns-4 c = 
+    iban-listed _ _ _ _ _ refl (c .before .before .before .before .before .before .before .before .before .before .if1 .left)
+    (sym (c .before .before .before .before .before .before .before .before .before .is-wet-iban .ensures) ∙ not-false _ (c .before .before .before .before .before .before .before .before .if2 .left))
+    (omega (arith, c .before .before .before .before .before .before .before .count-marks .ensures))
+    (c .before .before .list-into .ensures)
+
+pub list-iban-spec : {M : Type 1} → statement M
+list-iban-spec =
+    tie.close
+    (tie.spec
+    nowhere-requires
+    returns
+    is-wet-iban-requires
+    nowhere-requires-2
+    returns-2
+    count-marks-requires
+    nowhere-requires-3
+    returns-3
+    rules-requires
+    list-into-requires
+    same-length
+    returns-4)

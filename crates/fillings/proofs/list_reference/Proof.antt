@@ -1,0 +1,82 @@
+-- `fillings::list_reference` meets its contract: each refusal is the definition's choice on the tests that led there. Assumes nothing.
+use mathlib.Core.Path.{refl, sym, _∙_}
+use native.Mathlib.Omega.{arith}
+use borrow.Author.Tests.{not-true, not-false, lt-leb, le-leb}
+use Rattle.text.proofs.Laws.{left, entered}
+use Rattle.text.specs.Bytes.{marks}
+use lib.ListN.{length}
+use borrow.Author.Needs.{needs}
+use Rattle.fillings.proofs.list_reference.Statement.{statement}
+use Rattle.fillings.proofs.list_reference.Tie as tie
+use Rattle.fillings.proofs.list_reference.Reads as reads
+use Rattle.fillings.proofs.list_reference.Lts as lts
+use Rattle.fillings.proofs.list_numbered.Reads as list-numbered-reads
+use Rattle.models.proofs.number.Reads as number-reads
+use Rattle.refusal.proofs.nowhere.Reads as nowhere-reads
+use Rattle.text.proofs.all_of.Reads as all-of-reads
+use Rattle.text.proofs.count_marks.Reads as count-marks-reads
+
+nowhere-requires : tie.Need-nowhere-requires
+nowhere-requires c κs = search needs
+
+returns : tie.Need-returns
+returns c = (rw (c .nowhere .ensures) (left _ _ _ _ (lt-leb _ _ (c .before .if1 .taken)) refl), refl)
+
+all-of-requires : tie.Need-all-of-requires
+all-of-requires c κs = search needs
+
+nowhere-requires-2 : tie.Need-nowhere-requires-2
+nowhere-requires-2 c κs = search needs
+
+returns-2 : tie.Need-returns-2
+returns-2 c = 
+    (rw (c .nowhere2 .ensures)
+    (entered _ _ _ _ (le-leb _ _ (c .before .before .before .if1 .left)) (left _ _ _ _ (sym (c .before .before .all-of .ensures) ∙ not-true _ (c .before .if2 .taken)) refl)), refl)
+
+count-marks-requires : tie.Need-count-marks-requires
+count-marks-requires c κs = search needs
+
+nowhere-requires-3 : tie.Need-nowhere-requires-3
+nowhere-requires-3 c κs = search needs
+
+returns-3 : tie.Need-returns-3
+returns-3 c = 
+    (rw (c .nowhere3 .ensures)
+    (entered _ _ _ _ (le-leb _ _ (c .before .before .before .before .before .if1 .left))
+    (entered _ _ _ _ (sym (c .before .before .before .before .all-of .ensures) ∙ not-false _ (c .before .before .before .if2 .left))
+    (left _ _ _ _ (lt-leb (marks (c .before .before .before .before .before .before .before .before .before .args .s .now)) 4 (omega (arith, c .before .before .count-marks .ensures))) refl))), refl)
+
+number-requires : tie.Need-number-requires
+number-requires c κs = search needs
+
+list-numbered-requires : tie.Need-list-numbered-requires
+list-numbered-requires c κs = search needs
+
+same-length : tie.Need-same-length
+same-length c = search needs
+
+returns-4 : tie.Need-returns-4
+returns-4 c =
+    let a = c .before .before .before .before .before .before .before .before .before .before .before .before .before .args in
+    rw (sym (c .before .before .before .before .number .ensures))
+    (entered _ _ _ _ (le-leb (length (a .s .now)) 22 (omega arith))
+    (entered _ _ _ _ (sym (c .before .before .before .before .before .before .before .before .all-of .ensures) ∙ not-false _ (c .before .before .before .before .before .before .before .if2 .left))
+    (entered _ _ _ _ (le-leb (marks (a .s .now)) 4 (omega (arith, c .before .before .before .before .before .before .count-marks .ensures))) (c .before .before .list-numbered .ensures .0))),
+    c .before .before .list-numbered .ensures .1)
+
+pub list-reference-spec : {M : Type 1} → statement M
+list-reference-spec =
+    tie.close
+    (tie.spec
+    nowhere-requires
+    returns
+    all-of-requires
+    nowhere-requires-2
+    returns-2
+    count-marks-requires
+    nowhere-requires-3
+    returns-3
+    number-requires
+    list-numbered-requires
+    same-length
+    returns-4)
