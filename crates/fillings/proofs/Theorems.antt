@@ -16,7 +16,9 @@ use borrow.Author.Tests.{eq-eqb, ne-eqb, eqb-true, eqb-false, ltb-true, ltb-fals
 use Rattle.text.specs.Bytes.{marks}
 use Rattle.refusal.specs.declared.Answer.{Answer}
 use Rattle.fillings.specs.declared.Listed.{Listed}
-use Rattle.fillings.specs.Answers.{roomAnswer, leftBy, filledAnswer, filledBy}
+use Rattle.account.specs.Answers.{isIban}
+use Rattle.fillings.specs.Wet.{ibanListing, referenceListing, referenceFillings}
+use Rattle.fillings.specs.Answers.{leftBy, filledAnswer, filledBy}
 use Rattle.fillings.specs.ByMark.{between}
 use Rattle.fillings.specs.Fillings.{fill, among, fillings}
 use Rattle.fillings.specs.Listing.{Member, Ascending, countOf, Fills, numberIn}
@@ -153,11 +155,23 @@ no-mark-listed p s e = rw zero-mul at (block-dry p s 0 e)
 -- ---------------------------------------------------------------------------
 -- "one possible answer and one content of the lent slices"
 
--- a listing's answer and what it leaves
+-- a listing's answer, whatever its definition d, and what it leaves of the accepted fillings xs
 pub listed-only :
-    (xs out : List ℕ) (r r′ : Listed) (o o′ : List ℕ) → (r ≡ roomAnswer xs (length out)) × (o ≡ leftBy r xs out)
-    → (r′ ≡ roomAnswer xs (length out)) × (o′ ≡ leftBy r′ xs out) → (r ≡ r′) × (o ≡ o′)
-listed-only xs out r r′ o o′ h g = let e : r ≡ r′ = h .0 ∙ sym (g .0) in (e, h .1 ∙ ap (λ (r : Listed). leftBy r xs out) e ∙ sym (g .1))
+    (d : Listed) (xs out : List ℕ) (r r′ : Listed) (o o′ : List ℕ) → (r ≡ d) × (o ≡ leftBy r xs out) → (r′ ≡ d) × (o′ ≡ leftBy r′ xs out)
+    → (r ≡ r′) × (o ≡ o′)
+listed-only d xs out r r′ o o′ h g = let e : r ≡ r′ = h .0 ∙ sym (g .0) in (e, h .1 ∙ ap (λ (r : Listed). leftBy r xs out) e ∙ sym (g .1))
+
+-- of `list_iban`
+pub list-iban-only :
+    (s out : List ℕ) (r r′ : Listed) (o o′ : List ℕ) → (r ≡ ibanListing s (length out)) × (o ≡ leftBy r (fillings isIban s) out)
+    → (r′ ≡ ibanListing s (length out)) × (o′ ≡ leftBy r′ (fillings isIban s) out) → (r ≡ r′) × (o ≡ o′)
+list-iban-only s out = listed-only (ibanListing s (length out)) (fillings isIban s) out
+
+-- and of `list_reference`
+pub list-reference-only :
+    (m s out : List ℕ) (r r′ : Listed) (o o′ : List ℕ) → (r ≡ referenceListing m s (length out)) × (o ≡ leftBy r (referenceFillings m s) out)
+    → (r′ ≡ referenceListing m s (length out)) × (o′ ≡ leftBy r′ (referenceFillings m s) out) → (r ≡ r′) × (o ≡ o′)
+list-reference-only m s out = listed-only (referenceListing m s (length out)) (referenceFillings m s) out
 
 -- a filled text's answer and what it leaves
 pub filled-only :
