@@ -182,7 +182,7 @@ pub fn group_holds(g: Group, s: &[u8]) -> bool
 pub fn groups_hold(groups: [Group; 4], s: &[u8]) -> bool
     ensures { λ r. ⌜ r ≡ groupsHold groups (now (s .entry)) ⌝ }
 {
-    let mut i = 0;
+    let mut i: usize = 0;
     while i < 4 {
         let g = groups[i];
         if !group_holds(g, s) {
