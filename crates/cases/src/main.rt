@@ -35,6 +35,14 @@ fn find(s: &[u8], b: u8) -> usize
     i
 }
 
+// What stands before a place.
+fn front(s: &[u8], i: usize) -> &[u8] {
+    if i < s.len() {
+        return &s[..i];
+    }
+    s
+}
+
 // What stands after a place.
 fn beyond(s: &[u8], i: usize) -> &[u8] {
     if i < s.len() {
@@ -67,7 +75,7 @@ fn answer(line: &[u8]) {
     say(line);
     say(b" -> ");
     let v = find(line, 32);
-    answer_verb(&line[..v], beyond(line, v));
+    answer_verb(front(line, v), beyond(line, v));
     say(b"\n");
 }
 
@@ -82,7 +90,7 @@ fn answer_verb(verb: &[u8], rest: &[u8]) {
     }
     if same(verb, b"ref") {
         let m = find(rest, 32);
-        judged(reference::reference(&rest[..m], beyond(rest, m)));
+        judged(reference::reference(front(rest, m), beyond(rest, m)));
         return;
     }
     answer_digits(verb, rest);
@@ -91,11 +99,11 @@ fn answer_verb(verb: &[u8], rest: &[u8]) {
 fn answer_digits(verb: &[u8], rest: &[u8]) {
     let r = find(rest, 32);
     if same(verb, b"check") {
-        check_by(&rest[..r], beyond(rest, r));
+        check_by(front(rest, r), beyond(rest, r));
         return;
     }
     if same(verb, b"make") {
-        make_by(&rest[..r], beyond(rest, r));
+        make_by(front(rest, r), beyond(rest, r));
         return;
     }
     answer_list(verb, rest);
@@ -108,7 +116,7 @@ fn answer_list(verb: &[u8], rest: &[u8]) {
     }
     if same(verb, b"room") {
         let r = find(rest, 32);
-        list(beyond(rest, r), decimal(&rest[..r]));
+        list(beyond(rest, r), decimal(front(rest, r)));
         return;
     }
     say(b"unknown");
@@ -203,19 +211,23 @@ fn one_more(n: usize, b: u8) -> usize
 }
 
 // Lists an IBAN, or a model and a reference, into `room` entries, 10,000 at most.
-fn list(line: &[u8], room: usize)
-    requires { ⌜ room ≤ 10000 ⌝ }
-{
+fn list(line: &[u8], room: usize) {
     let mut out = [0u16; 10000];
+    list_in(line, room, &mut out);
+}
+
+fn list_in(line: &[u8], room: usize, out: &mut [u16]) {
     let d = find(line, 32);
-    if d == line.len() {
-        let r = fillings::list_iban(line, &mut out[..room]);
-        listed(r, text::count_marks(line), &out);
-        return;
+    if room <= out.len() {
+        if d == line.len() {
+            let r = fillings::list_iban(line, &mut out[..room]);
+            listed(r, text::count_marks(line), out);
+            return;
+        }
+        let tail = beyond(line, d);
+        let r = fillings::list_reference(front(line, d), tail, &mut out[..room]);
+        listed(r, text::count_marks(tail), out);
     }
-    let tail = beyond(line, d);
-    let r = fillings::list_reference(&line[..d], tail, &mut out[..room]);
-    listed(r, text::count_marks(tail), &out);
 }
 
 // Writes a listing: its count, and each number with as many digits as there are marks.

@@ -2,7 +2,8 @@
 use Prim.Native.Nat.{ℕ, suc}
 use mathlib.Core.Bool.{Bool, cond, not, _&&_, _||_}
 use mathlib.Core.List.{List, [], _∷_}
-use lib.Dec.{eqb, leb}
+use lib.Dec.{eqb, leb, ltb}
+use lib.ListN.{length, getD}
 use Rattle.text.specs.Bytes.{isDigit, isLetter, later}
 use Rattle.text.specs.declared.Found.{Found}
 use Rattle.text.specs.declared.Found.the-variants.{At, Nothing}
@@ -33,6 +34,10 @@ afterC5 c = eqb c 160 || (eqb c 161 || (eqb c 189 || eqb c 190))
 -- one of the ten letters of two bytes
 abbrev pub isPair : ℕ → ℕ → Bool
 isPair b c = (eqb b 196 && afterC4 c) || (eqb b 197 && afterC5 c)
+
+-- the byte at a place of a text, where there is one, completes a letter that b begins
+abbrev pub isCompleted : ℕ → List ℕ → ℕ → Bool
+isCompleted b s i = ltb i (length s) && isPair b (getD s i 0)
 
 -- ---------------------------------------------------------------------------
 -- Texts

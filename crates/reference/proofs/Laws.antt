@@ -89,6 +89,7 @@ first-part (b ∷ s) = go (eqb b 45) (first-part s)
     go true w = ([], split s, refl)
     go false w = (b ∷ w .0, w .1, ap (longer b) (w .2))
 
+-- tests joined one way or the other
 four : (x y z w : Bool) → (x && (y && z) && w) ≡ (x && (y && (z && w)))
 four true y z w = and-assoc y z w
 four false y z w = refl
@@ -127,6 +128,7 @@ module _ (lengths : List ℕ) (n count : ℕ) (b : ℕ) (s p : List ℕ) (ps : L
       let m : n + 1 + length p ≡ n + suc (length p) = omega arith in
       rw (h, e, m, and-assoc (isDigit b)) (both (isDigit b) (allOf Digits p && (fitsNext lengths (n + suc (length p)) && partsFit (drop 2 lengths) ps)) _ _ _ refl)
 
+-- the digit reader counts the parts where they fit, with the digits that were read before
 read-parts : (lengths : List ℕ) (n count : ℕ) (s : List ℕ) → digitRead lengths n count s ≡ cond (restFits lengths n (split s)) (Parts (count + length (split s))) Broken
 unfolding digitRead restFits split partsFit allOf
 read-parts lengths n count [] = rw (add-zero n, and-true)
@@ -139,6 +141,7 @@ read-parts lengths n count (b ∷ s) = go (eqb b 45) (first-part s) (read-parts 
     go true w f g = read-hyphen lengths n count b s (w .0) (w .1) (w .2) f
     go false w f g = read-digit lengths n count b s (w .0) (w .1) (w .2) g
 
+-- the part reader counts them where they fit
 read-part : (lengths : List ℕ) (s : List ℕ) → partRead lengths 0 s ≡ cond (partsFit lengths (split s)) (Parts (length (split s))) Broken
 read-part lengths s = let w = first-part s in rw (read-parts lengths 0 0 s, w .2, zero-add) (part-begins lengths (w .0) (w .1) (Parts (suc (length (w .1)))))
 
@@ -147,6 +150,7 @@ abbrev pub readFormed : Model → Read → Bool
 readFormed model (Parts n) = leb (model .fewest) n && leb n (model .most)
 readFormed model Broken = false
 
+-- no byte is no part
 pub formed-none : (model : Model) (s : List ℕ) → length s ≡ 0 → eqb (model .fewest) 0 ≡ formed model s
 unfolding formed partsOf partsFit
 formed-none model [] h = rw (and-true, le-leb 0 (model .most) (omega arith), and-true) (go (model .fewest))
@@ -156,6 +160,7 @@ formed-none model [] h = rw (and-true, le-leb 0 (model .most) (omega arith), and
     go (suc n) = eqb·suc-zero n ∙ sym (leb·suc-zero n)
 formed-none model (b ∷ s) h = absurd (omega arith)
 
+-- and what is read of a text says the same as its parts
 pub formed-read : (model : Model) (s : List ℕ) → (length s ≡ 0 → ⊥) → readFormed model (partRead (model .lengths) 0 s) ≡ formed model s
 unfolding formed partsOf
 formed-read model [] h = absurd (h refl)
@@ -168,6 +173,7 @@ formed-read model (b ∷ s) h = rw (read-part (model .lengths) (b ∷ s)) (go (p
 -- ---------------------------------------------------------------------------
 -- The place after hyphens, from place i on
 
+-- one byte more, a hyphen
 turn-hyphen : (b : ℕ) (s : List ℕ) (i n : ℕ) → (n ≡ 0 → ⊥) → b ≡ 45 → shifted i (afterHyphens n (b ∷ s)) ≡ shifted (i + 1) (afterHyphens (n - 1) s)
 unfolding afterHyphens
 turn-hyphen b s i zero h e = absurd (h refl)
@@ -175,6 +181,7 @@ turn-hyphen b s i (suc n) h e =
     let m : n ≡ suc n - 1 = omega arith in
     rw (eq-eqb b 45 e) (shifted-later i (afterHyphens n s) ∙ ap (λ (k : ℕ). shifted (i + 1) (afterHyphens k s)) m)
 
+-- one byte more, no hyphen
 turn-other : (b : ℕ) (s : List ℕ) (i n : ℕ) → (n ≡ 0 → ⊥) → (b ≡ 45 → ⊥) → shifted i (afterHyphens n (b ∷ s)) ≡ shifted (i + 1) (afterHyphens n s)
 unfolding afterHyphens
 turn-other b s i zero h e = absurd (h refl)
@@ -191,6 +198,7 @@ module _ (s : List ℕ) (i n : ℕ) where
   pub after-other : i < length s → (n ≡ 0 → ⊥) → (getD s i 0 ≡ 45 → ⊥) → shifted i (afterHyphens n (drop i s)) ≡ shifted (i + 1) (afterHyphens n (drop (i + 1) s))
   after-other h g e = rw (drop-cons s i 0 h, add-one i) (turn-other (getD s i 0) (drop (suc i) s) i n g e ∙ rw add-one)
 
+-- the text is at its end
 pub after-end : (s : List ℕ) (i n : ℕ) → length s ≤ i → i ≤ length s → (n ≡ 0 → ⊥) → Nothing ≡ shifted i (afterHyphens n (drop i s))
 unfolding afterHyphens shifted
 after-end s i zero f g h = absurd (h refl)
@@ -205,6 +213,7 @@ within-later : (n : ℕ) (f : Found) → Within n f → Within (suc n) (later f)
 within-later n (At a) h = omega arith
 within-later n Nothing h = tt
 
+-- the place after hyphens lies in the text
 pub after-within : (k : ℕ) (s : List ℕ) → Within (length s) (afterHyphens k s)
 unfolding afterHyphens
 after-within zero s = omega arith
@@ -235,6 +244,7 @@ module _ (gs : List Group) (s : List ℕ) (i : ℕ) (d : Group) (h : i < length 
   unfolding groupsHold
   groups-stop e = rw (drop-cons gs i d h, e)
 
+-- no group is left
 pub groups-end : (gs : List Group) (s : List ℕ) (i : ℕ) → length gs ≤ i → true ≡ groupsHold (drop i gs) s
 unfolding groupsHold
 groups-end gs s i h = rw (drop-of-length-le gs h)
@@ -257,6 +267,7 @@ solid-take zero ps h = tt
 solid-take (suc k) [] h = h
 solid-take (suc k) (p ∷ ps) h = (h .0, solid-take k ps (h .1))
 
+-- parts that fit are not empty
 fit-solid : (lengths : List ℕ) (ps : List (List ℕ)) → partsFit lengths ps ≡ true → Solid ps
 unfolding partsFit
 fit-solid lengths [] e = tt
@@ -269,6 +280,7 @@ fit-solid (l ∷ (m ∷ ls)) (p ∷ ps) e =
     let a = both-true (allOf Digits p) (ltb 0 (length p) && (leb l (length p) && (leb (length p) m && partsFit ls ps))) e .1 in
     (ltb-true 0 (length p) (b a .0), fit-solid ls ps (d (c (b a .1) .1) .1))
 
+-- a byte more at the front of the first part leaves those after it
 drop-longer : (b k : ℕ) (ps : List (List ℕ)) → drop (suc k) (longer b ps) ≡ drop (suc k) ps
 drop-longer b k [] = drop-nil k
 drop-longer b k (p ∷ ps) = refl
@@ -278,6 +290,7 @@ abbrev From : List (List ℕ) → List ℕ → Found → Type 0
 From ps s (At a) = split (drop a s) ≡ ps
 From ps s Nothing = ps ≡ []
 
+-- a byte more before a place
 from-later : (b : ℕ) (s : List ℕ) (ps : List (List ℕ)) (f : Found) → From ps s f → From ps (b ∷ s) (later f)
 from-later b s ps (At a) h = h
 from-later b s ps Nothing h = h
@@ -298,6 +311,7 @@ abbrev Upto : List (List ℕ) → List ℕ → Found → Type 0
 Upto qs s (At e) = (0 < e) × (split (take (e - 1) s) ≡ qs)
 Upto qs s Nothing = split s ≡ qs
 
+-- a byte more before a place, which changes the parts from qs to rs
 upto-later : (b : ℕ) (s : List ℕ) (qs rs : List (List ℕ)) (f : Found) → ((t : List ℕ) → split t ≡ qs → split (b ∷ t) ≡ rs) → Upto qs s f → Upto rs (b ∷ s) (later f)
 upto-later b s qs rs (At zero) g h = absurd (omega arith)
 upto-later b s qs rs (At (suc e)) g h =
@@ -306,6 +320,7 @@ upto-later b s qs rs (At (suc e)) g h =
     (omega arith, rw m (g (take e s) (rw n at (h .1))))
 upto-later b s qs rs Nothing g h = g s h
 
+-- and those up to it
 take-longer : (b k : ℕ) (ps : List (List ℕ)) → longer b (take (suc k) ps) ≡ take (suc k) (longer b ps)
 take-longer b k [] = ap (λ (l : List (List ℕ)). (b ∷ []) ∷ l) (sym (take-nil k))
 take-longer b k (p ∷ ps) = refl
@@ -338,6 +353,7 @@ record Ends (s t : List ℕ) : Type 0 where
   ends₂ : t ≡ before₂ ++ (last ∷ [])
   same : digitsOf before₁ ≡ digitsOf before₂
 
+-- such texts pass alike
 ends-pass : (rule : Rule) (s t : List ℕ) → Ends s t → passes rule s ≡ passes rule t
 ends-pass rule s t w =
     ap (passes rule) (w .ends₁)
@@ -345,6 +361,7 @@ ends-pass rule s t w =
     ∙ ap (λ (ds : List ℕ). eqb (w .last) (48 + checkDigit rule ds)) (w .same)
     ∙ sym (ap (passes rule) (w .ends₂) ∙ passes-snoc rule (w .before₂) (w .last))
 
+-- a byte more before both
 more-before : (b : ℕ) (s t : List ℕ) → Ends s t → Ends (b ∷ s) (b ∷ t)
 unfolding digitsOf
 more-before b s t w = record {
@@ -356,6 +373,7 @@ more-before b s t w = record {
   same = ap (λ (l : List ℕ). cond (isDigit b) ((b - 48) ∷ l) l) (w .same);
 }
 
+-- a hyphen more before one
 hyphen-before : (b : ℕ) (s t : List ℕ) → b ≡ 45 → Ends s t → Ends (b ∷ s) t
 unfolding digitsOf
 hyphen-before b s t e w = record {
@@ -367,11 +385,13 @@ hyphen-before b s t e w = record {
   same = rw e (w .same);
 }
 
+-- a text of one byte
 one-ends : (b : ℕ) (s : List ℕ) → length s ≡ 0 → Ends (b ∷ s) (b ∷ joined (split s))
 unfolding joined split
 one-ends b (c ∷ s) h = absurd (omega arith)
 one-ends b [] h = record { before₁ = []; before₂ = []; last = b; ends₁ = refl; ends₂ = refl; same = refl }
 
+-- a byte more at the front of the first part is one before all
 joined-longer : (b : ℕ) (ps : List (List ℕ)) → joined (longer b ps) ≡ b ∷ joined ps
 unfolding joined
 joined-longer b [] = refl
@@ -432,6 +452,7 @@ group-right g (b ∷ s) h = go (afterHyphens (g .skipped) (b ∷ s)) (after-from
     go (At a) e = head-right g (g .joins) (drop a (b ∷ s)) (rw e (solid-drop (g .skipped) (split (b ∷ s)) h)) ∙ ap (λ (ps : List (List ℕ)). groupRight g (take (g .joins) ps)) e
     go Nothing e = rw (e, take-nil (g .joins))
 
+-- each of the groups, likewise
 pub groups-right : (gs : List Group) (s : List ℕ) → Solid (partsOf s) → groupsHold gs s ≡ groupsRight gs (partsOf s)
 unfolding groupsHold groupsRight
 groups-right [] s h = refl

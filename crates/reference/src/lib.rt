@@ -30,6 +30,7 @@ pub enum Read {
 // ---------------------------------------------------------------------------
 // Parts
 
+// A byte as a number.
 fn wide(b: u8) -> usize
     ensures { λ r. ⌜ r ≡ b ⌝ }
 {

@@ -1,3 +1,6 @@
+-- The proof of the cycle of calls {digit, part}. The measure is the bytes left, twice, and one more before a part begins: a part is begun
+-- with no byte read, and every other call reads one. Each return is the definition's turn on the tests that led there.
+-- Assumes nothing.
 use borrow.Author.Needs.{needs}
 use Prim.Native.Nat.{ℕ, _+_, _<_}
 use native.Mathlib.Omega.{arith}

@@ -1,11 +1,10 @@
+-- `reference::groups_hold` meets its contract. The loop's invariant: the groups hold where those from `i` on do. Assumes nothing.
 use Rattle.models.specs.Models.{noGroup}
 use Rattle.reference.proofs.Laws.{groups-on, groups-stop, groups-end}
--- `reference::groups_hold` meets its contract. The loop's invariant: the groups hold where those from `i` on do. Assumes nothing.
 use Prim.Native.Nat.{_≤_, _-_}
 use mathlib.Core.Path.{_≡_, refl, sym, _∙_}
 use native.Mathlib.Omega.{arith}
 use lib.ListN.{length, drop}
-use borrow.Author.Needs.{needs}
 use borrow.Author.Tests.{not-true, not-false}
 use Rattle.reference.specs.Groups.{groupsHold}
 use Rattle.reference.proofs.groups_hold.Statement.{statement}

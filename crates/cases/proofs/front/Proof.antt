@@ -1,0 +1,21 @@
+-- `cases::front` is safe: the part is within the slice. Assumes nothing.
+use mathlib.Core.Path.{sym}
+use native.Mathlib.Omega.{arith}
+use lib.Seq.{length-take-le}
+use borrow.Author.Needs.{needs}
+use Rattle.cases.proofs.front.Statement.{statement}
+use Rattle.cases.proofs.front.Tie as tie
+use Rattle.cases.proofs.front.Reads as reads
+use Rattle.cases.proofs.front.Lts as lts
+
+slice-aggregate-result : tie.Need-slice-aggregate-result
+slice-aggregate-result c = sym (length-take-le (c .before .before .args .i) (c .before .before .args .s .now) (omega arith))
+
+returns : tie.Need-returns
+returns c = search needs
+
+returns-2 : tie.Need-returns-2
+returns-2 c = search needs
+
+pub front-spec : {M : Type 1} → statement M
+front-spec = tie.close (tie.spec slice-aggregate-result returns returns-2)

@@ -1,0 +1,28 @@
+-- `characters::is_pair` meets its contract: each return follows from the tests that led there. Assumes nothing.
+use Rattle.characters.proofs.Laws.{pair-c4, pair-c5, no-pair}
+use borrow.Author.Needs.{needs}
+use Rattle.characters.proofs.is_pair.Statement.{statement}
+use Rattle.characters.proofs.is_pair.Tie as tie
+use Rattle.characters.proofs.is_pair.Reads as reads
+use Rattle.characters.proofs.is_pair.Lts as lts
+use Rattle.characters.proofs.is_after_c4.Reads as is-after-c4-reads
+use Rattle.characters.proofs.is_after_c5.Reads as is-after-c5-reads
+
+is-after-c4-requires : tie.Need-is-after-c4-requires
+is-after-c4-requires c κs = search needs
+
+returns : tie.Need-returns
+returns c = pair-c4 (c .before .before .args .b) (c .before .before .args .c) _ (c .before .if1 .taken) (c .is-after-c4 .ensures)
+
+is-after-c5-requires : tie.Need-is-after-c5-requires
+is-after-c5-requires c κs = search needs
+
+returns-2 : tie.Need-returns-2
+returns-2 c = pair-c5 (c .before .before .before .args .b) (c .before .before .before .args .c) _ (c .before .if2 .taken) (c .is-after-c5 .ensures)
+
+returns-3 : tie.Need-returns-3
+returns-3 c = no-pair (c .before .before .args .b) (c .before .before .args .c) (c .before .if1 .left) (c .if2 .left)
+
+pub is-pair-spec : {M : Type 1} → statement M
+is-pair-spec =
+    tie.close (tie.spec is-after-c4-requires returns is-after-c5-requires returns-2 returns-3)

@@ -1,0 +1,57 @@
+-- `characters::is_single` meets its contract: each return follows from the tests that led there. Assumes nothing.
+use mathlib.Core.Path.{sym, _∙_}
+use Rattle.text.proofs.Laws.{or-first, or-second}
+use borrow.Author.Needs.{needs}
+use Rattle.characters.proofs.is_single.Statement.{statement}
+use Rattle.characters.proofs.is_single.Tie as tie
+use Rattle.characters.proofs.is_single.Reads as reads
+use Rattle.characters.proofs.is_single.Lts as lts
+use Rattle.characters.proofs.is_letter.Reads as is-letter-reads
+use Rattle.characters.proofs.is_sign.Reads as is-sign-reads
+use Rattle.characters.proofs.is_small_letter.Reads as is-small-letter-reads
+use Rattle.text.proofs.is_digit.Reads as is-digit-reads
+
+is-digit-requires : tie.Need-is-digit-requires
+is-digit-requires c κs = search needs
+
+returns : tie.Need-returns
+returns c = or-first _ _ (sym (c .before .is-digit .ensures) ∙ c .if1 .taken)
+
+is-letter-requires : tie.Need-is-letter-requires
+is-letter-requires c κs = search needs
+
+returns-2 : tie.Need-returns-2
+returns-2 c =
+    or-second _ _ _ (sym (c .before .before .before .is-digit .ensures) ∙ c .before .before .if1 .left)
+    (or-first _ _ (sym (c .before .is-letter .ensures) ∙ c .if2 .taken))
+
+is-small-letter-requires : tie.Need-is-small-letter-requires
+is-small-letter-requires c κs = search needs
+
+returns-3 : tie.Need-returns-3
+returns-3 c =
+    or-second _ _ _ (sym (c .before .before .before .before .before .is-digit .ensures) ∙ c .before .before .before .before .if1 .left)
+    (or-second _ _ _ (sym (c .before .before .before .is-letter .ensures) ∙ c .before .before .if2 .left)
+    (or-first _ _ (sym (c .before .is-small-letter .ensures) ∙ c .if3 .taken)))
+
+is-sign-requires : tie.Need-is-sign-requires
+is-sign-requires c κs = search needs
+
+returns-4 : tie.Need-returns-4
+returns-4 c =
+    or-second _ _ _ (sym (c .before .before .before .before .before .before .is-digit .ensures) ∙ c .before .before .before .before .before .if1 .left)
+    (or-second _ _ _ (sym (c .before .before .before .before .is-letter .ensures) ∙ c .before .before .before .if2 .left)
+    (or-second _ _ _ (sym (c .before .before .is-small-letter .ensures) ∙ c .before .if3 .left) (c .is-sign .ensures)))
+
+pub is-single-spec : {M : Type 1} → statement M
+is-single-spec =
+    tie.close
+    (tie.spec
+    is-digit-requires
+    returns
+    is-letter-requires
+    returns-2
+    is-small-letter-requires
+    returns-3
+    is-sign-requires
+    returns-4)

@@ -1,0 +1,15 @@
+-- `characters::is_small_letter` meets its contract: each return follows from the tests that led there. Assumes nothing.
+use borrow.Author.Tests.{lt-leb, le-leb}
+use Rattle.characters.proofs.is_small_letter.Statement.{statement}
+use Rattle.characters.proofs.is_small_letter.Tie as tie
+use Rattle.characters.proofs.is_small_letter.Reads as reads
+use Rattle.characters.proofs.is_small_letter.Lts as lts
+
+returns : tie.Need-returns
+returns c = simp (lt-leb _ _ (c .if1 .taken))
+
+returns-2 : tie.Need-returns-2
+returns-2 c = simp (le-leb _ _ (c .if1 .left))
+
+pub is-small-letter-spec : {M : Type 1} → statement M
+is-small-letter-spec = tie.close (tie.spec returns returns-2)
