@@ -207,7 +207,14 @@ fn list_model(model: Model, s: &[u8], out: &mut [u16]) -> Listed
         return Listed::Count(0);
     }
     let groups = model.groups;
-    list_into(Aim { iban: false, groups }, s, out)
+    list_into(
+        Aim {
+            iban: false,
+            groups,
+        },
+        s,
+        out,
+    )
 }
 
 // The listing under a model's number: 5, then what the model says.

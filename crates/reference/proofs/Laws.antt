@@ -25,7 +25,8 @@ use Rattle.models.specs.declared.Group.{Group}
 use Rattle.models.specs.declared.Model.{Model}
 use Rattle.reference.specs.declared.Read.{Read}
 use Rattle.reference.specs.declared.Read.the-variants.{Parts, Broken}
-use Rattle.reference.specs.Parts.{longer, split, partsOf, partsFit, formed, joined, present, groupRight, groupsRight}
+use Rattle.text.specs.Split.{longer, split}
+use Rattle.reference.specs.Parts.{partsOf, partsFit, formed, joined, present, groupRight, groupsRight}
 use Rattle.reference.specs.Readers.{fitsNext, begun, digitRead, partRead}
 use Rattle.reference.specs.Groups.{afterHyphens, stretchHolds, before, headHolds, heldFrom, groupHolds, groupsHold}
 
@@ -80,13 +81,13 @@ restFits lengths n [] = true
 restFits lengths n (p ∷ ps) = allOf Digits p && (fitsNext lengths (n + length p) && partsFit (drop 2 lengths) ps)
 
 -- a text has a first part
-pub first-part : (s : List ℕ) → (p : List ℕ) × (ps : List (List ℕ)) × (split s ≡ p ∷ ps)
+pub first-part : (s : List ℕ) → (p : List ℕ) × (ps : List (List ℕ)) × (split 45 s ≡ p ∷ ps)
 unfolding split
 first-part [] = ([], [], refl)
 first-part (b ∷ s) = go (eqb b 45) (first-part s)
   where
-    go : (h : Bool) → (p : List ℕ) × (ps : List (List ℕ)) × (split s ≡ p ∷ ps) → (p : List ℕ) × (ps : List (List ℕ)) × (cond h ([] ∷ split s) (longer b (split s)) ≡ p ∷ ps)
-    go true w = ([], split s, refl)
+    go : (h : Bool) → (p : List ℕ) × (ps : List (List ℕ)) × (split 45 s ≡ p ∷ ps) → (p : List ℕ) × (ps : List (List ℕ)) × (cond h ([] ∷ split 45 s) (longer b (split 45 s)) ≡ p ∷ ps)
+    go true w = ([], split 45 s, refl)
     go false w = (b ∷ w .0, w .1, ap (longer b) (w .2))
 
 -- tests joined one way or the other
@@ -109,11 +110,11 @@ both true true x y z e = e
 both true false x y z e = refl
 both false u x y z e = refl
 
-module _ (lengths : List ℕ) (n count : ℕ) (b : ℕ) (s p : List ℕ) (ps : List (List ℕ)) (e : split s ≡ p ∷ ps) where
+module _ (lengths : List ℕ) (n count : ℕ) (b : ℕ) (s p : List ℕ) (ps : List (List ℕ)) (e : split 45 s ≡ p ∷ ps) where
   -- a hyphen hands over to the next part
   read-hyphen :
-      digitRead (drop 2 lengths) 0 (count + 1) s ≡ cond (restFits (drop 2 lengths) 0 (split s)) (Parts (count + 1 + length (split s))) Broken →
-      cond (fitsNext lengths n) (partRead (drop 2 lengths) (count + 1) s) Broken ≡ cond (restFits lengths n ([] ∷ split s)) (Parts (count + suc (length (split s)))) Broken
+      digitRead (drop 2 lengths) 0 (count + 1) s ≡ cond (restFits (drop 2 lengths) 0 (split 45 s)) (Parts (count + 1 + length (split 45 s))) Broken →
+      cond (fitsNext lengths n) (partRead (drop 2 lengths) (count + 1) s) Broken ≡ cond (restFits lengths n ([] ∷ split 45 s)) (Parts (count + suc (length (split 45 s)))) Broken
   unfolding restFits allOf
   read-hyphen h =
       let m : count + 1 + suc (length ps) ≡ count + suc (suc (length ps)) = omega arith in
@@ -121,28 +122,28 @@ module _ (lengths : List ℕ) (n count : ℕ) (b : ℕ) (s p : List ℕ) (ps : L
 
   -- a digit is one more
   read-digit :
-      digitRead lengths (n + 1) count s ≡ cond (restFits lengths (n + 1) (split s)) (Parts (count + length (split s))) Broken →
-      cond (isDigit b) (digitRead lengths (n + 1) count s) Broken ≡ cond (restFits lengths n (longer b (split s))) (Parts (count + length (longer b (split s)))) Broken
+      digitRead lengths (n + 1) count s ≡ cond (restFits lengths (n + 1) (split 45 s)) (Parts (count + length (split 45 s))) Broken →
+      cond (isDigit b) (digitRead lengths (n + 1) count s) Broken ≡ cond (restFits lengths n (longer b (split 45 s))) (Parts (count + length (longer b (split 45 s)))) Broken
   unfolding restFits allOf
   read-digit h =
       let m : n + 1 + length p ≡ n + suc (length p) = omega arith in
       rw (h, e, m, and-assoc (isDigit b)) (both (isDigit b) (allOf Digits p && (fitsNext lengths (n + suc (length p)) && partsFit (drop 2 lengths) ps)) _ _ _ refl)
 
 -- the digit reader counts the parts where they fit, with the digits that were read before
-read-parts : (lengths : List ℕ) (n count : ℕ) (s : List ℕ) → digitRead lengths n count s ≡ cond (restFits lengths n (split s)) (Parts (count + length (split s))) Broken
+read-parts : (lengths : List ℕ) (n count : ℕ) (s : List ℕ) → digitRead lengths n count s ≡ cond (restFits lengths n (split 45 s)) (Parts (count + length (split 45 s))) Broken
 unfolding digitRead restFits split partsFit allOf
 read-parts lengths n count [] = rw (add-zero n, and-true)
 read-parts lengths n count (b ∷ s) = go (eqb b 45) (first-part s) (read-parts (drop 2 lengths) 0 (count + 1) s) (read-parts lengths (n + 1) count s)
   where
-    go : (h : Bool) → (p : List ℕ) × (ps : List (List ℕ)) × (split s ≡ p ∷ ps) →
-        digitRead (drop 2 lengths) 0 (count + 1) s ≡ cond (restFits (drop 2 lengths) 0 (split s)) (Parts (count + 1 + length (split s))) Broken →
-        digitRead lengths (n + 1) count s ≡ cond (restFits lengths (n + 1) (split s)) (Parts (count + length (split s))) Broken →
-        cond h (cond (fitsNext lengths n) (partRead (drop 2 lengths) (count + 1) s) Broken) (cond (isDigit b) (digitRead lengths (n + 1) count s) Broken) ≡ cond (restFits lengths n (cond h ([] ∷ split s) (longer b (split s)))) (Parts (count + length (cond h ([] ∷ split s) (longer b (split s))))) Broken
+    go : (h : Bool) → (p : List ℕ) × (ps : List (List ℕ)) × (split 45 s ≡ p ∷ ps) →
+        digitRead (drop 2 lengths) 0 (count + 1) s ≡ cond (restFits (drop 2 lengths) 0 (split 45 s)) (Parts (count + 1 + length (split 45 s))) Broken →
+        digitRead lengths (n + 1) count s ≡ cond (restFits lengths (n + 1) (split 45 s)) (Parts (count + length (split 45 s))) Broken →
+        cond h (cond (fitsNext lengths n) (partRead (drop 2 lengths) (count + 1) s) Broken) (cond (isDigit b) (digitRead lengths (n + 1) count s) Broken) ≡ cond (restFits lengths n (cond h ([] ∷ split 45 s) (longer b (split 45 s)))) (Parts (count + length (cond h ([] ∷ split 45 s) (longer b (split 45 s))))) Broken
     go true w f g = read-hyphen lengths n count b s (w .0) (w .1) (w .2) f
     go false w f g = read-digit lengths n count b s (w .0) (w .1) (w .2) g
 
 -- the part reader counts them where they fit
-read-part : (lengths : List ℕ) (s : List ℕ) → partRead lengths 0 s ≡ cond (partsFit lengths (split s)) (Parts (length (split s))) Broken
+read-part : (lengths : List ℕ) (s : List ℕ) → partRead lengths 0 s ≡ cond (partsFit lengths (split 45 s)) (Parts (length (split 45 s))) Broken
 read-part lengths s = let w = first-part s in rw (read-parts lengths 0 0 s, w .2, zero-add) (part-begins lengths (w .0) (w .1) (Parts (suc (length (w .1)))))
 
 -- what is read says whether a text is formed
@@ -164,9 +165,9 @@ formed-none model (b ∷ s) h = absurd (omega arith)
 pub formed-read : (model : Model) (s : List ℕ) → (length s ≡ 0 → ⊥) → readFormed model (partRead (model .lengths) 0 s) ≡ formed model s
 unfolding formed partsOf
 formed-read model [] h = absurd (h refl)
-formed-read model (b ∷ s) h = rw (read-part (model .lengths) (b ∷ s)) (go (partsFit (model .lengths) (split (b ∷ s))))
+formed-read model (b ∷ s) h = rw (read-part (model .lengths) (b ∷ s)) (go (partsFit (model .lengths) (split 45 (b ∷ s))))
   where
-    go : (t : Bool) → readFormed model (cond t (Parts (length (split (b ∷ s)))) Broken) ≡ (leb (model .fewest) (length (split (b ∷ s))) && (leb (length (split (b ∷ s))) (model .most) && t))
+    go : (t : Bool) → readFormed model (cond t (Parts (length (split 45 (b ∷ s)))) Broken) ≡ (leb (model .fewest) (length (split 45 (b ∷ s))) && (leb (length (split 45 (b ∷ s))) (model .most) && t))
     go true = rw and-true
     go false = rw (and-false, and-false)
 
@@ -287,7 +288,7 @@ drop-longer b k (p ∷ ps) = refl
 
 -- the text from a place on has the parts ps
 abbrev From : List (List ℕ) → List ℕ → Found → Type 0
-From ps s (At a) = split (drop a s) ≡ ps
+From ps s (At a) = split 45 (drop a s) ≡ ps
 From ps s Nothing = ps ≡ []
 
 -- a byte more before a place
@@ -296,23 +297,23 @@ from-later b s ps (At a) h = h
 from-later b s ps Nothing h = h
 
 -- after k hyphens come the parts after k
-after-from : (k : ℕ) (s : List ℕ) → From (drop k (split s)) s (afterHyphens k s)
+after-from : (k : ℕ) (s : List ℕ) → From (drop k (split 45 s)) s (afterHyphens k s)
 unfolding afterHyphens split
 after-from zero s = refl
 after-from (suc k) [] = drop-nil k
 after-from (suc k) (b ∷ s) = go (eqb b 45) (after-from k s) (after-from (suc k) s)
   where
-    go : (h : Bool) → From (drop k (split s)) s (afterHyphens k s) → From (drop (suc k) (split s)) s (afterHyphens (suc k) s) → From (drop (suc k) (cond h ([] ∷ split s) (longer b (split s)))) (b ∷ s) (later (cond h (afterHyphens k s) (afterHyphens (suc k) s)))
-    go true f g = from-later b s (drop k (split s)) (afterHyphens k s) f
-    go false f g = rw (drop-longer b k (split s)) (from-later b s (drop (suc k) (split s)) (afterHyphens (suc k) s) g)
+    go : (h : Bool) → From (drop k (split 45 s)) s (afterHyphens k s) → From (drop (suc k) (split 45 s)) s (afterHyphens (suc k) s) → From (drop (suc k) (cond h ([] ∷ split 45 s) (longer b (split 45 s)))) (b ∷ s) (later (cond h (afterHyphens k s) (afterHyphens (suc k) s)))
+    go true f g = from-later b s (drop k (split 45 s)) (afterHyphens k s) f
+    go false f g = rw (drop-longer b k (split 45 s)) (from-later b s (drop (suc k) (split 45 s)) (afterHyphens (suc k) s) g)
 
 -- the text before the hyphen before a place has the parts qs
 abbrev Upto : List (List ℕ) → List ℕ → Found → Type 0
-Upto qs s (At e) = (0 < e) × (split (take (e - 1) s) ≡ qs)
-Upto qs s Nothing = split s ≡ qs
+Upto qs s (At e) = (0 < e) × (split 45 (take (e - 1) s) ≡ qs)
+Upto qs s Nothing = split 45 s ≡ qs
 
 -- a byte more before a place, which changes the parts from qs to rs
-upto-later : (b : ℕ) (s : List ℕ) (qs rs : List (List ℕ)) (f : Found) → ((t : List ℕ) → split t ≡ qs → split (b ∷ t) ≡ rs) → Upto qs s f → Upto rs (b ∷ s) (later f)
+upto-later : (b : ℕ) (s : List ℕ) (qs rs : List (List ℕ)) (f : Found) → ((t : List ℕ) → split 45 t ≡ qs → split 45 (b ∷ t) ≡ rs) → Upto qs s f → Upto rs (b ∷ s) (later f)
 upto-later b s qs rs (At zero) g h = absurd (omega arith)
 upto-later b s qs rs (At (suc e)) g h =
     let m : suc (suc e) - 1 ≡ suc e = omega arith in
@@ -326,20 +327,20 @@ take-longer b k [] = ap (λ (l : List (List ℕ)). (b ∷ []) ∷ l) (sym (take-
 take-longer b k (p ∷ ps) = refl
 
 -- before the hyphen after them stand the first parts
-after-upto : (j : ℕ) (s : List ℕ) → Upto (take (suc j) (split s)) s (afterHyphens (suc j) s)
+after-upto : (j : ℕ) (s : List ℕ) → Upto (take (suc j) (split 45 s)) s (afterHyphens (suc j) s)
 unfolding afterHyphens split
 after-upto j [] = ap (λ (l : List (List ℕ)). [] ∷ l) (sym (take-nil j))
 after-upto zero (b ∷ s) = go (eqb b 45) refl (after-upto zero s)
   where
-    go : (h : Bool) → eqb b 45 ≡ h → Upto (take 1 (split s)) s (afterHyphens 1 s) → Upto (take 1 (cond h ([] ∷ split s) (longer b (split s)))) (b ∷ s) (later (cond h (At 0) (afterHyphens 1 s)))
+    go : (h : Bool) → eqb b 45 ≡ h → Upto (take 1 (split 45 s)) s (afterHyphens 1 s) → Upto (take 1 (cond h ([] ∷ split 45 s) (longer b (split 45 s)))) (b ∷ s) (later (cond h (At 0) (afterHyphens 1 s)))
     go true e f = (omega arith, refl)
-    go false e f = upto-later b s (take 1 (split s)) (take 1 (longer b (split s))) (afterHyphens 1 s) (λ t g. rw (e, g) (take-longer b 0 (split s))) f
+    go false e f = upto-later b s (take 1 (split 45 s)) (take 1 (longer b (split 45 s))) (afterHyphens 1 s) (λ t g. rw (e, g) (take-longer b 0 (split 45 s))) f
 after-upto (suc j) (b ∷ s) = go (eqb b 45) refl (after-upto j s) (after-upto (suc j) s)
   where
-    go : (h : Bool) → eqb b 45 ≡ h → Upto (take (suc j) (split s)) s (afterHyphens (suc j) s) → Upto (take (suc (suc j)) (split s)) s (afterHyphens (suc (suc j)) s) →
-        Upto (take (suc (suc j)) (cond h ([] ∷ split s) (longer b (split s)))) (b ∷ s) (later (cond h (afterHyphens (suc j) s) (afterHyphens (suc (suc j)) s)))
-    go true e f g = upto-later b s (take (suc j) (split s)) ([] ∷ take (suc j) (split s)) (afterHyphens (suc j) s) (λ t i. rw (e, i)) f
-    go false e f g = upto-later b s (take (suc (suc j)) (split s)) (take (suc (suc j)) (longer b (split s))) (afterHyphens (suc (suc j)) s) (λ t i. rw (e, i) (take-longer b (suc j) (split s))) g
+    go : (h : Bool) → eqb b 45 ≡ h → Upto (take (suc j) (split 45 s)) s (afterHyphens (suc j) s) → Upto (take (suc (suc j)) (split 45 s)) s (afterHyphens (suc (suc j)) s) →
+        Upto (take (suc (suc j)) (cond h ([] ∷ split 45 s) (longer b (split 45 s)))) (b ∷ s) (later (cond h (afterHyphens (suc j) s) (afterHyphens (suc (suc j)) s)))
+    go true e f g = upto-later b s (take (suc j) (split 45 s)) ([] ∷ take (suc j) (split 45 s)) (afterHyphens (suc j) s) (λ t i. rw (e, i)) f
+    go false e f g = upto-later b s (take (suc (suc j)) (split 45 s)) (take (suc (suc j)) (longer b (split 45 s))) (afterHyphens (suc (suc j)) s) (λ t i. rw (e, i) (take-longer b (suc j) (split 45 s))) g
 
 -- ---------------------------------------------------------------------------
 -- Hyphens inside a stretch do not count
@@ -386,7 +387,7 @@ hyphen-before b s t e w = record {
 }
 
 -- a text of one byte
-one-ends : (b : ℕ) (s : List ℕ) → length s ≡ 0 → Ends (b ∷ s) (b ∷ joined (split s))
+one-ends : (b : ℕ) (s : List ℕ) → length s ≡ 0 → Ends (b ∷ s) (b ∷ joined (split 45 s))
 unfolding joined split
 one-ends b (c ∷ s) h = absurd (omega arith)
 one-ends b [] h = record { before₁ = []; before₂ = []; last = b; ends₁ = refl; ends₂ = refl; same = refl }
@@ -398,37 +399,37 @@ joined-longer b [] = refl
 joined-longer b (p ∷ ps) = refl
 
 -- a text of solid parts is not empty
-solid-some : (s : List ℕ) → Solid (split s) → length s ≡ 0 → ⊥
+solid-some : (s : List ℕ) → Solid (split 45 s) → length s ≡ 0 → ⊥
 unfolding split
 solid-some [] h e = omega arith
 solid-some (b ∷ s) h e = omega arith
 
 -- a text ends as its parts joined do, where no part after the first is empty
-parts-end : (s : List ℕ) → Solid (drop 1 (split s)) → (length s ≡ 0) ⊎ Ends s (joined (split s))
+parts-end : (s : List ℕ) → Solid (drop 1 (split 45 s)) → (length s ≡ 0) ⊎ Ends s (joined (split 45 s))
 unfolding split joined
 parts-end [] h = inl refl
 parts-end (b ∷ s) h = inr (go (eqb b 45) refl h (parts-end s))
   where
-    go : (t : Bool) → eqb b 45 ≡ t → Solid (drop 1 (cond t ([] ∷ split s) (longer b (split s)))) → (Solid (drop 1 (split s)) → (length s ≡ 0) ⊎ Ends s (joined (split s))) → Ends (b ∷ s) (joined (cond t ([] ∷ split s) (longer b (split s))))
-    go true e g f = ⊎-elim (λ (z : length s ≡ 0). absurd (solid-some s g z)) (hyphen-before b s (joined (split s)) (eqb-true b 45 e)) (f (solid-drop 1 (split s) g))
-    go false e g f = rw (joined-longer b (split s)) (⊎-elim (one-ends b s) (more-before b s (joined (split s))) (f (rw (drop-longer b 0 (split s)) at g)))
+    go : (t : Bool) → eqb b 45 ≡ t → Solid (drop 1 (cond t ([] ∷ split 45 s) (longer b (split 45 s)))) → (Solid (drop 1 (split 45 s)) → (length s ≡ 0) ⊎ Ends s (joined (split 45 s))) → Ends (b ∷ s) (joined (cond t ([] ∷ split 45 s) (longer b (split 45 s))))
+    go true e g f = ⊎-elim (λ (z : length s ≡ 0). absurd (solid-some s g z)) (hyphen-before b s (joined (split 45 s)) (eqb-true b 45 e)) (f (solid-drop 1 (split 45 s) g))
+    go false e g f = rw (joined-longer b (split 45 s)) (⊎-elim (one-ends b s) (more-before b s (joined (split 45 s))) (f (rw (drop-longer b 0 (split 45 s)) at g)))
 
 -- a stretch of solid parts passes where the parts joined do
-stretch-right : (g : Group) (s : List ℕ) → Solid (split s) → stretchHolds (g .rule) s ≡ groupRight g (split s)
+stretch-right : (g : Group) (s : List ℕ) → Solid (split 45 s) → stretchHolds (g .rule) s ≡ groupRight g (split 45 s)
 unfolding groupRight
 stretch-right g s h =
     rw (ne-eqb (length s) 0 (solid-some s h))
-    (⊎-elim (λ (z : length s ≡ 0). absurd (solid-some s h z)) (ends-pass (g .rule) s (joined (split s))) (parts-end s (solid-drop 1 (split s) h))
+    (⊎-elim (λ (z : length s ≡ 0). absurd (solid-some s h z)) (ends-pass (g .rule) s (joined (split 45 s))) (parts-end s (solid-drop 1 (split 45 s) h))
     ∙ rw (first-part s .2))
 
 -- the head of a text of solid parts passes where the parts that it joins do
-head-right : (g : Group) (j : ℕ) (s : List ℕ) → Solid (split s) → headHolds (g .rule) j s ≡ groupRight g (take j (split s))
+head-right : (g : Group) (j : ℕ) (s : List ℕ) → Solid (split 45 s) → headHolds (g .rule) j s ≡ groupRight g (take j (split 45 s))
 unfolding groupRight afterHyphens
 head-right g zero s h = refl
 head-right g (suc j) s h = go (afterHyphens (suc j) s) (after-upto j s)
   where
-    go : (f : Found) → Upto (take (suc j) (split s)) s f → stretchHolds (g .rule) (before s f) ≡ groupRight g (take (suc j) (split s))
-    go (At e) u = stretch-right g (take (e - 1) s) (rw (u .1) (solid-take (suc j) (split s) h)) ∙ ap (groupRight g) (u .1)
+    go : (f : Found) → Upto (take (suc j) (split 45 s)) s f → stretchHolds (g .rule) (before s f) ≡ groupRight g (take (suc j) (split 45 s))
+    go (At e) u = stretch-right g (take (e - 1) s) (rw (u .1) (solid-take (suc j) (split 45 s) h)) ∙ ap (groupRight g) (u .1)
     go Nothing u = stretch-right g s h ∙ ap (groupRight g) u
 
 -- a text with no byte has no group that fails
@@ -448,8 +449,8 @@ unfolding partsOf groupRight
 group-right g [] h = none-held g (g .skipped) ∙ rw (drop-nil (g .skipped), take-nil (g .joins))
 group-right g (b ∷ s) h = go (afterHyphens (g .skipped) (b ∷ s)) (after-from (g .skipped) (b ∷ s))
   where
-    go : (f : Found) → From (drop (g .skipped) (split (b ∷ s))) (b ∷ s) f → heldFrom g (b ∷ s) f ≡ groupRight g (take (g .joins) (drop (g .skipped) (split (b ∷ s))))
-    go (At a) e = head-right g (g .joins) (drop a (b ∷ s)) (rw e (solid-drop (g .skipped) (split (b ∷ s)) h)) ∙ ap (λ (ps : List (List ℕ)). groupRight g (take (g .joins) ps)) e
+    go : (f : Found) → From (drop (g .skipped) (split 45 (b ∷ s))) (b ∷ s) f → heldFrom g (b ∷ s) f ≡ groupRight g (take (g .joins) (drop (g .skipped) (split 45 (b ∷ s))))
+    go (At a) e = head-right g (g .joins) (drop a (b ∷ s)) (rw e (solid-drop (g .skipped) (split 45 (b ∷ s)) h)) ∙ ap (λ (ps : List (List ℕ)). groupRight g (take (g .joins) ps)) e
     go Nothing e = rw (e, take-nil (g .joins))
 
 -- each of the groups, likewise

@@ -13,7 +13,8 @@ use Rattle.text.specs.Bytes.{isDigit, allOf, later}
 use Rattle.text.specs.declared.Class.the-variants.{Digits}
 use Rattle.text.proofs.Laws.{digit-bounds}
 use Rattle.models.specs.declared.Model.{Model}
-use Rattle.reference.specs.Parts.{longer, split, partsOf, partsFit, formed, groupsRight}
+use Rattle.text.specs.Split.{longer, split}
+use Rattle.reference.specs.Parts.{partsOf, partsFit, formed, groupsRight}
 use Rattle.reference.specs.Groups.{afterHyphens, groupsHold}
 use Rattle.reference.specs.Answers.{obeys}
 use Rattle.reference.proofs.Laws.{formed-groups}
@@ -72,14 +73,14 @@ shapes-longer b [] = refl
 shapes-longer b (p ∷ ps) = refl
 
 -- the parts of the shape are the shapes of the parts
-shape-split : (s : List ℕ) → split (shapeOf s) ≡ shapesOf (split s)
+shape-split : (s : List ℕ) → split 45 (shapeOf s) ≡ shapesOf (split 45 s)
 unfolding shapeOf shapesOf split
 shape-split [] = refl
 shape-split (b ∷ s) = rw (shape-hyphen b, shape-split s) (go (eqb b 45))
   where
-    go : (h : Bool) → cond h ([] ∷ shapesOf (split s)) (longer (shapeByte b) (shapesOf (split s))) ≡ shapesOf (cond h ([] ∷ split s) (longer b (split s)))
+    go : (h : Bool) → cond h ([] ∷ shapesOf (split 45 s)) (longer (shapeByte b) (shapesOf (split 45 s))) ≡ shapesOf (cond h ([] ∷ split 45 s) (longer b (split 45 s)))
     go true = refl
-    go false = shapes-longer b (split s)
+    go false = shapes-longer b (split 45 s)
 
 shape-parts : (s : List ℕ) → partsOf (shapeOf s) ≡ shapesOf (partsOf s)
 unfolding shapeOf shapesOf partsOf

@@ -5,10 +5,10 @@ use mathlib.Core.Bool.{Bool, true, false, cond, _&&_}
 use mathlib.Core.List.{List}
 use lib.Dec.{leb}
 use lib.ListN.{length}
-use Rattle.refusal.specs.Refusal.{none}
+use Rattle.refusal.specs.Refusal.{none, byteAt}
 use Rattle.refusal.specs.declared.Answer.{Answer}
 use Rattle.refusal.specs.declared.Answer.the-variants.{Accepted, Refused}
-use Rattle.refusal.specs.declared.Refusal.the-variants.{Byte, Length, Form, Model, Parts, Digit}
+use Rattle.refusal.specs.declared.Refusal.the-variants.{Length, Form, Model, Parts, Digit}
 use Rattle.text.specs.Bytes.{firstBad}
 use Rattle.text.specs.declared.Class.the-variants.{Reference}
 use Rattle.text.specs.declared.Found.{Found}
@@ -27,10 +27,6 @@ obeyAnswer model s =
 -- a reference's text accepted by its model
 abbrev pub obeys : declared.Model → List ℕ → Bool
 obeys model s = formed model s && groupsRight (model .groups) (partsOf s)
-
--- 3, told of a byte
-abbrev pub byteAt : ℕ → Answer
-byteAt i = Refused (Byte (record { line = 0; field = 0; byte = i }))
 
 -- 3 with its byte, then 4, then what the model says
 abbrev pub textAnswer : declared.Model → List ℕ → Found → Answer

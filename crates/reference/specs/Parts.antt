@@ -5,6 +5,7 @@ use mathlib.Core.List.{List, [], _∷_, _++_}
 use lib.Dec.{eqb, leb, ltb}
 use lib.ListN.{length, take, drop}
 use Rattle.text.specs.Bytes.{allOf}
+use Rattle.text.specs.Split.{split}
 use Rattle.text.specs.declared.Class.the-variants.{Digits}
 use Rattle.check_digits.specs.CheckDigit.{passes}
 use Rattle.models.specs.declared.Group.{Group}
@@ -13,20 +14,10 @@ use Rattle.models.specs.declared.Model.{Model}
 -- ---------------------------------------------------------------------------
 -- "Parts are digits, joined by hyphens, none empty"
 
--- a byte more at the front of the first part
-abbrev pub longer : ℕ → List (List ℕ) → List (List ℕ)
-longer b [] = (b ∷ []) ∷ []
-longer b (p ∷ ps) = (b ∷ p) ∷ ps
-
--- the texts between hyphens; `-` is 45
-unfoldable pub split : List ℕ → List (List ℕ)
-split [] = [] ∷ []
-split (b ∷ s) = cond (eqb b 45) ([] ∷ split s) (longer b (split s))
-
--- the parts of a reference; an empty one has none
+-- the parts of a reference, between its hyphens, 45; an empty one has none
 unfoldable pub partsOf : List ℕ → List (List ℕ)
 partsOf [] = []
-partsOf (b ∷ s) = split (b ∷ s)
+partsOf (b ∷ s) = split 45 (b ∷ s)
 
 -- ---------------------------------------------------------------------------
 -- Number and lengths of parts (8)

@@ -10,7 +10,7 @@ ghost use lib.ListN.{length};
 ghost use Rattle.reference.specs.Parts.{formed};
 ghost use Rattle.reference.specs.Groups.{afterHyphens, stretchHolds, headHolds, groupHolds, groupsHold};
 ghost use Rattle.reference.specs.Readers.{fitsNext, partRead, digitRead};
-ghost use Rattle.reference.specs.Answers.{byteAt, obeyAnswer, textAnswer, referenceAnswer};
+ghost use Rattle.reference.specs.Answers.{obeyAnswer, textAnswer, referenceAnswer};
 ghost use Rattle.text.specs.Bytes.{firstBad};
 use check_digits::Rule;
 use models::Group;

@@ -192,8 +192,7 @@ fn judge_fields(s: &[u8]) -> Answer
 }
 
 // A refusal of field n, which starts at a byte.
-fn placed(r: Refusal, n: usize, start: usize) -> Refusal
-{
+fn placed(r: Refusal, n: usize, start: usize) -> Refusal {
     let p = refusal::told(r);
     let byte = p.byte;
     refusal::put(

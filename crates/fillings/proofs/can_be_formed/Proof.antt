@@ -29,7 +29,7 @@ is-formed-requires : tie.Need-is-formed-requires
 is-formed-requires c κs = search needs
 
 returns : tie.Need-returns
-returns c = 
+returns c =
     let a = c .before .before .before .before .before .before .args in
     c .is-formed .ensures ∙ ap (formed (a .model)) (filled-front (a .s .now) _ _ 0 _ (omega arith) (c .before .before .before .filled .ensures .0) (c .before .before .before .filled .ensures .1))
 

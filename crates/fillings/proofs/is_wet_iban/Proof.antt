@@ -41,7 +41,7 @@ all-of-requires : tie.Need-all-of-requires
 all-of-requires c κs = search needs
 
 returns-4 : tie.Need-returns-4
-returns-4 c = 
+returns-4 c =
     and-second _ _ _ (eq-eqb _ _ (c .before .before .before .before .if2 .left))
     (and-second _ _ _ (eq-eqb _ _ (c .before .before .if3 .left)) (c .all-of .ensures ∙ ap (allOf WetAccount) (to-the-end 2 (c .before .before .before .before .before .before .before .before .args .s .now))))
 

@@ -30,9 +30,11 @@ nowhere-requires-2 : tie.Need-nowhere-requires-2
 nowhere-requires-2 c κs = search needs
 
 returns-2 : tie.Need-returns-2
-returns-2 c = 
-    (rw (c .nowhere2 .ensures)
-    (entered _ _ _ _ (eq-eqb _ _ (c .before .before .before .if1 .left)) (left _ _ _ _ (sym (c .before .before .is-wet-iban .ensures) ∙ not-true _ (c .before .if2 .taken)) refl)), refl)
+returns-2 c = (
+  rw (c .nowhere2 .ensures)
+      (entered _ _ _ _ (eq-eqb _ _ (c .before .before .before .if1 .left)) (left _ _ _ _ (sym (c .before .before .is-wet-iban .ensures) ∙ not-true _ (c .before .if2 .taken)) refl)),
+  refl,
+)
 
 count-marks-requires : tie.Need-count-marks-requires
 count-marks-requires c κs = search needs
@@ -41,11 +43,13 @@ nowhere-requires-3 : tie.Need-nowhere-requires-3
 nowhere-requires-3 c κs = search needs
 
 returns-3 : tie.Need-returns-3
-returns-3 c = 
-    (rw (c .nowhere3 .ensures)
-    (entered _ _ _ _ (eq-eqb _ _ (c .before .before .before .before .before .if1 .left))
-    (entered _ _ _ _ (sym (c .before .before .before .before .is-wet-iban .ensures) ∙ not-false _ (c .before .before .before .if2 .left))
-    (left _ _ _ _ (lt-leb (marks (c .before .before .before .before .before .before .before .before .args .s .now)) 4 (omega (arith, c .before .before .count-marks .ensures))) refl))), refl)
+returns-3 c = (
+  rw (c .nowhere3 .ensures)
+      (entered _ _ _ _ (eq-eqb _ _ (c .before .before .before .before .before .if1 .left))
+      (entered _ _ _ _ (sym (c .before .before .before .before .is-wet-iban .ensures) ∙ not-false _ (c .before .before .before .if2 .left))
+      (left _ _ _ _ (lt-leb (marks (c .before .before .before .before .before .before .before .before .args .s .now)) 4 (omega (arith, c .before .before .count-marks .ensures))) refl))),
+  refl,
+)
 
 rules-requires : tie.Need-rules-requires
 rules-requires c κs = search needs
@@ -57,7 +61,7 @@ same-length : tie.Need-same-length
 same-length c = search needs
 
 returns-4 : tie.Need-returns-4
-returns-4 c = 
+returns-4 c =
     iban-listed _ _ _ _ _ refl (c .before .before .before .before .before .before .before .before .before .before .if1 .left)
     (sym (c .before .before .before .before .before .before .before .before .before .is-wet-iban .ensures) ∙ not-false _ (c .before .before .before .before .before .before .before .before .if2 .left))
     (omega (arith, c .before .before .before .before .before .before .before .count-marks .ensures))

@@ -21,7 +21,7 @@ can-be-formed-requires : tie.Need-can-be-formed-requires
 can-be-formed-requires c κs = search needs
 
 returns-2 : tie.Need-returns-2
-returns-2 c = 
+returns-2 c =
     let a = c .before .before .before .before .before .args in
     none-listed (a .model) (a .s .now) (a .out .now) (not-false _ (c .before .before .if1 .left)) (sym (c .before .can-be-formed .ensures) ∙ not-true _ (c .if2 .taken))
 

@@ -29,9 +29,11 @@ nowhere-requires-2 : tie.Need-nowhere-requires-2
 nowhere-requires-2 c κs = search needs
 
 returns-2 : tie.Need-returns-2
-returns-2 c = 
-    (rw (c .nowhere2 .ensures)
-    (entered _ _ _ _ (le-leb _ _ (c .before .before .before .if1 .left)) (left _ _ _ _ (sym (c .before .before .all-of .ensures) ∙ not-true _ (c .before .if2 .taken)) refl)), refl)
+returns-2 c = (
+  rw (c .nowhere2 .ensures)
+      (entered _ _ _ _ (le-leb _ _ (c .before .before .before .if1 .left)) (left _ _ _ _ (sym (c .before .before .all-of .ensures) ∙ not-true _ (c .before .if2 .taken)) refl)),
+  refl,
+)
 
 count-marks-requires : tie.Need-count-marks-requires
 count-marks-requires c κs = search needs
@@ -40,11 +42,13 @@ nowhere-requires-3 : tie.Need-nowhere-requires-3
 nowhere-requires-3 c κs = search needs
 
 returns-3 : tie.Need-returns-3
-returns-3 c = 
-    (rw (c .nowhere3 .ensures)
-    (entered _ _ _ _ (le-leb _ _ (c .before .before .before .before .before .if1 .left))
-    (entered _ _ _ _ (sym (c .before .before .before .before .all-of .ensures) ∙ not-false _ (c .before .before .before .if2 .left))
-    (left _ _ _ _ (lt-leb (marks (c .before .before .before .before .before .before .before .before .before .args .s .now)) 4 (omega (arith, c .before .before .count-marks .ensures))) refl))), refl)
+returns-3 c = (
+  rw (c .nowhere3 .ensures)
+      (entered _ _ _ _ (le-leb _ _ (c .before .before .before .before .before .if1 .left))
+      (entered _ _ _ _ (sym (c .before .before .before .before .all-of .ensures) ∙ not-false _ (c .before .before .before .if2 .left))
+      (left _ _ _ _ (lt-leb (marks (c .before .before .before .before .before .before .before .before .before .args .s .now)) 4 (omega (arith, c .before .before .count-marks .ensures))) refl))),
+  refl,
+)
 
 number-requires : tie.Need-number-requires
 number-requires c κs = search needs
@@ -58,11 +62,12 @@ same-length c = search needs
 returns-4 : tie.Need-returns-4
 returns-4 c =
     let a = c .before .before .before .before .before .before .before .before .before .before .before .before .before .args in
-    rw (sym (c .before .before .before .before .number .ensures))
-    (entered _ _ _ _ (le-leb (length (a .s .now)) 22 (omega arith))
-    (entered _ _ _ _ (sym (c .before .before .before .before .before .before .before .before .all-of .ensures) ∙ not-false _ (c .before .before .before .before .before .before .before .if2 .left))
-    (entered _ _ _ _ (le-leb (marks (a .s .now)) 4 (omega (arith, c .before .before .before .before .before .before .count-marks .ensures))) (c .before .before .list-numbered .ensures .0))),
-    c .before .before .list-numbered .ensures .1)
+    rw (sym (c .before .before .before .before .number .ensures)) (
+      entered _ _ _ _ (le-leb (length (a .s .now)) 22 (omega arith))
+          (entered _ _ _ _ (sym (c .before .before .before .before .before .before .before .before .all-of .ensures) ∙ not-false _ (c .before .before .before .before .before .before .before .if2 .left))
+          (entered _ _ _ _ (le-leb (marks (a .s .now)) 4 (omega (arith, c .before .before .before .before .before .before .count-marks .ensures))) (c .before .before .list-numbered .ensures .0))),
+      c .before .before .list-numbered .ensures .1,
+    )
 
 pub list-reference-spec : {M : Type 1} → statement M
 list-reference-spec =
