@@ -1,3 +1,2 @@
 -- The definitions of the crate `slip`.
-pub mod Fields
 pub mod Slip

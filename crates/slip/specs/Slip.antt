@@ -10,7 +10,7 @@ use Rattle.refusal.specs.declared.Answer.the-variants.{Accepted, Refused}
 use Rattle.refusal.specs.declared.Refusal.{Refusal}
 use Rattle.refusal.specs.declared.Refusal.the-variants.{Size, Ends}
 use Rattle.text.specs.Split.{split}
-use Rattle.slip.specs.Fields.{fieldAnswer}
+use Rattle.slip_fields.specs.Fields.{fieldAnswer}
 
 -- ---------------------------------------------------------------------------
 -- Line ends (2)
