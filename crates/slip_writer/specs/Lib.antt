@@ -1,2 +1,0 @@
--- The definitions of the crate `slip_writer`.
-pub mod Writer
