@@ -1,9 +1,9 @@
 -- An IBAN's number over 97, taken in three pieces as the code takes it.
 -- Assumes nothing.
-use mathlib.Core.Path.{_≡_, refl, sym, ap, _∙_}
-use mathlib.Core.Bool.{Bool, true, false, cond, _&&_, and-false}
-use mathlib.Core.List.{List, [], _∷_, _++_}
-use Prim.Native.Nat.{ℕ, _+_, _-_, _*_, _/_, _%_, _≤_, _<_}
+use mathlib.Core.Path.{_≡_, sym, ap, _∙_}
+use mathlib.Core.Bool.{false, and-false}
+use mathlib.Core.List.{List, _∷_}
+use Prim.Native.Nat.{ℕ, _+_, _-_, _*_, _/_, _%_, _<_}
 use native.Mathlib.Nat.{div-add-mod, add-mul-mod-self-left}
 use native.Mathlib.Omega.{arith}
 use lib.Dec.{eqb}
@@ -11,8 +11,6 @@ use lib.ListN.{length, take, drop, getD, List·getD-eq-default, length-drop}
 use lib.Seq.{take-all}
 use Rattle.text.specs.Bytes.{isDigit}
 use Rattle.text.specs.Digits.{digitsOf, valueFrom, valueOf, twoDigits}
-use Rattle.text.specs.declared.Found.{Found}
-use Rattle.text.specs.declared.Found.the-variants.{At, Nothing}
 use Rattle.text.proofs.Laws.{value-append, and-first}
 use Rattle.check_digits.proofs.Laws.{value-over-97}
 use Rattle.account.specs.Account.{inRange, rearranged, ibanPasses}

@@ -2,22 +2,22 @@
 -- Assumes nothing.
 use mathlib.Core.Path.{_≡_, refl, sym, ap, _∙_}
 use mathlib.Core.Bool.{Bool, true, false, cond}
-use mathlib.Core.List.{List, [], _∷_, _++_}
-use Prim.Native.Nat.{ℕ, zero, suc, _+_, _-_, _*_, _/_, _%_, _≤_, _<_}
-use native.Mathlib.Nat.{mod-lt, mod-eq-of-lt, mod-eq-sub-mod, mul-add, add-mul, suc-mul, mul-assoc, mul-left-comm, mul-comm, zero-mul, div-add-mod, add-mul-mod-self-left, mod-mod, add-zero}
+use mathlib.Core.List.{List, [], _∷_}
+use Prim.Native.Nat.{ℕ, suc, _+_, _-_, _*_, _/_, _%_, _≤_, _<_}
+use native.Mathlib.Nat.{mod-lt, mod-eq-of-lt, mod-eq-sub-mod, mul-add, add-mul, suc-mul, mul-left-comm, zero-mul, div-add-mod, add-mul-mod-self-left, mod-mod}
 use native.Mathlib.Numerals.{add-one}
 use native.Mathlib.Omega.{arith}
-use lib.Dec.{eqb, leb, ltb, lit<}
+use lib.Dec.{leb, ltb, lit<}
 use borrow.Author.Tests.{ne-eqb, lt-ltb, le-ltb, lt-leb, le-leb}
 use Rattle.text.proofs.Laws.{taken, left, and-first, and-second, digits-append, value-append}
-use lib.ListN.{length, drop, take, getD}
+use lib.ListN.{length, drop, getD}
 use lib.Seq.{drop-cons, drop-length}
 use Rattle.text.specs.Bytes.{isDigit}
 use Rattle.text.specs.Digits.{digitsOf, valueFrom}
 use Rattle.check_digits.specs.declared.Rule.{Rule}
 use Rattle.check_digits.specs.declared.Rule.the-variants.{Ini, Mod1110}
 use Rattle.check_digits.specs.declared.Run.{Run}
-use Rattle.check_digits.specs.CheckDigit.{weighted, carry, carriedOver, checkDigit, digitFor, remainder, tenForZero}
+use Rattle.check_digits.specs.CheckDigit.{weighted, carry, carriedOver, checkDigit, digitFor, tenForZero}
 use Rattle.check_digits.specs.Answers.{sized}
 use Rattle.check_digits.specs.Run.{Small, startOf, stepOf, readOf, runOf, digitOf}
 

@@ -1,15 +1,14 @@
 -- What is promised of check digits, over any number of digits and both rules: exactly one digit completes any digits, and the made digit
 -- is that one.
 -- Assumes nothing.
-use mathlib.Core.Path.{_≡_, refl, sym, ap, _∙_}
-use mathlib.Core.Logic.{_↔_}
-use mathlib.Core.Bool.{Bool, true, false, cond, _&&_}
+use mathlib.Core.Path.{_≡_, refl, sym, _∙_}
+use mathlib.Core.Bool.{Bool, true, false, cond}
 use mathlib.Core.List.{List, [], _∷_, _++_}
-use Prim.Native.Nat.{ℕ, zero, suc, _+_, _-_, _*_, _%_, _≤_, _<_}
+use Prim.Native.Nat.{ℕ, _+_, _-_, _≤_, _<_}
 use native.Mathlib.Nat.{mod-lt}
 use native.Mathlib.Omega.{arith}
 use lib.Dec.{eqb, ltb, lit<}
-use lib.ListN.{length, take, getD, length-append}
+use lib.ListN.{length, length-append}
 use lib.Seq.{take-append-seam, getD-append-seam}
 use borrow.Author.Tests.{lt-ltb, eq-eqb, eqb-true, ltb-false}
 use Rattle.refusal.specs.Only.{Only, defined-only}

@@ -1,5 +1,5 @@
 -- Document 01, "Check digits": MOD 11,10 and INI. (MOD 97-10 needs a remainder alone: `valueFrom .. % 97`.)
-use Prim.Native.Nat.{ℕ, suc, _+_, _-_, _*_, _%_}
+use Prim.Native.Nat.{ℕ, _+_, _-_, _*_, _%_}
 use mathlib.Core.Bool.{Bool, cond, _&&_}
 use mathlib.Core.List.{List, [], _∷_}
 use lib.Dec.{eqb, ltb}

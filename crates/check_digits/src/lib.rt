@@ -5,7 +5,7 @@
 // `started` and `digit_for`. No sum grows with the number of digits, so no call asks for a length.
 ghost use mathlib.Core.Path.{_≡_};
 ghost use mathlib.Core.List.{[], _∷_};
-ghost use Prim.Native.Nat.{_<_, _≤_, _+_, _%_};
+ghost use Prim.Native.Nat.{_<_, _+_, _%_};
 ghost use Rattle.text.specs.Digits.{digitsOf, valueFrom};
 ghost use Rattle.check_digits.specs.CheckDigit.{carry, digitFor, checkDigit, passes};
 ghost use Rattle.check_digits.specs.Run.{Small, startOf, stepOf, readOf, digitOf};

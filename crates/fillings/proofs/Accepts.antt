@@ -1,23 +1,22 @@
 -- What the listing asks of each filling is all that the rules ask of it: where the wet text has an IBAN's form each filling has it, and
 -- whether a reference is formed depends on its hyphens alone, so that one filling tells of all.
 -- Assumes nothing.
-use mathlib.Core.Path.{_≡_, refl, sym, ap, _∙_}
+use mathlib.Core.Path.{_≡_, refl, sym, _∙_}
 use mathlib.Core.Bool.{Bool, true, false, cond, _&&_, _||_, and-false}
-use mathlib.Core.List.{List, [], _∷_, _++_}
+use mathlib.Core.List.{List, [], _∷_}
 use Prim.Native.Nat.{ℕ, zero, suc, _+_, _/_, _%_, _^_, _≤_, _<_}
 use native.Mathlib.Omega.{arith}
-use lib.Dec.{eqb, leb}
+use lib.Dec.{eqb}
 use lib.ListN.{length, take, drop, getD, List·getD-eq-default}
 use lib.Seq.{take-at}
 use borrow.Author.Tests.{eq-eqb, eqb-true, le-leb, le-ltb}
 use Rattle.text.specs.Bytes.{isDigit, allOf, marks}
 use Rattle.text.specs.declared.Class.the-variants.{Digits, WetAccount}
 use Rattle.text.proofs.Laws.{both-true, digit-between, entered, left}
-use Rattle.account.specs.Account.{ibanFormed, ibanPasses}
+use Rattle.account.specs.Account.{ibanFormed}
 use Rattle.account.specs.Answers.{isIban}
 use Rattle.models.specs.declared.Model.{Model}
 use Rattle.reference.specs.Parts.{formed}
-use Rattle.reference.specs.Groups.{groupsHold}
 use Rattle.reference.specs.Answers.{obeys}
 use Rattle.reference.proofs.Shape.{shapeOf, shapeByte, same-shape-formed, obeys-groups}
 use Rattle.fillings.specs.declared.Aim.{Aim}

@@ -1,6 +1,6 @@
 -- How the code keeps a line, byte by byte, in two lent arrays: it mirrors src/, and proofs/Theorems.antt says what is kept.
 use Prim.Native.Nat.{ℕ, _+_}
-use mathlib.Core.Bool.{Bool, true, false, cond}
+use mathlib.Core.Bool.{true, false, cond}
 use mathlib.Core.List.{List, [], _∷_}
 use lib.Dec.{eqb, ltb}
 use lib.ListN.{length, set}

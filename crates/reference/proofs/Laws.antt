@@ -11,13 +11,13 @@ use native.Mathlib.Nat.{add-zero, zero-add}
 use lib.Dec.{eqb, leb, ltb, eqb·suc-zero, leb·suc-zero}
 use lib.ListN.{length, take, drop, getD, length-drop, drop-of-length-le}
 use lib.Seq.{drop-cons, drop-length, drop-nil, take-nil, take-all}
-use borrow.Author.Tests.{eq-eqb, ne-eqb, eqb-true, lt-ltb, le-ltb, le-leb, lt-leb, ltb-true}
+use borrow.Author.Tests.{eq-eqb, ne-eqb, eqb-true, lt-ltb, le-leb, ltb-true}
 use Rattle.text.specs.Bytes.{isDigit, allOf, later}
 use Rattle.text.specs.Digits.{digitsOf}
 use Rattle.text.specs.declared.Class.the-variants.{Digits}
 use Rattle.text.specs.declared.Found.{Found}
 use Rattle.text.specs.declared.Found.the-variants.{At, Nothing}
-use Rattle.text.proofs.Laws.{taken, left, entered, and-first, and-second, both-true, shifted, shifted-later}
+use Rattle.text.proofs.Laws.{taken, left, entered, both-true, shifted, shifted-later}
 use Rattle.check_digits.specs.declared.Rule.{Rule}
 use Rattle.check_digits.specs.CheckDigit.{checkDigit, passes}
 use Rattle.check_digits.proofs.Theorems.{passes-snoc}

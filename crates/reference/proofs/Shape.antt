@@ -5,11 +5,11 @@ use mathlib.Core.Path.{_≡_, refl, sym, ap, _∙_}
 use mathlib.Core.Bool.{Bool, true, false, cond, _&&_}
 use mathlib.Core.List.{List, [], _∷_}
 use Prim.Native.Nat.{ℕ, zero, suc}
-use lib.Dec.{eqb, leb, ltb}
+use lib.Dec.{eqb}
 use lib.ListN.{length}
 use native.Mathlib.Omega.{arith}
 use borrow.Author.Tests.{ne-eqb}
-use Rattle.text.specs.Bytes.{isDigit, allOf, later}
+use Rattle.text.specs.Bytes.{isDigit, allOf}
 use Rattle.text.specs.declared.Class.the-variants.{Digits}
 use Rattle.text.proofs.Laws.{digit-bounds}
 use Rattle.models.specs.declared.Model.{Model}

@@ -1,6 +1,6 @@
 -- How the digit reader and the part reader go through a reference: it mirrors src/, and proofs/Laws.antt leads from it to `formed`
 -- of Parts.antt. No contract of a public call cites it.
-use Prim.Native.Nat.{ℕ, suc, _+_}
+use Prim.Native.Nat.{ℕ, _+_}
 use mathlib.Core.Bool.{Bool, cond, _&&_}
 use mathlib.Core.List.{List, [], _∷_}
 use lib.Dec.{eqb, leb, ltb}

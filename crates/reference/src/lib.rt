@@ -4,7 +4,7 @@
 // call each other, as 01 asks; what a listing asks again and again, the check groups, is loops.
 ghost use mathlib.Core.Path.{_≡_};
 ghost use mathlib.Core.Bool.{_&&_};
-ghost use Prim.Native.Nat.{_≤_, _<_, _+_, _^_};
+ghost use Prim.Native.Nat.{_<_, _+_, _^_};
 ghost use lib.Dec.{leb};
 ghost use lib.ListN.{length};
 ghost use Rattle.reference.specs.Parts.{formed};

@@ -1,5 +1,5 @@
 -- The digits of a text, and the number that digits write.
-use Prim.Native.Nat.{ℕ, _+_, _-_, _*_}
+use Prim.Native.Nat.{ℕ, zero, suc, _+_, _-_, _*_, _/_, _%_, _^_}
 use mathlib.Core.Bool.{cond, _&&_}
 use mathlib.Core.List.{List, [], _∷_}
 use Rattle.text.specs.declared.Found.{Found}
@@ -23,3 +23,8 @@ valueOf ds = valueFrom 0 ds
 -- the number that two bytes write, where both are digits
 abbrev pub twoDigits : ℕ → ℕ → Found
 twoDigits a b = cond (isDigit a && isDigit b) (At ((a - 48) * 10 + (b - 48))) Nothing
+
+-- the last n digits of a number as a text, with zeros in front; `0` is 48
+unfoldable pub digitsText : ℕ → ℕ → List ℕ
+digitsText zero a = []
+digitsText (suc n) a = (48 + (a / 10 ^ n) % 10) ∷ digitsText n a

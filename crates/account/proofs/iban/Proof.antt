@@ -6,11 +6,6 @@ use Rattle.text.proofs.Laws.{left, entered}
 use borrow.Author.Needs.{needs}
 use Rattle.account.proofs.iban.Statement.{statement}
 use Rattle.account.proofs.iban.Tie as tie
-use Rattle.account.proofs.iban.Reads as reads
-use Rattle.account.proofs.iban.Lts as lts
-use Rattle.account.proofs.iban_check.Reads as iban-check-reads
-use Rattle.refusal.proofs.nowhere.Reads as nowhere-reads
-use Rattle.text.proofs.first_bad.Reads as first-bad-reads
 
 first-bad-requires : tie.Need-first-bad-requires
 first-bad-requires c κs = search needs

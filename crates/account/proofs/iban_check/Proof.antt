@@ -5,11 +5,6 @@ use Rattle.text.proofs.Laws.{taken, left, entered}
 use borrow.Author.Needs.{needs}
 use Rattle.account.proofs.iban_check.Statement.{statement}
 use Rattle.account.proofs.iban_check.Tie as tie
-use Rattle.account.proofs.iban_check.Reads as reads
-use Rattle.account.proofs.iban_check.Lts as lts
-use Rattle.account.proofs.iban_passes.Reads as iban-passes-reads
-use Rattle.account.proofs.is_iban_formed.Reads as is-iban-formed-reads
-use Rattle.refusal.proofs.nowhere.Reads as nowhere-reads
 
 is-iban-formed-requires : tie.Need-is-iban-formed-requires
 is-iban-formed-requires c κs = search needs

@@ -1,5 +1,5 @@
 -- `account::iban_passes` meets its contract: the number is taken in three pieces. Assumes nothing.
-use mathlib.Core.Path.{refl, sym, ap, _∙_}
+use mathlib.Core.Path.{sym, ap, _∙_}
 use Prim.Native.Nat.{ℕ, _%_}
 use mathlib.Core.List.{List}
 use Rattle.text.specs.Digits.{digitsOf, valueFrom}
@@ -11,11 +11,6 @@ use Rattle.account.proofs.Laws.{short-fails, in-three-pieces, to-the-en
 use borrow.Author.Needs.{needs}
 use Rattle.account.proofs.iban_passes.Statement.{statement}
 use Rattle.account.proofs.iban_passes.Tie as tie
-use Rattle.account.proofs.iban_passes.Reads as reads
-use Rattle.account.proofs.iban_passes.Lts as lts
-use Rattle.account.proofs.is_in_range.Reads as is-in-range-reads
-use Rattle.check_digits.proofs.remainder97.Reads as remainder97-reads
-use Rattle.text.proofs.two_digits.Reads as two-digits-reads
 
 returns : tie.Need-returns
 returns c = short-fails _ (c .if1 .taken)

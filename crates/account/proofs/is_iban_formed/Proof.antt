@@ -1,5 +1,5 @@
 -- `account::is_iban_formed` meets its contract: each return is the definition's choice on the tests that led there. Assumes nothing.
-use mathlib.Core.Path.{refl, sym, ap, _∙_}
+use mathlib.Core.Path.{ap, _∙_}
 use borrow.Author.Tests.{ne-eqb, eq-eqb}
 use Rattle.text.proofs.Laws.{and-first, and-second}
 use Rattle.text.specs.Bytes.{allOf}
@@ -8,9 +8,6 @@ use Rattle.account.proofs.Laws.{to-the-end}
 use borrow.Author.Needs.{needs}
 use Rattle.account.proofs.is_iban_formed.Statement.{statement}
 use Rattle.account.proofs.is_iban_formed.Tie as tie
-use Rattle.account.proofs.is_iban_formed.Reads as reads
-use Rattle.account.proofs.is_iban_formed.Lts as lts
-use Rattle.text.proofs.all_of.Reads as all-of-reads
 
 returns : tie.Need-returns
 returns c = and-first _ _ (ne-eqb _ _ (c .if1 .taken))

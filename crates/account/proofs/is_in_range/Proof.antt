@@ -5,8 +5,6 @@ use Rattle.text.proofs.Laws.{and-first, and-second}
 use borrow.Author.Needs.{needs}
 use Rattle.account.proofs.is_in_range.Statement.{statement}
 use Rattle.account.proofs.is_in_range.Tie as tie
-use Rattle.account.proofs.is_in_range.Reads as reads
-use Rattle.account.proofs.is_in_range.Lts as lts
 
 enum-known-digits : tie.Need-enum-known-digits
 enum-known-digits c = search needs

@@ -6,11 +6,6 @@ use Rattle.text.proofs.Laws.{taken, left, entered}
 use borrow.Author.Needs.{needs}
 use Rattle.account.proofs.oib.Statement.{statement}
 use Rattle.account.proofs.oib.Tie as tie
-use Rattle.account.proofs.oib.Reads as reads
-use Rattle.account.proofs.oib.Lts as lts
-use Rattle.account.proofs.oib_passes.Reads as oib-passes-reads
-use Rattle.refusal.proofs.nowhere.Reads as nowhere-reads
-use Rattle.text.proofs.first_bad.Reads as first-bad-reads
 
 first-bad-requires : tie.Need-first-bad-requires
 first-bad-requires c κs = search needs

@@ -3,9 +3,6 @@ use Rattle.account.specs.Account.{oibPasses}
 use borrow.Author.Needs.{needs}
 use Rattle.account.proofs.oib_passes.Statement.{statement}
 use Rattle.account.proofs.oib_passes.Tie as tie
-use Rattle.account.proofs.oib_passes.Reads as reads
-use Rattle.account.proofs.oib_passes.Lts as lts
-use Rattle.check_digits.proofs.ends_right.Reads as ends-right-reads
 
 ends-right-requires : tie.Need-ends-right-requires
 ends-right-requires c κs = search needs

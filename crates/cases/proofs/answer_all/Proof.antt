@@ -4,10 +4,6 @@ use native.Mathlib.Omega.{arith}
 use lib.ListN.{length, drop, length-take, length-drop}
 use Rattle.cases.proofs.answer_all.Statement.{statement}
 use Rattle.cases.proofs.answer_all.Tie as tie
-use Rattle.cases.proofs.answer_all.Reads as reads
-use Rattle.cases.proofs.answer_all.Lts as lts
-use Rattle.cases.proofs.answer.Reads as answer-reads
-use Rattle.cases.proofs.find.Reads as find-reads
 
 abbrev Inv-loop : tie.InvT-loop
 Inv-loop s at₀ at = at ≤ length s + 1

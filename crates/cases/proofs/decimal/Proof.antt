@@ -4,9 +4,6 @@ use native.Mathlib.Omega.{arith}
 use lib.ListN.{length}
 use Rattle.cases.proofs.decimal.Statement.{statement}
 use Rattle.cases.proofs.decimal.Tie as tie
-use Rattle.cases.proofs.decimal.Reads as reads
-use Rattle.cases.proofs.decimal.Lts as lts
-use Rattle.cases.proofs.one_more.Reads as one-more-reads
 
 abbrev Inv-loop : tie.InvT-loop
 Inv-loop s n₀ i₀ n i = (n ≤ 10000) × (i ≤ length s)

@@ -4,8 +4,6 @@ use native.Mathlib.Omega.{arith}
 use lib.ListN.{length}
 use Rattle.cases.proofs.find.Statement.{statement}
 use Rattle.cases.proofs.find.Tie as tie
-use Rattle.cases.proofs.find.Reads as reads
-use Rattle.cases.proofs.find.Lts as lts
 
 abbrev Inv-loop : tie.InvT-loop
 Inv-loop s b i₀ i = i ≤ length s

@@ -5,8 +5,6 @@ use lib.Seq.{length-take-le}
 use borrow.Author.Needs.{needs}
 use Rattle.cases.proofs.front.Statement.{statement}
 use Rattle.cases.proofs.front.Tie as tie
-use Rattle.cases.proofs.front.Reads as reads
-use Rattle.cases.proofs.front.Lts as lts
 
 slice-aggregate-result : tie.Need-slice-aggregate-result
 slice-aggregate-result c = sym (length-take-le (c .before .before .args .i) (c .before .before .args .s .now) (omega arith))

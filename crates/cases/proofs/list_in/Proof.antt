@@ -5,15 +5,6 @@ use lib.Seq.{length-take-le}
 use borrow.Author.Needs.{needs}
 use Rattle.cases.proofs.list_in.Statement.{statement}
 use Rattle.cases.proofs.list_in.Tie as tie
-use Rattle.cases.proofs.list_in.Reads as reads
-use Rattle.cases.proofs.list_in.Lts as lts
-use Rattle.cases.proofs.beyond.Reads as beyond-reads
-use Rattle.cases.proofs.find.Reads as find-reads
-use Rattle.cases.proofs.front.Reads as front-reads
-use Rattle.cases.proofs.listed.Reads as listed-reads
-use Rattle.fillings.proofs.list_iban.Reads as list-iban-reads
-use Rattle.fillings.proofs.list_reference.Reads as list-reference-reads
-use Rattle.text.proofs.count_marks.Reads as count-marks-reads
 
 find-requires : tie.Need-find-requires
 find-requires c κs = search needs

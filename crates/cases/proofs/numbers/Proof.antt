@@ -5,10 +5,6 @@ use native.Mathlib.Omega.{arith}
 use borrow.Author.Needs.{needs}
 use Rattle.cases.proofs.numbers.Statement.{statement}
 use Rattle.cases.proofs.numbers.Tie as tie
-use Rattle.cases.proofs.numbers.Reads as reads
-use Rattle.cases.proofs.numbers.Lts as lts
-use Rattle.cases.proofs.padded.Reads as padded-reads
-use Rattle.cases.proofs.say.Reads as say-reads
 
 abbrev Inv-loop : tie.InvT-loop
 Inv-loop n marks out i₀ t5 i = i ≤ n

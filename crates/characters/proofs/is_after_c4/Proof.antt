@@ -4,8 +4,6 @@ use borrow.Author.Tests.{eq-eqb, ne-eqb}
 use Rattle.text.proofs.Laws.{or-first, or-second}
 use Rattle.characters.proofs.is_after_c4.Statement.{statement}
 use Rattle.characters.proofs.is_after_c4.Tie as tie
-use Rattle.characters.proofs.is_after_c4.Reads as reads
-use Rattle.characters.proofs.is_after_c4.Lts as lts
 
 returns : tie.Need-returns
 returns c = or-first _ _ (eq-eqb _ _ (c .if1 .taken))

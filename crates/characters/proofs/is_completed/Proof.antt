@@ -4,9 +4,6 @@ use Rattle.text.proofs.Laws.{and-first, and-second}
 use borrow.Author.Needs.{needs}
 use Rattle.characters.proofs.is_completed.Statement.{statement}
 use Rattle.characters.proofs.is_completed.Tie as tie
-use Rattle.characters.proofs.is_completed.Reads as reads
-use Rattle.characters.proofs.is_completed.Lts as lts
-use Rattle.characters.proofs.is_pair.Reads as is-pair-reads
 
 returns : tie.Need-returns
 returns c = and-first _ _ (le-ltb _ _ (c .if1 .taken))

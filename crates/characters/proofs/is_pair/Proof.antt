@@ -3,10 +3,6 @@ use Rattle.characters.proofs.Laws.{pair-c4, pair-c5, no-pair}
 use borrow.Author.Needs.{needs}
 use Rattle.characters.proofs.is_pair.Statement.{statement}
 use Rattle.characters.proofs.is_pair.Tie as tie
-use Rattle.characters.proofs.is_pair.Reads as reads
-use Rattle.characters.proofs.is_pair.Lts as lts
-use Rattle.characters.proofs.is_after_c4.Reads as is-after-c4-reads
-use Rattle.characters.proofs.is_after_c5.Reads as is-after-c5-reads
 
 is-after-c4-requires : tie.Need-is-after-c4-requires
 is-after-c4-requires c κs = search needs

@@ -4,8 +4,6 @@ use borrow.Author.Tests.{eq-eqb, ne-eqb, lt-leb, le-leb}
 use Rattle.text.proofs.Laws.{or-first, or-second, and-first, and-second}
 use Rattle.characters.proofs.is_sign.Statement.{statement}
 use Rattle.characters.proofs.is_sign.Tie as tie
-use Rattle.characters.proofs.is_sign.Reads as reads
-use Rattle.characters.proofs.is_sign.Lts as lts
 
 returns : tie.Need-returns
 returns c = or-first _ _ (eq-eqb _ _ (c .if1 .taken))

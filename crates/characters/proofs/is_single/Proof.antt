@@ -4,12 +4,6 @@ use Rattle.text.proofs.Laws.{or-first, or-second}
 use borrow.Author.Needs.{needs}
 use Rattle.characters.proofs.is_single.Statement.{statement}
 use Rattle.characters.proofs.is_single.Tie as tie
-use Rattle.characters.proofs.is_single.Reads as reads
-use Rattle.characters.proofs.is_single.Lts as lts
-use Rattle.characters.proofs.is_letter.Reads as is-letter-reads
-use Rattle.characters.proofs.is_sign.Reads as is-sign-reads
-use Rattle.characters.proofs.is_small_letter.Reads as is-small-letter-reads
-use Rattle.text.proofs.is_digit.Reads as is-digit-reads
 
 is-digit-requires : tie.Need-is-digit-requires
 is-digit-requires c κs = search needs

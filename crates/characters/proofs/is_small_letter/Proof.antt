@@ -2,8 +2,6 @@
 use borrow.Author.Tests.{lt-leb, le-leb}
 use Rattle.characters.proofs.is_small_letter.Statement.{statement}
 use Rattle.characters.proofs.is_small_letter.Tie as tie
-use Rattle.characters.proofs.is_small_letter.Reads as reads
-use Rattle.characters.proofs.is_small_letter.Lts as lts
 
 returns : tie.Need-returns
 returns c = simp (lt-leb _ _ (c .if1 .taken))

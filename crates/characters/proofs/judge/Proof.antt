@@ -8,11 +8,6 @@ use lib.ListN.{length}
 use Rattle.characters.proofs.Laws.{Passed, passed-none, passed-single, passed-pair, passed-wrong, passed-all, wrong-told, long-told, short-accepted}
 use Rattle.characters.proofs.judge.Statement.{statement}
 use Rattle.characters.proofs.judge.Tie as tie
-use Rattle.characters.proofs.judge.Reads as reads
-use Rattle.characters.proofs.judge.Lts as lts
-use Rattle.characters.proofs.is_completed.Reads as is-completed-reads
-use Rattle.characters.proofs.is_single.Reads as is-single-reads
-use Rattle.refusal.proofs.nowhere.Reads as nowhere-reads
 
 abbrev Inv-loop : tie.InvT-loop
 Inv-loop most s n₀ i₀ n i = Passed s i n

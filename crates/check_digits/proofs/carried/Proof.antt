@@ -3,9 +3,6 @@ use Rattle.check_digits.proofs.Laws.{carried-on, carried-over}
 use borrow.Author.Needs.{needs}
 use Rattle.check_digits.proofs.carried.Statement.{statement}
 use Rattle.check_digits.proofs.carried.Tie as tie
-use Rattle.check_digits.proofs.carried.Reads as reads
-use Rattle.check_digits.proofs.carried.Lts as lts
-use Rattle.check_digits.proofs.folded.Reads as folded-reads
 
 add-folded : tie.Need-add-folded
 add-folded c = search needs

@@ -1,6 +1,6 @@
 -- `check_digits::check_digit` meets its contract. The loop's invariant: what is read of the whole is what is read of the rest from here.
 -- Assumes nothing.
-use Prim.Native.Nat.{_≤_, _+_, _-_}
+use Prim.Native.Nat.{_≤_, _-_}
 use mathlib.Core.Path.{_≡_, refl, sym, ap, _∙_}
 use native.Mathlib.Omega.{arith}
 use lib.ListN.{length, drop, getD}
@@ -8,11 +8,6 @@ use Rattle.check_digits.specs.Run.{Small, startOf, runOf, digitOf}
 use Rattle.check_digits.proofs.Laws.{start-small, read-small, run-on, run-ends, read-check-digit}
 use Rattle.check_digits.proofs.check_digit.Statement.{statement}
 use Rattle.check_digits.proofs.check_digit.Tie as tie
-use Rattle.check_digits.proofs.check_digit.Reads as reads
-use Rattle.check_digits.proofs.check_digit.Lts as lts
-use Rattle.check_digits.proofs.digit_for.Reads as digit-for-reads
-use Rattle.check_digits.proofs.read.Reads as read-reads
-use Rattle.check_digits.proofs.started.Reads as started-reads
 
 abbrev Inv-loop : tie.InvT-loop
 Inv-loop rule s run₀ i₀ run i = (i ≤ length s) × ((Small run) × (runOf rule (startOf rule) s ≡ runOf rule run (drop i s)))

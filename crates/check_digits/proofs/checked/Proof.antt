@@ -1,17 +1,11 @@
 -- `check_digits::checked` meets its contract: each return is the definition's choice on the tests that led there. Assumes nothing.
 use mathlib.Core.Path.{refl, sym, _∙_}
-use lib.ListN.{length}
 use borrow.Author.Tests.{not-true, not-false}
 use Rattle.text.proofs.Laws.{taken, left, entered}
 use Rattle.check_digits.proofs.Laws.{none-is-unsized, many-is-unsized, some-is-sized}
 use borrow.Author.Needs.{needs}
 use Rattle.check_digits.proofs.checked.Statement.{statement}
 use Rattle.check_digits.proofs.checked.Tie as tie
-use Rattle.check_digits.proofs.checked.Reads as reads
-use Rattle.check_digits.proofs.checked.Lts as lts
-use Rattle.check_digits.proofs.ends_right.Reads as ends-right-reads
-use Rattle.refusal.proofs.nowhere.Reads as nowhere-reads
-use Rattle.text.proofs.all_of.Reads as all-of-reads
 
 nowhere-requires : tie.Need-nowhere-requires
 nowhere-requires c κs = search needs

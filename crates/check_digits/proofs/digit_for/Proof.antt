@@ -3,10 +3,6 @@ use Rattle.check_digits.proofs.Laws.{folded-digit}
 use borrow.Author.Needs.{needs}
 use Rattle.check_digits.proofs.digit_for.Statement.{statement}
 use Rattle.check_digits.proofs.digit_for.Tie as tie
-use Rattle.check_digits.proofs.digit_for.Reads as reads
-use Rattle.check_digits.proofs.digit_for.Lts as lts
-use Rattle.check_digits.proofs.folded.Reads as folded-reads
-use Rattle.check_digits.proofs.ini_digit.Reads as ini-digit-reads
 
 enum-told : tie.Need-enum-told
 enum-told c = search needs

@@ -1,5 +1,5 @@
 -- `check_digits::ends_right` meets its contract: the part before the last byte is what its check digit is made of. Assumes nothing.
-use mathlib.Core.Path.{refl, sym, ap, _∙_}
+use mathlib.Core.Path.{sym, ap}
 use Prim.Native.Nat.{ℕ, _+_, _-_}
 use native.Mathlib.Omega.{arith}
 use lib.Dec.{eqb}
@@ -13,9 +13,6 @@ use Rattle.check_digits.proofs.Theorems.{check-digit-small}
 use borrow.Author.Needs.{needs}
 use Rattle.check_digits.proofs.ends_right.Statement.{statement}
 use Rattle.check_digits.proofs.ends_right.Tie as tie
-use Rattle.check_digits.proofs.ends_right.Reads as reads
-use Rattle.check_digits.proofs.ends_right.Lts as lts
-use Rattle.check_digits.proofs.check_digit.Reads as check-digit-reads
 
 returns : tie.Need-returns
 unfolding passes

@@ -5,8 +5,6 @@ use native.Mathlib.Nat.{mod-eq-of-lt}
 use Rattle.check_digits.proofs.Laws.{folds}
 use Rattle.check_digits.proofs.folded.Statement.{statement}
 use Rattle.check_digits.proofs.folded.Tie as tie
-use Rattle.check_digits.proofs.folded.Reads as reads
-use Rattle.check_digits.proofs.folded.Lts as lts
 
 returns : tie.Need-returns
 returns c = sym (mod-eq-of-lt (c .if1 .taken))

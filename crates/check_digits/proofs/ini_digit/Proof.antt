@@ -3,8 +3,6 @@ use Rattle.check_digits.proofs.Laws.{ini-small, ini-large}
 use borrow.Author.Needs.{needs}
 use Rattle.check_digits.proofs.ini_digit.Statement.{statement}
 use Rattle.check_digits.proofs.ini_digit.Tie as tie
-use Rattle.check_digits.proofs.ini_digit.Reads as reads
-use Rattle.check_digits.proofs.ini_digit.Lts as lts
 
 returns : tie.Need-returns
 returns c = ini-small _ (c .if1 .taken)

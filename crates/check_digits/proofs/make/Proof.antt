@@ -1,6 +1,5 @@
 -- `check_digits::make` meets its contract: each return is the definition's choice on the tests that led there. Assumes nothing.
 use mathlib.Core.Path.{refl, sym, ap, _∙_}
-use lib.ListN.{length}
 use borrow.Author.Tests.{not-true, not-false}
 use Rattle.text.proofs.Laws.{taken, left, entered}
 use Rattle.check_digits.specs.declared.Made.the-variants.{Digit}
@@ -8,11 +7,6 @@ use Rattle.check_digits.proofs.Laws.{none-is-unsized, many-is-unsized, 
 use borrow.Author.Needs.{needs}
 use Rattle.check_digits.proofs.make.Statement.{statement}
 use Rattle.check_digits.proofs.make.Tie as tie
-use Rattle.check_digits.proofs.make.Reads as reads
-use Rattle.check_digits.proofs.make.Lts as lts
-use Rattle.check_digits.proofs.check_digit.Reads as check-digit-reads
-use Rattle.refusal.proofs.nowhere.Reads as nowhere-reads
-use Rattle.text.proofs.all_of.Reads as all-of-reads
 
 nowhere-requires : tie.Need-nowhere-requires
 nowhere-requires c κs = search needs

@@ -1,13 +1,9 @@
 -- `check_digits::read` meets its contract: the tests say whether the byte is a digit. Assumes nothing.
-use mathlib.Core.Path.{refl, sym}
-use native.Mathlib.Omega.{arith}
+use mathlib.Core.Path.{refl}
 use Rattle.text.proofs.Laws.{left, entered, no-digit-below, no-digit-above, digit-between}
 use borrow.Author.Needs.{needs}
 use Rattle.check_digits.proofs.read.Statement.{statement}
 use Rattle.check_digits.proofs.read.Tie as tie
-use Rattle.check_digits.proofs.read.Reads as reads
-use Rattle.check_digits.proofs.read.Lts as lts
-use Rattle.check_digits.proofs.step.Reads as step-reads
 
 returns : tie.Need-returns
 returns c = left _ _ _ _ (no-digit-below (c .before .args .b) (c .if1 .taken)) refl

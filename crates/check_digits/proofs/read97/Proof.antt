@@ -1,6 +1,5 @@
 -- `check_digits::read97` meets its contract: the tests say whether the byte is a digit. Assumes nothing.
 use Prim.Native.Nat.{_+_, _-_, _*_}
-use native.Mathlib.Omega.{arith}
 use native.Mathlib.Nat.{mod-lt}
 use lib.Dec.{lit<}
 use Rattle.text.proofs.Laws.{no-digit-below, no-digit-above, digit-between}
@@ -8,8 +7,6 @@ use Rattle.check_digits.proofs.Laws.{value-skips, value-takes}
 use borrow.Author.Needs.{needs}
 use Rattle.check_digits.proofs.read97.Statement.{statement}
 use Rattle.check_digits.proofs.read97.Tie as tie
-use Rattle.check_digits.proofs.read97.Reads as reads
-use Rattle.check_digits.proofs.read97.Lts as lts
 
 returns : tie.Need-returns
 returns c = (c .before .pre, value-skips (c .before .args .r) (c .before .args .b) (c .before .pre) (no-digit-below (c .before .args .b) (c .if1 .taken)))

@@ -1,18 +1,15 @@
 -- `check_digits::remainder97` meets its contract. The loop's invariant: the remainder of the whole is that of `r` and the rest from here.
 -- Assumes nothing.
-use Prim.Native.Nat.{_≤_, _<_, _+_, _-_, _%_}
-use mathlib.Core.Path.{_≡_, refl, sym, ap, _∙_}
+use Prim.Native.Nat.{_≤_, _<_, _-_, _%_}
+use mathlib.Core.Path.{_≡_, sym, _∙_}
 use native.Mathlib.Omega.{arith}
 use native.Mathlib.Nat.{mod-lt, mod-mod}
 use lib.Dec.{lit<}
-use lib.ListN.{length, drop, getD}
+use lib.ListN.{length, drop}
 use Rattle.text.specs.Digits.{digitsOf, valueFrom}
 use Rattle.check_digits.proofs.Laws.{value-over-97, value-on, value-ends}
 use Rattle.check_digits.proofs.remainder97.Statement.{statement}
 use Rattle.check_digits.proofs.remainder97.Tie as tie
-use Rattle.check_digits.proofs.remainder97.Reads as reads
-use Rattle.check_digits.proofs.remainder97.Lts as lts
-use Rattle.check_digits.proofs.read97.Reads as read97-reads
 
 abbrev Inv-loop : tie.InvT-loop
 Inv-loop before s r₀ i₀ r i = (i ≤ length s) × ((r < 97) × (valueFrom before (digitsOf s) % 97 ≡ valueFrom r (digitsOf (drop i s)) % 97))

@@ -2,8 +2,6 @@
 use borrow.Author.Needs.{needs}
 use Rattle.check_digits.proofs.started.Statement.{statement}
 use Rattle.check_digits.proofs.started.Tie as tie
-use Rattle.check_digits.proofs.started.Reads as reads
-use Rattle.check_digits.proofs.started.Lts as lts
 
 enum-told : tie.Need-enum-told
 enum-told c = search needs

@@ -2,10 +2,6 @@
 use borrow.Author.Needs.{needs}
 use Rattle.check_digits.proofs.step.Statement.{statement}
 use Rattle.check_digits.proofs.step.Tie as tie
-use Rattle.check_digits.proofs.step.Reads as reads
-use Rattle.check_digits.proofs.step.Lts as lts
-use Rattle.check_digits.proofs.carried.Reads as carried-reads
-use Rattle.check_digits.proofs.summed.Reads as summed-reads
 
 enum-told : tie.Need-enum-told
 enum-told c = search needs

@@ -2,9 +2,6 @@
 use borrow.Author.Needs.{needs}
 use Rattle.check_digits.proofs.summed.Statement.{statement}
 use Rattle.check_digits.proofs.summed.Tie as tie
-use Rattle.check_digits.proofs.summed.Reads as reads
-use Rattle.check_digits.proofs.summed.Lts as lts
-use Rattle.check_digits.proofs.folded.Reads as folded-reads
 
 add-folded : tie.Need-add-folded
 add-folded c = search needs

@@ -4,10 +4,6 @@ use Rattle.text.proofs.Laws.{left, entered}
 use borrow.Author.Needs.{needs}
 use Rattle.fillings.proofs.accepted.Statement.{statement}
 use Rattle.fillings.proofs.accepted.Tie as tie
-use Rattle.fillings.proofs.accepted.Reads as reads
-use Rattle.fillings.proofs.accepted.Lts as lts
-use Rattle.account.proofs.iban_passes.Reads as iban-passes-reads
-use Rattle.reference.proofs.groups_hold.Reads as groups-hold-reads
 
 iban-passes-requires : tie.Need-iban-passes-requires
 iban-passes-requires c κs = search needs

@@ -1,17 +1,12 @@
 -- `fillings::can_be_formed` meets its contract: the filled text stands at the front of the array. Assumes nothing.
-use mathlib.Core.Path.{refl, sym, ap, _∙_}
+use mathlib.Core.Path.{sym, ap, _∙_}
 use native.Mathlib.Omega.{arith}
-use lib.ListN.{length}
 use lib.Seq.{length-take-le}
 use Rattle.reference.specs.Parts.{formed}
 use Rattle.fillings.proofs.Accepts.{filled-front}
 use borrow.Author.Needs.{needs}
 use Rattle.fillings.proofs.can_be_formed.Statement.{statement}
 use Rattle.fillings.proofs.can_be_formed.Tie as tie
-use Rattle.fillings.proofs.can_be_formed.Reads as reads
-use Rattle.fillings.proofs.can_be_formed.Lts as lts
-use Rattle.fillings.proofs.filled.Reads as filled-reads
-use Rattle.reference.proofs.is_formed.Reads as is-formed-reads
 
 slice-aggregate-filled : tie.Need-slice-aggregate-filled
 slice-aggregate-filled c = search needs

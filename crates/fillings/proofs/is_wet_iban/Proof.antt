@@ -9,9 +9,6 @@ use Rattle.fillings.proofs.Accepts.{short-is-not-wet}
 use borrow.Author.Needs.{needs}
 use Rattle.fillings.proofs.is_wet_iban.Statement.{statement}
 use Rattle.fillings.proofs.is_wet_iban.Tie as tie
-use Rattle.fillings.proofs.is_wet_iban.Reads as reads
-use Rattle.fillings.proofs.is_wet_iban.Lts as lts
-use Rattle.text.proofs.all_of.Reads as all-of-reads
 
 returns : tie.Need-returns
 returns c = short-is-not-wet (c .before .before .args .s .now) (c .if1 .taken)

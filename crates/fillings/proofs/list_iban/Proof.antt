@@ -9,13 +9,6 @@ use Rattle.fillings.proofs.Accepts.{iban-listed}
 use borrow.Author.Needs.{needs}
 use Rattle.fillings.proofs.list_iban.Statement.{statement}
 use Rattle.fillings.proofs.list_iban.Tie as tie
-use Rattle.fillings.proofs.list_iban.Reads as reads
-use Rattle.fillings.proofs.list_iban.Lts as lts
-use Rattle.fillings.proofs.is_wet_iban.Reads as is-wet-iban-reads
-use Rattle.fillings.proofs.list_into.Reads as list-into-reads
-use Rattle.models.proofs.rules.Reads as rules-reads
-use Rattle.refusal.proofs.nowhere.Reads as nowhere-reads
-use Rattle.text.proofs.count_marks.Reads as count-marks-reads
 
 nowhere-requires : tie.Need-nowhere-requires
 nowhere-requires c κs = search needs

@@ -5,11 +5,6 @@ use Rattle.fillings.proofs.Accepts.{unhandled-refused, none-listed, ref
 use borrow.Author.Needs.{needs}
 use Rattle.fillings.proofs.list_model.Statement.{statement}
 use Rattle.fillings.proofs.list_model.Tie as tie
-use Rattle.fillings.proofs.list_model.Reads as reads
-use Rattle.fillings.proofs.list_model.Lts as lts
-use Rattle.fillings.proofs.can_be_formed.Reads as can-be-formed-reads
-use Rattle.fillings.proofs.list_into.Reads as list-into-reads
-use Rattle.refusal.proofs.nowhere.Reads as nowhere-reads
 
 nowhere-requires : tie.Need-nowhere-requires
 nowhere-requires c κs = search needs

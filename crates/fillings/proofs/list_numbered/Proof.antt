@@ -1,13 +1,8 @@
 -- `fillings::list_numbered` meets its contract: the arm says the number. Assumes nothing.
-use mathlib.Core.Path.{refl, sym, _∙_}
+use mathlib.Core.Path.{refl, sym}
 use borrow.Author.Needs.{needs}
 use Rattle.fillings.proofs.list_numbered.Statement.{statement}
 use Rattle.fillings.proofs.list_numbered.Tie as tie
-use Rattle.fillings.proofs.list_numbered.Reads as reads
-use Rattle.fillings.proofs.list_numbered.Lts as lts
-use Rattle.fillings.proofs.list_model.Reads as list-model-reads
-use Rattle.models.proofs.rules.Reads as rules-reads
-use Rattle.refusal.proofs.nowhere.Reads as nowhere-reads
 
 enum-known-number : tie.Need-enum-known-number
 enum-known-number c = search needs

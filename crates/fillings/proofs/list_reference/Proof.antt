@@ -8,13 +8,6 @@ use lib.ListN.{length}
 use borrow.Author.Needs.{needs}
 use Rattle.fillings.proofs.list_reference.Statement.{statement}
 use Rattle.fillings.proofs.list_reference.Tie as tie
-use Rattle.fillings.proofs.list_reference.Reads as reads
-use Rattle.fillings.proofs.list_reference.Lts as lts
-use Rattle.fillings.proofs.list_numbered.Reads as list-numbered-reads
-use Rattle.models.proofs.number.Reads as number-reads
-use Rattle.refusal.proofs.nowhere.Reads as nowhere-reads
-use Rattle.text.proofs.all_of.Reads as all-of-reads
-use Rattle.text.proofs.count_marks.Reads as count-marks-reads
 
 nowhere-requires : tie.Need-nowhere-requires
 nowhere-requires c κs = search needs

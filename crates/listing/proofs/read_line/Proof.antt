@@ -5,10 +5,6 @@ use native.Mathlib.Omega.{arith}
 use lib.ListN.{length}
 use Rattle.listing.proofs.read_line.Statement.{statement}
 use Rattle.listing.proofs.read_line.Tie as tie
-use Rattle.listing.proofs.read_line.Reads as reads
-use Rattle.listing.proofs.read_line.Lts as lts
-use Rattle.line.proofs.fresh.Reads as fresh-reads
-use Rattle.listing.proofs.read_some.Reads as read-some-reads
 
 abbrev Inv-loop : tie.InvT-loop
 Inv-loop head₀ tail₀ seen₀ turns₀ head tail seen turns = (length head ≡ length head₀) × (length tail ≡ length tail₀)

@@ -5,10 +5,6 @@ use lib.Seq.{length-take-le}
 use borrow.Author.Needs.{needs}
 use Rattle.listing.proofs.write_text.Statement.{statement}
 use Rattle.listing.proofs.write_text.Tie as tie
-use Rattle.listing.proofs.write_text.Reads as reads
-use Rattle.listing.proofs.write_text.Lts as lts
-use Rattle.fillings.proofs.filled.Reads as filled-reads
-use Rattle.listing.proofs.say.Reads as say-reads
 
 slice-aggregate-filled : tie.Need-slice-aggregate-filled
 slice-aggregate-filled c = search needs

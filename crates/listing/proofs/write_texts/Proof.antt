@@ -4,9 +4,6 @@ use native.Mathlib.Omega.{arith}
 use borrow.Author.Needs.{needs}
 use Rattle.listing.proofs.write_texts.Statement.{statement}
 use Rattle.listing.proofs.write_texts.Tie as tie
-use Rattle.listing.proofs.write_texts.Reads as reads
-use Rattle.listing.proofs.write_texts.Lts as lts
-use Rattle.listing.proofs.write_text.Reads as write-text-reads
 
 abbrev Inv-loop : tie.InvT-loop
 Inv-loop n text out i₀ i = i ≤ n

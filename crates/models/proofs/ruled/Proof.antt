@@ -2,9 +2,6 @@
 use borrow.Author.Needs.{needs}
 use Rattle.models.proofs.ruled.Statement.{statement}
 use Rattle.models.proofs.ruled.Tie as tie
-use Rattle.models.proofs.ruled.Reads as reads
-use Rattle.models.proofs.ruled.Lts as lts
-use Rattle.models.proofs.joined.Reads as joined-reads
 
 joined-requires : tie.Need-joined-requires
 joined-requires c κs = search needs

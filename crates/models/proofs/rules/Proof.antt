@@ -5,11 +5,6 @@ use Rattle.models.specs.Models.{modelOf}
 use borrow.Author.Needs.{needs}
 use Rattle.models.proofs.rules.Statement.{statement}
 use Rattle.models.proofs.rules.Tie as tie
-use Rattle.models.proofs.rules.Reads as reads
-use Rattle.models.proofs.rules.Lts as lts
-use Rattle.models.proofs.common.Reads as common-reads
-use Rattle.models.proofs.joined.Reads as joined-reads
-use Rattle.models.proofs.special.Reads as special-reads
 
 joined-requires : tie.Need-joined-requires
 joined-requires c κs = search needs

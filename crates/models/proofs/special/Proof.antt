@@ -5,11 +5,6 @@ use Rattle.models.specs.Models.{specialOf}
 use borrow.Author.Needs.{needs}
 use Rattle.models.proofs.special.Statement.{statement}
 use Rattle.models.proofs.special.Tie as tie
-use Rattle.models.proofs.special.Reads as reads
-use Rattle.models.proofs.special.Lts as lts
-use Rattle.models.proofs.common.Reads as common-reads
-use Rattle.models.proofs.joined.Reads as joined-reads
-use Rattle.models.proofs.ruled.Reads as ruled-reads
 
 joined-requires : tie.Need-joined-requires
 joined-requires c κs = search needs

@@ -1,6 +1,6 @@
 -- `reference::after` meets its contract. The loop's invariant: the place is the one after the hyphens that are left, from `i` on.
 -- Assumes nothing.
-use Prim.Native.Nat.{_≤_, _+_, _-_}
+use Prim.Native.Nat.{_≤_, _-_}
 use mathlib.Core.Path.{_≡_, sym, _∙_}
 use native.Mathlib.Omega.{arith}
 use lib.ListN.{length, drop}
@@ -9,8 +9,6 @@ use Rattle.reference.specs.Groups.{afterHyphens}
 use Rattle.reference.proofs.Laws.{after-none, after-hyphen, after-other, after-end}
 use Rattle.reference.proofs.after.Statement.{statement}
 use Rattle.reference.proofs.after.Tie as tie
-use Rattle.reference.proofs.after.Reads as reads
-use Rattle.reference.proofs.after.Lts as lts
 
 abbrev Inv-loop : tie.InvT-loop
 Inv-loop s k left₀ i₀ left i = (i ≤ length s) × (afterHyphens k s ≡ shifted i (afterHyphens left (drop i s)))

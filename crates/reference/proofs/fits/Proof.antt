@@ -8,9 +8,6 @@ use Rattle.text.proofs.Laws.{and-first, and-second}
 use borrow.Author.Needs.{needs}
 use Rattle.reference.proofs.fits.Statement.{statement}
 use Rattle.reference.proofs.fits.Tie as tie
-use Rattle.reference.proofs.fits.Reads as reads
-use Rattle.reference.proofs.fits.Lts as lts
-use Rattle.reference.proofs.wide.Reads as wide-reads
 
 returns : tie.Need-returns
 returns c = let l = c .before .before .args .lengths .now in and-first _ _ (le-ltb 1 (length l) (omega arith))

@@ -1,15 +1,10 @@
 -- `reference::group_holds` meets its contract: the group is the head of what stands after the parts before it. Assumes nothing.
 use mathlib.Core.Path.{sym, ap, _∙_}
-use Rattle.text.specs.declared.Found.{Found}
 use Rattle.reference.specs.Groups.{heldFrom, headHolds}
 use Rattle.reference.proofs.Laws.{from-place, found-within}
 use borrow.Author.Needs.{needs}
 use Rattle.reference.proofs.group_holds.Statement.{statement}
 use Rattle.reference.proofs.group_holds.Tie as tie
-use Rattle.reference.proofs.group_holds.Reads as reads
-use Rattle.reference.proofs.group_holds.Lts as lts
-use Rattle.reference.proofs.after.Reads as after-reads
-use Rattle.reference.proofs.head_holds.Reads as head-holds-reads
 
 after-requires : tie.Need-after-requires
 after-requires c κs = search needs

@@ -4,14 +4,11 @@ use Rattle.reference.proofs.Laws.{groups-on, groups-stop, groups-end}
 use Prim.Native.Nat.{_≤_, _-_}
 use mathlib.Core.Path.{_≡_, refl, sym, _∙_}
 use native.Mathlib.Omega.{arith}
-use lib.ListN.{length, drop}
+use lib.ListN.{drop}
 use borrow.Author.Tests.{not-true, not-false}
 use Rattle.reference.specs.Groups.{groupsHold}
 use Rattle.reference.proofs.groups_hold.Statement.{statement}
 use Rattle.reference.proofs.groups_hold.Tie as tie
-use Rattle.reference.proofs.groups_hold.Reads as reads
-use Rattle.reference.proofs.groups_hold.Lts as lts
-use Rattle.reference.proofs.group_holds.Reads as group-holds-reads
 
 abbrev Inv-loop : tie.InvT-loop
 Inv-loop s groups i₀ i = (i ≤ 4) × (groupsHold groups s ≡ groupsHold (drop i groups) s)

@@ -1,8 +1,7 @@
 -- `reference::head_holds` meets its contract: the stretch goes to the hyphen before the place, or to the end. Assumes nothing.
 use Prim.Native.Nat.{_-_}
-use mathlib.Core.Path.{refl, sym, ap, _∙_}
+use mathlib.Core.Path.{sym, ap, _∙_}
 use native.Mathlib.Omega.{arith}
-use lib.ListN.{length, take}
 use lib.Seq.{length-take-le}
 use Rattle.text.specs.declared.Found.{Found}
 use Rattle.reference.specs.Groups.{stretchHolds, before}
@@ -10,10 +9,6 @@ use Rattle.reference.proofs.Laws.{found-within, none-holds}
 use borrow.Author.Needs.{needs}
 use Rattle.reference.proofs.head_holds.Statement.{statement}
 use Rattle.reference.proofs.head_holds.Tie as tie
-use Rattle.reference.proofs.head_holds.Reads as reads
-use Rattle.reference.proofs.head_holds.Lts as lts
-use Rattle.reference.proofs.after.Reads as after-reads
-use Rattle.reference.proofs.stretch_holds.Reads as stretch-holds-reads
 
 after-requires : tie.Need-after-requires
 after-requires c κs = search needs

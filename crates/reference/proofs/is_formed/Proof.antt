@@ -5,10 +5,6 @@ use borrow.Author.Needs.{needs}
 use Rattle.reference.proofs.Laws.{readFormed, formed-none, formed-read}
 use Rattle.reference.proofs.is_formed.Statement.{statement}
 use Rattle.reference.proofs.is_formed.Tie as tie
-use Rattle.reference.proofs.is_formed.Reads as reads
-use Rattle.reference.proofs.is_formed.Lts as lts
-use Rattle.reference.proofs.part.Reads as part-reads
-use Rattle.reference.proofs.within.Reads as within-reads
 
 returns : tie.Need-returns
 returns c = formed-none (c .before .before .args .model) (c .before .before .args .s .now) (c .if1 .taken)

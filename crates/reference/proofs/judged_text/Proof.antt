@@ -6,11 +6,6 @@ use Rattle.reference.specs.Answers.{textAnswer}
 use borrow.Author.Needs.{needs}
 use Rattle.reference.proofs.judged_text.Statement.{statement}
 use Rattle.reference.proofs.judged_text.Tie as tie
-use Rattle.reference.proofs.judged_text.Reads as reads
-use Rattle.reference.proofs.judged_text.Lts as lts
-use Rattle.reference.proofs.obeys.Reads as obeys-reads
-use Rattle.refusal.proofs.nowhere.Reads as nowhere-reads
-use Rattle.text.proofs.first_bad.Reads as first-bad-reads
 
 first-bad-requires : tie.Need-first-bad-requires
 first-bad-requires c κs = search needs

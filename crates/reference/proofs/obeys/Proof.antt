@@ -10,11 +10,6 @@ use Rattle.reference.proofs.Laws.{formed-groups}
 use borrow.Author.Needs.{needs}
 use Rattle.reference.proofs.obeys.Statement.{statement}
 use Rattle.reference.proofs.obeys.Tie as tie
-use Rattle.reference.proofs.obeys.Reads as reads
-use Rattle.reference.proofs.obeys.Lts as lts
-use Rattle.reference.proofs.groups_hold.Reads as groups-hold-reads
-use Rattle.reference.proofs.is_formed.Reads as is-formed-reads
-use Rattle.refusal.proofs.nowhere.Reads as nowhere-reads
 
 is-formed-requires : tie.Need-is-formed-requires
 is-formed-requires c κs = search needs

@@ -16,12 +16,6 @@ use Rattle.reference.specs.Answers.{textAnswer, modelAnswer, numberAnswe
 use borrow.Author.Needs.{needs}
 use Rattle.reference.proofs.reference.Statement.{statement}
 use Rattle.reference.proofs.reference.Tie as tie
-use Rattle.reference.proofs.reference.Reads as reads
-use Rattle.reference.proofs.reference.Lts as lts
-use Rattle.models.proofs.number.Reads as number-reads
-use Rattle.models.proofs.rules.Reads as rules-reads
-use Rattle.reference.proofs.judged_text.Reads as judged-text-reads
-use Rattle.refusal.proofs.nowhere.Reads as nowhere-reads
 
 unhandled : (s : List ℕ) (m : declared.Model) → m .handled ≡ false → Refused (Model none) ≡ modelAnswer s m
 unhandled s m e = left (m .handled) (textAnswer m s (firstBad Reference s)) (Refused (Model none)) (Refused (Model none)) e refl

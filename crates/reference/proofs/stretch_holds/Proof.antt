@@ -4,9 +4,6 @@ use Rattle.text.proofs.Laws.{taken, left}
 use borrow.Author.Needs.{needs}
 use Rattle.reference.proofs.stretch_holds.Statement.{statement}
 use Rattle.reference.proofs.stretch_holds.Tie as tie
-use Rattle.reference.proofs.stretch_holds.Reads as reads
-use Rattle.reference.proofs.stretch_holds.Lts as lts
-use Rattle.check_digits.proofs.ends_right.Reads as ends-right-reads
 
 returns : tie.Need-returns
 returns c = taken _ _ _ (eq-eqb _ _ (c .if1 .taken))

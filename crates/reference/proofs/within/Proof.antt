@@ -4,8 +4,6 @@ use borrow.Author.Tests.{lt-leb, le-leb}
 use Rattle.text.proofs.Laws.{and-first, and-second}
 use Rattle.reference.proofs.within.Statement.{statement}
 use Rattle.reference.proofs.within.Tie as tie
-use Rattle.reference.proofs.within.Reads as reads
-use Rattle.reference.proofs.within.Lts as lts
 
 returns : tie.Need-returns
 returns c = and-first _ _ (lt-leb _ _ (c .if1 .taken))

@@ -4,9 +4,6 @@ use Rattle.text.proofs.Laws.{isNothing, all-of-nothing}
 use borrow.Author.Needs.{needs}
 use Rattle.text.proofs.all_of.Statement.{statement}
 use Rattle.text.proofs.all_of.Tie as tie
-use Rattle.text.proofs.all_of.Reads as reads
-use Rattle.text.proofs.all_of.Lts as lts
-use Rattle.text.proofs.first_bad.Reads as first-bad-reads
 
 first-bad-requires : tie.Need-first-bad-requires
 first-bad-requires c κs = search needs

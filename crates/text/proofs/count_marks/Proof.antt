@@ -1,16 +1,13 @@
 -- `text::count_marks` meets its contract. The loop's invariant: the marks passed and those left from `i` on make up the whole. Assumes nothing.
-use Prim.Native.Nat.{_≤_, _<_, _+_, _-_}
-use mathlib.Core.Path.{_≡_, sym, ap, _∙_}
+use Prim.Native.Nat.{_≤_, _+_, _-_}
+use mathlib.Core.Path.{_≡_, sym, _∙_}
 use native.Mathlib.Omega.{arith}
-use native.Mathlib.Nat.{zero-add, add-zero}
-use lib.ListN.{length, drop, getD}
-use lib.Seq.{drop-length}
+use native.Mathlib.Nat.{zero-add}
+use lib.ListN.{length, drop}
 use Rattle.text.specs.Bytes.{marks}
 use Rattle.text.proofs.Laws.{marks-more, marks-same, marks-end}
 use Rattle.text.proofs.count_marks.Statement.{statement}
 use Rattle.text.proofs.count_marks.Tie as tie
-use Rattle.text.proofs.count_marks.Reads as reads
-use Rattle.text.proofs.count_marks.Lts as lts
 
 abbrev Inv-loop : tie.InvT-loop
 Inv-loop s n₀ i₀ n i = (i ≤ length s) × ((n ≤ i) × (marks s ≡ n + marks (drop i s)))

@@ -1,18 +1,13 @@
 -- `text::first_bad` meets its contract. The loop's invariant: the answer is that of what is left from `i` on. Assumes nothing.
-use Prim.Native.Nat.{_≤_, _<_, _+_, _-_}
+use Prim.Native.Nat.{_≤_, _-_}
 use mathlib.Core.Path.{_≡_, sym, _∙_}
-use mathlib.Core.Bool.{true, false}
 use native.Mathlib.Omega.{arith}
-use borrow.Author.Needs.{needs}
 use borrow.Author.Tests.{not-true, not-false}
-use lib.ListN.{length, drop, getD}
-use Rattle.text.specs.Bytes.{firstBad, permits}
+use lib.ListN.{length, drop}
+use Rattle.text.specs.Bytes.{firstBad}
 use Rattle.text.proofs.Laws.{shifted, shifted-zero, scan-on, scan-stops, scan-ends}
 use Rattle.text.proofs.first_bad.Statement.{statement}
 use Rattle.text.proofs.first_bad.Tie as tie
-use Rattle.text.proofs.first_bad.Reads as reads
-use Rattle.text.proofs.first_bad.Lts as lts
-use Rattle.text.proofs.permitted.Reads as permitted-reads
 
 abbrev Inv-loop : tie.InvT-loop
 Inv-loop class s i₀ i = (i ≤ length s) × (firstBad class s ≡ shifted i (firstBad class (drop i s)))

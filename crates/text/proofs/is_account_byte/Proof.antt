@@ -4,10 +4,6 @@ use Rattle.text.proofs.Laws.{or-first, or-second}
 use borrow.Author.Needs.{needs}
 use Rattle.text.proofs.is_account_byte.Statement.{statement}
 use Rattle.text.proofs.is_account_byte.Tie as tie
-use Rattle.text.proofs.is_account_byte.Reads as reads
-use Rattle.text.proofs.is_account_byte.Lts as lts
-use Rattle.text.proofs.is_digit.Reads as is-digit-reads
-use Rattle.text.proofs.is_letter.Reads as is-letter-reads
 
 is-digit-requires : tie.Need-is-digit-requires
 is-digit-requires c κs = search needs

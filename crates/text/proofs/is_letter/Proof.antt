@@ -2,8 +2,6 @@
 use borrow.Author.Tests.{lt-leb, le-leb}
 use Rattle.text.proofs.is_letter.Statement.{statement}
 use Rattle.text.proofs.is_letter.Tie as tie
-use Rattle.text.proofs.is_letter.Reads as reads
-use Rattle.text.proofs.is_letter.Lts as lts
 
 returns : tie.Need-returns
 returns c = simp (lt-leb _ _ (c .if1 .taken))

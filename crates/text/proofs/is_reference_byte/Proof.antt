@@ -4,9 +4,6 @@ use Rattle.text.proofs.Laws.{or-first, or-second}
 use borrow.Author.Needs.{needs}
 use Rattle.text.proofs.is_reference_byte.Statement.{statement}
 use Rattle.text.proofs.is_reference_byte.Tie as tie
-use Rattle.text.proofs.is_reference_byte.Reads as reads
-use Rattle.text.proofs.is_reference_byte.Lts as lts
-use Rattle.text.proofs.is_digit.Reads as is-digit-reads
 
 is-digit-requires : tie.Need-is-digit-requires
 is-digit-requires c κs = search needs

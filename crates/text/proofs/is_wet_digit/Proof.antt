@@ -4,9 +4,6 @@ use Rattle.text.proofs.Laws.{or-first, or-second}
 use borrow.Author.Needs.{needs}
 use Rattle.text.proofs.is_wet_digit.Statement.{statement}
 use Rattle.text.proofs.is_wet_digit.Tie as tie
-use Rattle.text.proofs.is_wet_digit.Reads as reads
-use Rattle.text.proofs.is_wet_digit.Lts as lts
-use Rattle.text.proofs.is_digit.Reads as is-digit-reads
 
 is-digit-requires : tie.Need-is-digit-requires
 is-digit-requires c κs = search needs

@@ -1,16 +1,7 @@
 -- `text::permitted` meets its contract: the arm says which class it is, and its test is that class's. Assumes nothing.
-use mathlib.Core.Path.{_∙_}
 use borrow.Author.Needs.{needs}
 use Rattle.text.proofs.permitted.Statement.{statement}
 use Rattle.text.proofs.permitted.Tie as tie
-use Rattle.text.proofs.permitted.Reads as reads
-use Rattle.text.proofs.permitted.Lts as lts
-use Rattle.text.proofs.is_account_byte.Reads as is-account-byte-reads
-use Rattle.text.proofs.is_digit.Reads as is-digit-reads
-use Rattle.text.proofs.is_letter.Reads as is-letter-reads
-use Rattle.text.proofs.is_reference_byte.Reads as is-reference-byte-reads
-use Rattle.text.proofs.is_wet_digit.Reads as is-wet-digit-reads
-use Rattle.text.proofs.is_wet_reference_byte.Reads as is-wet-reference-byte-reads
 
 enum-told : tie.Need-enum-told
 enum-told c = search needs

@@ -1,0 +1,2 @@
+-- What is proved of the listing program's answer.
+pub mod Theorems
