@@ -61,3 +61,9 @@ iban-passes-only s = defined-only (ibanPasses s)
 
 pub oib-only : (s : List ℕ) → Only (λ (r : Answer). r ≡ oibAnswer s)
 oib-only s = defined-only (oibAnswer s)
+
+pub iban-formed-only : (s : List ℕ) → Only (λ (r : Bool). r ≡ ibanFormed s)
+iban-formed-only s = defined-only (ibanFormed s)
+
+pub oib-passes-only : (s : List ℕ) → Only (λ (r : Bool). r ≡ oibPasses s)
+oib-passes-only s = defined-only (oibPasses s)

@@ -4,7 +4,7 @@
 use mathlib.Core.Path.{_≡_, refl, sym, _∙_}
 use mathlib.Core.Bool.{Bool, true, false, cond}
 use mathlib.Core.List.{List, [], _∷_, _++_}
-use Prim.Native.Nat.{ℕ, _+_, _-_, _≤_, _<_}
+use Prim.Native.Nat.{_%_, ℕ, _+_, _-_, _≤_, _<_}
 use native.Mathlib.Nat.{mod-lt}
 use native.Mathlib.Omega.{arith}
 use lib.Dec.{eqb, ltb, lit<}
@@ -13,7 +13,7 @@ use lib.Seq.{take-append-seam, getD-append-seam}
 use borrow.Author.Tests.{lt-ltb, eq-eqb, eqb-true, ltb-false}
 use Rattle.refusal.specs.Only.{Only, defined-only}
 use Rattle.refusal.specs.declared.Answer.{Answer}
-use Rattle.text.specs.Digits.{digitsOf}
+use Rattle.text.specs.Digits.{digitsOf, valueFrom}
 use Rattle.check_digits.specs.declared.Rule.{Rule}
 use Rattle.check_digits.specs.declared.Rule.the-variants.{Ini, Mod1110}
 use Rattle.check_digits.specs.declared.Made.{Made}
@@ -60,3 +60,12 @@ checked-only rule s = defined-only (checkAnswer rule s)
 
 pub make-only : (rule : Rule) (s : List ℕ) → Only (λ (r : Made). r ≡ makeAnswer rule s)
 make-only rule s = defined-only (makeAnswer rule s)
+
+pub check-digit-only : (rule : Rule) (s : List ℕ) → Only (λ (r : ℕ). r ≡ checkDigit rule (digitsOf s))
+check-digit-only rule s = defined-only (checkDigit rule (digitsOf s))
+
+pub ends-right-only : (rule : Rule) (s : List ℕ) → Only (λ (r : Bool). r ≡ passes rule s)
+ends-right-only rule s = defined-only (passes rule s)
+
+pub remainder97-only : (before : ℕ) (s : List ℕ) → Only (λ (r : ℕ). r ≡ valueFrom before (digitsOf s) % 97)
+remainder97-only before s = defined-only (valueFrom before (digitsOf s) % 97)

@@ -1,2 +1,3 @@
--- What the proofs here and in the crates above share.
+-- What the proofs here and in the crates above share, and what is promised of texts.
 pub mod Laws
+pub mod Theorems

@@ -1,0 +1,2 @@
+-- What is promised of models.
+pub mod Theorems

@@ -1,0 +1,2 @@
+-- What is promised of refusals.
+pub mod Theorems

@@ -1,0 +1,33 @@
+-- What is promised of texts: one answer.
+-- Assumes nothing.
+use mathlib.Core.Path.{_≡_}
+use mathlib.Core.Bool.{Bool}
+use mathlib.Core.List.{List}
+use Prim.Native.Nat.{ℕ}
+use Rattle.refusal.specs.Only.{Only, defined-only}
+use Rattle.text.specs.declared.Class.{Class}
+use Rattle.text.specs.declared.Found.{Found}
+use Rattle.text.specs.Bytes.{isDigit, permits, firstBad, allOf, marks}
+use Rattle.text.specs.Digits.{twoDigits}
+
+-- ---------------------------------------------------------------------------
+-- Any two answers that a contract allows are equal
+
+pub is-digit-only : (b : ℕ) → Only (λ (r : Bool). r ≡ isDigit b)
+is-digit-only b = defined-only (isDigit b)
+
+pub two-digits-only : (a b : ℕ) → Only (λ (r : Found). r ≡ twoDigits a b)
+two-digits-only a b = defined-only (twoDigits a b)
+
+module _ (k : Class) where
+  pub permitted-only : (b : ℕ) → Only (λ (r : Bool). r ≡ permits k b)
+  permitted-only b = defined-only (permits k b)
+
+  pub first-bad-only : (s : List ℕ) → Only (λ (r : Found). r ≡ firstBad k s)
+  first-bad-only s = defined-only (firstBad k s)
+
+  pub all-of-only : (s : List ℕ) → Only (λ (r : Bool). r ≡ allOf k s)
+  all-of-only s = defined-only (allOf k s)
+
+pub count-marks-only : (s : List ℕ) → Only (λ (r : ℕ). r ≡ marks s)
+count-marks-only s = defined-only (marks s)
