@@ -1,0 +1,373 @@
+-- The pieces of a text between the bytes that divide it, and how the loops go through a slip piece by piece.
+-- Assumes nothing.
+use mathlib.Core.Path.{_≡_, refl, sym, ap, _∙_}
+use mathlib.Core.Bool.{Bool, true, false, cond, not, _&&_, _||_}
+use mathlib.Core.List.{List, [], _∷_}
+use Prim.Native.Nat.{ℕ, zero, suc, _+_, _-_, _≤_, _<_}
+use native.Mathlib.Numerals.{add-one}
+use native.Mathlib.Omega.{arith}
+use native.Mathlib.Nat.{add-zero, zero-add}
+use lib.Dec.{eqb, leb}
+use lib.ListN.{length, take, drop, getD, length-drop}
+use lib.Seq.{drop-cons, drop-drop, drop-length, length-take-le, take-all}
+use borrow.Author.Tests.{ne-eqb, eq-eqb, le-leb, lt-leb}
+use Rattle.refusal.specs.Refusal.{none, placeOf}
+use Rattle.refusal.specs.declared.Answer.{Answer}
+use Rattle.refusal.specs.declared.Answer.the-variants.{Accepted, Refused}
+use Rattle.refusal.specs.declared.Refusal.{Refusal}
+use Rattle.refusal.specs.declared.Refusal.the-variants.{Size, Ends}
+use Rattle.text.specs.Bytes.{permits, later, firstBad}
+use Rattle.text.specs.declared.Class.{Class}
+use Rattle.text.specs.declared.Class.the-variants.{Line}
+use Rattle.text.specs.declared.Found.{Found}
+use Rattle.text.specs.declared.Found.the-variants.{At, Nothing}
+use Rattle.text.specs.Split.{longer, split}
+use Rattle.text.proofs.Laws.{left, entered, and-first, and-second}
+use Rattle.text.specs.declared.Class.the-variants.{Digits, Letters, Account, Reference}
+use Rattle.characters.specs.Characters.{isSingle, isPair, firstWrong, characters}
+use Rattle.characters.specs.Answers.{textFrom}
+use Rattle.account.specs.Account.{ibanFormed, ibanPasses}
+use Rattle.account.specs.Answers.{ibanFrom}
+use Rattle.models.specs.declared.Model.{Model}
+use Rattle.models.specs.Models.{modelNumber, modelOf}
+use Rattle.reference.specs.Parts.{formed, groupsRight, partsOf}
+use Rattle.reference.specs.Answers.{obeyAnswer, numberAnswer, textAnswer as judgedText}
+use Rattle.slip_fields.specs.Fields.{fieldAnswer, same, hrvhub30, eur, amountFrom, modelFrom, purposeFrom, mostOf}
+use Rattle.slip.specs.Slip.{countOf, slipEnds, told, judged, fieldsAnswer, slipAnswer, isAccepted, pieceOf, fieldOf}
+
+-- ---------------------------------------------------------------------------
+-- The pieces between the bytes c
+
+module _ (c : ℕ) where
+  -- a text that stops at a place is the piece up to there and the pieces of what follows; one that does not is one piece
+  abbrev pub Divided : List ℕ → Found → Type 0
+  Divided s (At i) = (i < length s) × (split c s ≡ take i s ∷ split c (drop (i + 1) s))
+  Divided s Nothing = split c s ≡ s ∷ []
+
+  divided-later : (b : ℕ) (s : List ℕ) (f : Found) → eqb b c ≡ false → Divided s f → Divided (b ∷ s) (later f)
+  unfolding split
+  divided-later b s (At i) e (h, g) = (omega arith, rw (e, g, add-one (suc i), add-one i))
+  divided-later b s Nothing e g = rw (e, g)
+
+  -- what a scan that stops at c alone finds divides the text
+  pub divided : (k : Class) → ((b : ℕ) → permits k b ≡ not (eqb b c)) → (s : List ℕ) → Divided s (firstBad k s)
+  unfolding firstBad split
+  divided k only [] = refl
+  divided k only (b ∷ s) = rw (only b) (go (eqb b c) refl (divided k only s))
+    where
+      go : (t : Bool) → eqb b c ≡ t → Divided s (firstBad k s) → Divided (b ∷ s) (cond (not t) (later (firstBad k s)) (At 0))
+      go true e d = (omega arith, rw e)
+      go false e d = divided-later b s (firstBad k s) e d
+
+  -- there is always a first piece
+  pub first-piece : (s : List ℕ) → (p : List ℕ) × (ps : List (List ℕ)) × (split c s ≡ p ∷ ps)
+  unfolding split
+  first-piece [] = ([], [], refl)
+  first-piece (b ∷ s) = go (eqb b c) (first-piece s)
+    where
+      go : (h : Bool) → (p : List ℕ) × (ps : List (List ℕ)) × (split c s ≡ p ∷ ps) → (p : List ℕ) × (ps : List (List ℕ)) × (cond h ([] ∷ split c s) (longer b (split c s)) ≡ p ∷ ps)
+      go true w = ([], split c s, refl)
+      go false w = (b ∷ w .0, w .1, rw (w .2))
+
+  -- and one more for each c
+  pub pieces-counted : (s : List ℕ) → length (split c s) ≡ suc (countOf c s)
+  unfolding split countOf
+  pieces-counted [] = refl
+  pieces-counted (b ∷ s) = go (eqb b c) (first-piece s) (pieces-counted s)
+    where
+      go : (h : Bool) → (p : List ℕ) × (ps : List (List ℕ)) × (split c s ≡ p ∷ ps) → length (split c s) ≡ suc (countOf c s) → length (cond h ([] ∷ split c s) (longer b (split c s))) ≡ suc (cond h (suc (countOf c s)) (countOf c s))
+      go true w e = ap suc e
+      go false w e = rw (w .2) (rw (w .2) at e)
+
+-- the pieces of a text by its first line feed
+pub split-at : (s : List ℕ) (i : ℕ) → firstBad Line s ≡ At i → (i < length s) × (split 10 s ≡ take i s ∷ split 10 (drop (i + 1) s))
+split-at s i e = rw e at (divided 10 Line (λ b. refl) s)
+
+pub split-whole : (s : List ℕ) → firstBad Line s ≡ Nothing → split 10 s ≡ s ∷ []
+split-whole s e = rw e at (divided 10 Line (λ b. refl) s)
+
+-- ---------------------------------------------------------------------------
+-- Line feeds, from place i on
+
+module _ (s : List ℕ) (i n : ℕ) (h : i < length s) where
+  pub ends-more : getD s i 0 ≡ 10 → n + countOf 10 (drop i s) ≡ n + 1 + countOf 10 (drop (i + 1) s)
+  unfolding countOf
+  ends-more e = rw (drop-cons s i 0 h, add-one i, e) (omega arith)
+
+  pub ends-same : (getD s i 0 ≡ 10 → ⊥) → n + countOf 10 (drop i s) ≡ n + countOf 10 (drop (i + 1) s)
+  unfolding countOf
+  ends-same e = rw (drop-cons s i 0 h, add-one i, ne-eqb (getD s i 0) 10 e)
+
+pub ends-end : (s : List ℕ) (i n : ℕ) → length s ≤ i → i ≤ length s → n ≡ n + countOf 10 (drop i s)
+unfolding countOf
+ends-end s i n h g = let e : i ≡ length s = omega arith in rw (e, drop-length) (sym (add-zero n))
+
+-- a text with no byte has no line feed
+pub no-byte-no-end : (s : List ℕ) → length s ≡ 0 → countOf 10 s ≡ 14 → ⊥
+unfolding countOf
+no-byte-no-end [] h e = omega arith
+no-byte-no-end (b ∷ s) h e = omega arith
+
+-- the tests in their order: fourteen, and one last
+module _ (s : List ℕ) (n : ℕ) (e : n ≡ countOf 10 s) where
+  pub other-number : (n ≡ 14 → ⊥) → false ≡ slipEnds s
+  other-number h = and-first (eqb (countOf 10 s) 14) _ (ne-eqb (countOf 10 s) 14 (λ g. h (e ∙ g)))
+
+  pub none-last : n ≡ 14 → length s ≡ 0 → false ≡ slipEnds s
+  none-last h z = absurd (no-byte-no-end s z (sym e ∙ h))
+
+  pub one-last : n ≡ 14 → eqb (getD s (length s - 1) 0) 10 ≡ slipEnds s
+  one-last h = and-second (eqb (countOf 10 s) 14) _ _ (eq-eqb (countOf 10 s) 14 (sym e ∙ h)) refl
+
+-- ---------------------------------------------------------------------------
+-- Pieces, from place `at` on
+
+-- what the code lends as `&s[at..]` is all from there on
+pub from-place : (k : ℕ) (s : List ℕ) → take (length s - k) (drop k s) ≡ drop k s
+from-place k s = take-all (length s - k) (drop k s) (omega (arith, length-drop k s))
+
+module _ (s : List ℕ) (at : ℕ) where
+  -- the scan stopped: a piece, and the rest after the line feed
+  pub next-piece : (i : ℕ) → at ≤ length s → firstBad Line (take (length s - at) (drop at s)) ≡ At i → (at + i < length s) × (split 10 (drop at s) ≡ take i (drop at s) ∷ split 10 (drop (at + (i + 1)) s))
+  next-piece i h e =
+      let d = split-at (drop at s) i (rw (from-place at s) at e) in
+      (omega (arith, d .0, length-drop at s), d .1 ∙ rw (drop-drop (i + 1) at s))
+
+  -- it did not: the last piece
+  pub last-piece : firstBad Line (take (length s - at) (drop at s)) ≡ Nothing → split 10 (drop at s) ≡ drop at s ∷ []
+  last-piece e = split-whole (drop at s) (rw (from-place at s) at e)
+
+-- the piece at a place is that of the rest one place before
+pub piece-on : (p : List ℕ) (ps qs : List (List ℕ)) (k : ℕ) → 0 < k → qs ≡ p ∷ ps → pieceOf k qs ≡ pieceOf (k - 1) ps
+unfolding pieceOf
+piece-on p ps qs zero h e = absurd (omega arith)
+piece-on p ps qs (suc k) h e = rw e (ap (λ (j : ℕ). getD ps j []) (omega arith))
+
+pub piece-past : (p : List ℕ) (qs : List (List ℕ)) (k : ℕ) → 0 < k → qs ≡ p ∷ [] → [] ≡ pieceOf k qs
+unfolding pieceOf
+piece-past p qs zero h e = absurd (omega arith)
+piece-past p qs (suc k) h e = rw e
+
+-- and the one at 0 is the first
+pub piece-here : (p : List ℕ) (ps qs : List (List ℕ)) → qs ≡ p ∷ ps → p ≡ pieceOf 0 qs
+unfolding pieceOf
+piece-here p ps qs e = rw e
+
+-- with none left to count, the first piece from `at` on is the one
+pub piece-found : (s r : List ℕ) (at k left : ℕ) → left ≤ 0 → r ≡ pieceOf 0 (split 10 (take (length s - at) (drop at s))) → pieceOf k (split 10 s) ≡ pieceOf left (split 10 (drop at s)) → r ≡ pieceOf k (split 10 s)
+piece-found s r at k left h e f =
+    let z : left ≡ 0 = omega arith in
+    (rw (from-place at s) at e) ∙ sym (rw z at f)
+
+-- ---------------------------------------------------------------------------
+-- The byte of a field's refusal
+
+-- a scan's place is below a number
+abbrev Below : ℕ → Found → Type 0
+Below n (At i) = i < n
+Below n Nothing = Unit
+
+below-later : (n : ℕ) (f : Found) → Below n f → Below (suc n) (later f)
+below-later n (At i) h = omega arith
+below-later n Nothing h = tt
+
+bad-below : (k : Class) (s : List ℕ) → Below (length s) (firstBad k s)
+unfolding firstBad
+bad-below k [] = tt
+bad-below k (b ∷ s) = go (permits k b) (bad-below k s)
+  where
+    go : (t : Bool) → Below (length s) (firstBad k s) → Below (suc (length s)) (cond t (later (firstBad k s)) (At 0))
+    go true h = below-later (length s) (firstBad k s) h
+    go false h = omega arith
+
+wrong-below : (s : List ℕ) → Below (length s) (firstWrong s)
+unfolding firstWrong
+wrong-below [] = tt
+wrong-below (b ∷ []) = go (isSingle b)
+  where
+    go : (t : Bool) → Below 1 (cond t Nothing (At 0))
+    go true = tt
+    go false = omega arith
+wrong-below (b ∷ (c ∷ s)) = go (isSingle b) (isPair b c) (wrong-below (c ∷ s)) (wrong-below s)
+  where
+    go : (t u : Bool) → Below (suc (length s)) (firstWrong (c ∷ s)) → Below (length s) (firstWrong s) →
+        Below (suc (suc (length s))) (cond t (later (firstWrong (c ∷ s))) (cond u (later (later (firstWrong s))) (At 0)))
+    go true u f g = below-later (suc (length s)) (firstWrong (c ∷ s)) f
+    go false true f g = below-later (suc (length s)) (later (firstWrong s)) (below-later (length s) (firstWrong s) g)
+    go false false f g = omega arith
+
+-- a refusal's byte is at most a number
+abbrev Within : ℕ → Answer → Type 0
+Within n Accepted = Unit
+Within n (Refused r) = placeOf r .byte ≤ n
+
+within-one : (n : ℕ) (b : Bool) (x y : Answer) → Within n x → Within n y → Within n (cond b x y)
+within-one n true x y f g = f
+within-one n false x y f g = g
+
+-- an answer by a place that a scan found
+found-within : (n : ℕ) (g : Found → Answer) → ((i : ℕ) → i < n → Within n (g (At i))) → Within n (g Nothing) → (f : Found) → Below n f → Within n (g f)
+found-within n g a z (At i) h = a i h
+found-within n g a z Nothing h = z
+
+-- each kind of field refuses at a byte that a scan found, or at 0
+module _ (s : List ℕ) where
+  nowhere-within : 0 ≤ length s
+  nowhere-within = omega arith
+
+  amount-within : Within (length s) (amountFrom s (firstBad Digits s))
+  amount-within = found-within (length s) (amountFrom s) (λ i h. omega arith) (within-one (length s) (eqb (length s) 15) _ _ tt nowhere-within) (firstBad Digits s) (bad-below Digits s)
+
+  purpose-within : Within (length s) (purposeFrom s (firstBad Letters s))
+  purpose-within = found-within (length s) (purposeFrom s) (λ i h. omega arith) (within-one (length s) (eqb (length s) 0 || eqb (length s) 4) _ _ tt nowhere-within) (firstBad Letters s) (bad-below Letters s)
+
+  text-within : (most : ℕ) → Within (length s) (textFrom most s (firstWrong s))
+  text-within most = found-within (length s) (textFrom most s) (λ i h. omega arith) (within-one (length s) (leb (characters s) most) _ _ tt nowhere-within) (firstWrong s) (wrong-below s)
+
+  iban-within : Within (length s) (ibanFrom s (firstBad Account s))
+  iban-within =
+      found-within (length s) (ibanFrom s) (λ i h. omega arith)
+      (within-one (length s) (eqb (length s) 21) _ _ (within-one (length s) (ibanFormed s) _ _ (within-one (length s) (ibanPasses s) _ _ tt nowhere-within) nowhere-within) nowhere-within)
+      (firstBad Account s) (bad-below Account s)
+
+  model-within : (f : Found) → Within (length s) (modelFrom f)
+  model-within (At i) = within-one (length s) (modelOf i .handled) _ _ tt nowhere-within
+  model-within Nothing = nowhere-within
+
+  obey-within : (model : Model) → Within (length s) (obeyAnswer model s)
+  unfolding obeyAnswer
+  obey-within model =
+      within-one (length s) (formed model s) _ _
+      (within-one (length s) (groupsRight (model .groups) (partsOf s)) _ _ tt nowhere-within)
+      nowhere-within
+
+  reference-within : (f : Found) → Within (length s) (numberAnswer s f)
+  reference-within Nothing = nowhere-within
+  reference-within (At i) =
+      within-one (length s) (modelOf i .handled) _ _
+      (found-within (length s) (judgedText (modelOf i) s) (λ j h. omega arith) (within-one (length s) (leb (length s) 22) _ _ (obey-within (modelOf i)) nowhere-within) (firstBad Reference s) (bad-below Reference s))
+      nowhere-within
+
+  -- so every field does
+  field-within : (n : ℕ) (m : List ℕ) → Within (length s) (fieldAnswer n m s)
+  unfolding fieldAnswer
+  field-within n m =
+      within-one (length s) (eqb n 1) _ _ (within-one (length s) (same hrvhub30 s) _ _ tt nowhere-within)
+      (within-one (length s) (eqb n 2) _ _ (within-one (length s) (same eur s) _ _ tt nowhere-within)
+      (within-one (length s) (eqb n 3) _ _ amount-within
+      (within-one (length s) (eqb n 10) _ _ iban-within
+      (within-one (length s) (eqb n 11) _ _ (model-within (modelNumber s))
+      (within-one (length s) (eqb n 12) _ _ (reference-within (modelNumber m))
+      (within-one (length s) (eqb n 13) _ _ purpose-within (text-within (mostOf n))))))))
+
+-- the byte of a field's refusal lies within the field, or is its end
+pub byte-within : (n : ℕ) (m s : List ℕ) (r : Refusal) → fieldAnswer n m s ≡ Refused r → placeOf r .byte ≤ length s
+byte-within n m s r e = rw e at (field-within s n m)
+
+-- ---------------------------------------------------------------------------
+-- Fields, from place `at` on
+
+-- the fields before `n` are accepted: the answer is that of the pieces from `at` on, after the field from `before` to `end`
+pub record Reached (s : List ℕ) (n before end at : ℕ) : Type 0 where
+  pub within : at ≤ length s
+  pub fewer : n ≤ at + 1
+  pub ordered : before ≤ end
+  pub passed : end ≤ length s
+  pub whole : fieldsAnswer 1 0 [] (split 10 s) ≡ fieldsAnswer n at (take (end - before) (drop before s)) (split 10 (drop at s))
+
+-- a piece and what follows it
+fields-step : (n start : ℕ) (m p t : List ℕ) → fieldsAnswer n start m (p ∷ split 10 t) ≡ judged n start (fieldAnswer n m p) (fieldsAnswer (n + 1) (start + length p + 1) p (split 10 t))
+unfolding fieldsAnswer
+fields-step n start m p t = rw (first-piece 10 t .2)
+
+-- what follows an accepted field answers, and what follows a refused one does not
+pub judged-on : (n start : ℕ) (a rest : Answer) → judged n start a Accepted ≡ Accepted → judged n start a rest ≡ rest
+judged-on n start Accepted rest e = refl
+judged-on n start (Refused r) rest e = let z : _≡_ {A = ℕ} 0 1 = cc in absurd (omega arith)
+
+pub judged-there : (n start : ℕ) (a rest : Answer) (q : Refusal) → judged n start a Accepted ≡ Refused q → judged n start a rest ≡ Refused q
+judged-there n start Accepted rest q e = let z : _≡_ {A = ℕ} 0 1 = cc in absurd (omega arith)
+judged-there n start (Refused r) rest q e = e
+
+pub reached-first : (s : List ℕ) → Reached s 1 0 0 0
+reached-first s = record { within = omega arith; fewer = omega arith; ordered = omega arith; passed = omega arith; whole = refl }
+
+module _ (s : List ℕ) (n before end at : ℕ) (w : Reached s n before end at) where
+  module _ (i : ℕ) (e : firstBad Line (take (length s - at) (drop at s)) ≡ At i) where
+    -- it ends within the text
+    pub reached-ends : at + i < length s
+    reached-ends = next-piece s at i (w .within) e .0
+
+    reached-length : length (take (at + i - at) (drop at s)) ≡ i
+    reached-length = let z : at + i - at ≡ i = omega arith in rw z (length-take-le i (drop at s) (omega (arith, reached-ends, length-drop at s)))
+
+    reached-field : fieldsAnswer 1 0 [] (split 10 s) ≡ judged n at (fieldAnswer n (take (end - before) (drop before s)) (take (at + i - at) (drop at s))) (fieldsAnswer (n + 1) (at + i + 1) (take (at + i - at) (drop at s)) (split 10 (drop (at + i + 1) s)))
+    reached-field =
+        let z : at + i - at ≡ i = omega arith in
+        let y : at + (i + 1) ≡ at + i + 1 = omega arith in
+        let m = take (end - before) (drop before s) in
+        let p = take (at + i - at) (drop at s) in
+        let d : split 10 (drop at s) ≡ p ∷ split 10 (drop (at + i + 1) s) = next-piece s at i (w .within) e .1 ∙ rw (z, y) in
+        w .whole ∙ (ap (fieldsAnswer n at m) d ∙ (fields-step n at m p (drop (at + i + 1) s) ∙ rw reached-length))
+
+    module _ (r : Answer) (j : r ≡ judged n at (fieldAnswer n (take (end - before) (drop before s)) (take (at + i - at) (drop at s))) Accepted) where
+      -- accepted: on to the next field
+      pub reached-next : r ≡ Accepted → Reached s (n + 1) at (at + i) (at + i + 1)
+      reached-next a =
+          record {
+            within = omega (arith, reached-ends);
+            fewer = omega (arith, w .fewer);
+            ordered = omega arith;
+            passed = omega (arith, reached-ends);
+            whole = reached-field ∙ judged-on n at (fieldAnswer n (take (end - before) (drop before s)) (take (at + i - at) (drop at s))) (fieldsAnswer (n + 1) (at + i + 1) (take (at + i - at) (drop at s)) (split 10 (drop (at + i + 1) s))) (sym j ∙ a);
+          }
+
+      -- refused: that is the answer
+      pub reached-refusal : (q : Refusal) → r ≡ Refused q → Refused q ≡ fieldsAnswer 1 0 [] (split 10 s)
+      reached-refusal q a = sym (reached-field ∙ judged-there n at (fieldAnswer n (take (end - before) (drop before s)) (take (at + i - at) (drop at s))) (fieldsAnswer (n + 1) (at + i + 1) (take (at + i - at) (drop at s)) (split 10 (drop (at + i + 1) s))) q (sym j ∙ a))
+
+  -- no further line feed: every field was accepted
+  pub reached-last : firstBad Line (take (length s - at) (drop at s)) ≡ Nothing → Accepted ≡ fieldsAnswer 1 0 [] (split 10 s)
+  unfolding fieldsAnswer
+  reached-last e = sym (w .whole ∙ rw (last-piece s at e))
+
+-- ---------------------------------------------------------------------------
+-- The slip, and a field of it
+
+-- 1, then 2, then the fields
+module _ (s : List ℕ) where
+  pub too-long : 483 < length s → Refused (Size none) ≡ slipAnswer s
+  unfolding slipAnswer
+  too-long h = left (leb (length s) 483) _ _ _ (lt-leb (length s) 483 h) refl
+
+  pub ends-wrong : length s ≤ 483 → slipEnds s ≡ false → Refused (Ends none) ≡ slipAnswer s
+  unfolding slipAnswer
+  ends-wrong h e = entered (leb (length s) 483) _ _ _ (le-leb (length s) 483 h) (left (slipEnds s) _ _ _ e refl)
+
+  pub fields-judged : (r : Answer) → length s ≤ 483 → slipEnds s ≡ true → r ≡ fieldsAnswer 1 0 [] (split 10 s) → r ≡ slipAnswer s
+  unfolding slipAnswer
+  fields-judged r h e f = entered (leb (length s) 483) _ _ _ (le-leb (length s) 483 h) (entered (slipEnds s) _ _ _ e f)
+
+-- fields 4 to 14 of an accepted slip, and nothing else
+module _ (s : List ℕ) (n : ℕ) where
+  pub field-below : n < 4 → [] ≡ fieldOf s n
+  unfolding fieldOf
+  field-below h = left (leb 4 n && (leb n 14 && isAccepted (slipAnswer s))) _ _ _ (sym (and-first (leb 4 n) _ (lt-leb 4 n h))) refl
+
+  pub field-above : 4 ≤ n → 14 < n → [] ≡ fieldOf s n
+  unfolding fieldOf
+  field-above g h =
+      left (leb 4 n && (leb n 14 && isAccepted (slipAnswer s))) _ _ _
+      (sym (and-second (leb 4 n) _ _ (le-leb 4 n g) (and-first (leb n 14) _ (lt-leb n 14 h)))) refl
+
+  module _ (g : 4 ≤ n) (h : n ≤ 14) where
+    field-tested : (b : Bool) → isAccepted (slipAnswer s) ≡ b → (leb 4 n && (leb n 14 && isAccepted (slipAnswer s))) ≡ b
+    field-tested b e = sym (and-second (leb 4 n) _ _ (le-leb 4 n g) (and-second (leb n 14) _ _ (le-leb n 14 h) (sym e)))
+
+    pub field-refused : (q : Refusal) → slipAnswer s ≡ Refused q → [] ≡ fieldOf s n
+    unfolding fieldOf
+    field-refused q e = left (leb 4 n && (leb n 14 && isAccepted (slipAnswer s))) _ _ _ (field-tested false (ap isAccepted e)) refl
+
+    pub field-handed : (r : List ℕ) → slipAnswer s ≡ Accepted → r ≡ pieceOf (n - 1) (split 10 s) → r ≡ fieldOf s n
+    unfolding fieldOf
+    field-handed r e f = entered (leb 4 n && (leb n 14 && isAccepted (slipAnswer s))) _ _ _ (field-tested true (ap isAccepted e)) f

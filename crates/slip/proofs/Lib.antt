@@ -1,0 +1,2 @@
+-- What the proofs of `slip` share, and what its definitions promise.
+pub mod Laws

@@ -1,0 +1,40 @@
+-- `slip::first_piece` meets its contract: the scan divides the text. Assumes nothing.
+use mathlib.Core.Path.{sym, _∙_}
+use native.Mathlib.Omega.{arith}
+use lib.Seq.{length-take-le}
+use Rattle.slip.proofs.Laws.{split-at, split-whole, piece-here}
+use borrow.Author.Needs.{needs}
+use Rattle.slip.proofs.first_piece.Statement.{statement}
+use Rattle.slip.proofs.first_piece.Tie as tie
+use Rattle.slip.proofs.first_piece.Reads as reads
+use Rattle.slip.proofs.first_piece.Lts as lts
+use Rattle.text.proofs.first_bad.Reads as first-bad-reads
+
+first-bad-requires : tie.Need-first-bad-requires
+first-bad-requires c κs = search needs
+
+enum-known-i : tie.Need-enum-known-i
+enum-known-i c = search needs
+
+slice-aggregate-result : tie.Need-slice-aggregate-result
+slice-aggregate-result c =
+    let s = c .before .before .before .before .before .before .args .s .now in
+    let d = split-at s (c .before .before .i .given .0 .0) (sym (c .before .before .before .before .first-bad .ensures) ∙ c .before .before .i .given .1) in
+    sym (length-take-le (c .before .before .i .given .0 .0) s (omega (arith, d .0)))
+
+enum-told : tie.Need-enum-told
+enum-told c = search needs
+
+returns : tie.Need-returns
+returns c =
+    let s = c .before .before .before .before .before .before .args .s .now in
+    let d = split-at s (c .before .before .i .given .0 .0) (sym (c .before .before .before .before .first-bad .ensures) ∙ c .before .before .i .given .1) in
+    piece-here _ _ _ (d .1)
+
+returns-2 : tie.Need-returns-2
+returns-2 c = piece-here _ _ _ (split-whole (c .before .before .before .before .args .s .now) (sym (c .before .before .first-bad .ensures) ∙ c .enum-told .given .1))
+
+pub first-piece-spec : {M : Type 1} → statement M
+first-piece-spec =
+    tie.close
+    (tie.spec first-bad-requires enum-known-i slice-aggregate-result enum-told returns returns-2)

@@ -1,0 +1,156 @@
+-- `slip::judge_fields` meets its contract. The loop's invariant: the answer is that of the pieces from `at` on, from field `n` on, after
+-- the field that stands from `before` to `end`. Assumes nothing.
+use Prim.Native.Nat.{_≤_, _<_, _+_, _-_}
+use mathlib.Core.Path.{_≡_, refl, sym, ap, _∙_}
+use native.Mathlib.Omega.{arith}
+use borrow.Author.Needs.{needs}
+use lib.ListN.{length, take, drop, length-take, length-drop}
+use Rattle.text.specs.Split.{split}
+use Rattle.slip.proofs.Laws.{Reached, reached-first, reached-ends, reached-next, reached-refusal, reached-last}
+use Rattle.slip.proofs.judge_fields.Statement.{statement}
+use Rattle.slip.proofs.judge_fields.Tie as tie
+use Rattle.slip.proofs.judge_fields.Reads as reads
+use Rattle.slip.proofs.judge_fields.Lts as lts
+use Rattle.slip.proofs.judge_one.Reads as judge-one-reads
+use Rattle.text.proofs.first_bad.Reads as first-bad-reads
+
+abbrev Inv-loop : tie.InvT-loop
+Inv-loop s n₀ before₀ end₀ at₀ n before end at = Reached s n before end at
+
+abbrev μ-loop : tie.MeasureT-loop
+μ-loop s n₀ before₀ end₀ at₀ n before end at = length s - at
+
+loop-holds : tie.Need-loop-holds Inv-loop μ-loop
+loop-holds c = reached-first (c .before .args .s .now)
+
+sub-first-bad : tie.Need-sub-first-bad Inv-loop μ-loop
+sub-first-bad c = search needs
+
+part-first-bad-start : tie.Need-part-first-bad-start Inv-loop μ-loop
+part-first-bad-start c = search needs
+
+part-first-bad-end : tie.Need-part-first-bad-end Inv-loop μ-loop
+part-first-bad-end c = search needs
+
+first-bad-requires : tie.Need-first-bad-requires Inv-loop μ-loop
+first-bad-requires c κs = search needs
+
+enum-known-i : tie.Need-enum-known-i Inv-loop μ-loop
+enum-known-i c = search needs
+
+add-stop : tie.Need-add-stop Inv-loop μ-loop
+add-stop c =
+    let s = c .before .before .before .before .before .before .before .args .s .now in
+    let l = c .before .before .before .before .before .loop in
+    let e = sym (c .before .before .before .first-bad .ensures) ∙ c .before .i .given .1 in
+    let h = reached-ends s (l .n) (l .before) (l .end) (l .at) (l .inv) (c .before .i .given .0 .0) e in
+    omega arith
+
+sub-judge-one : tie.Need-sub-judge-one Inv-loop μ-loop
+sub-judge-one c = search needs
+
+part-judge-one-start : tie.Need-part-judge-one-start Inv-loop μ-loop
+part-judge-one-start c = search needs
+
+part-judge-one-end : tie.Need-part-judge-one-end Inv-loop μ-loop
+part-judge-one-end c = search needs
+
+sub-judge-one-2 : tie.Need-sub-judge-one-2 Inv-loop μ-loop
+sub-judge-one-2 c = search needs
+
+part-judge-one-start-2 : tie.Need-part-judge-one-start-2 Inv-loop μ-loop
+part-judge-one-start-2 c = search needs
+
+part-judge-one-end-2 : tie.Need-part-judge-one-end-2 Inv-loop μ-loop
+part-judge-one-end-2 c =
+    let s = c .before .before .before .before .before .before .before .before .args .s .now in
+    let l = c .before .before .before .before .before .before .loop in
+    let e = sym (c .before .before .before .before .first-bad .ensures) ∙ c .before .before .i .given .1 in
+    let h = reached-ends s (l .n) (l .before) (l .end) (l .at) (l .inv) (c .before .before .i .given .0 .0) e in
+    omega arith
+
+judge-one-requires : tie.Need-judge-one-requires Inv-loop μ-loop
+judge-one-requires c κs =
+    let s = c .before .before .before .before .before .before .before .before .before .args .s .now in
+    let l = c .before .before .before .before .before .before .before .loop in
+    let e = sym (c .before .before .before .before .before .first-bad .ensures) ∙ c .before .before .before .i .given .1 in
+    let h = reached-ends s (l .n) (l .before) (l .end) (l .at) (l .inv) (c .before .before .before .i .given .0 .0) e in
+    omega (arith, length-take (l .at + c .before .before .before .i .given .0 .0 - l .at) (drop (l .at) s), length-drop (l .at) s)
+
+enum-told : tie.Need-enum-told Inv-loop μ-loop
+enum-told c = search needs
+
+add-at : tie.Need-add-at Inv-loop μ-loop
+add-at c =
+    let s = c .before .before .before .before .before .before .before .before .before .before .before .before .args .s .now in
+    let l = c .before .before .before .before .before .before .before .before .before .before .loop in
+    let e = sym (c .before .before .before .before .before .before .before .before .first-bad .ensures) ∙ c .before .before .before .before .before .before .i .given .1 in
+    let h = reached-ends s (l .n) (l .before) (l .end) (l .at) (l .inv) (c .before .before .before .before .before .before .i .given .0 .0) e in
+    omega arith
+
+add-n : tie.Need-add-n Inv-loop μ-loop
+add-n c =
+    let s = c .before .before .before .before .before .before .before .before .before .before .before .before .args .s .now in
+    let l = c .before .before .before .before .before .before .before .before .before .before .loop in
+    let e = sym (c .before .before .before .before .before .before .before .before .first-bad .ensures) ∙ c .before .before .before .before .before .before .i .given .1 in
+    let h = reached-ends s (l .n) (l .before) (l .end) (l .at) (l .inv) (c .before .before .before .before .before .before .i .given .0 .0) e in
+    omega (arith, l .inv .fewer)
+
+loop-less : tie.Need-loop-less Inv-loop μ-loop
+loop-less c =
+    let s = c .before .before .before .before .before .before .before .before .before .before .before .before .args .s .now in
+    let l = c .before .before .before .before .before .before .before .before .before .before .loop in
+    let e = sym (c .before .before .before .before .before .before .before .before .first-bad .ensures) ∙ c .before .before .before .before .before .before .i .given .1 in
+    let h = reached-ends s (l .n) (l .before) (l .end) (l .at) (l .inv) (c .before .before .before .before .before .before .i .given .0 .0) e in
+    omega arith
+
+loop-again : tie.Need-loop-again Inv-loop μ-loop
+loop-again c =
+    let l = c .before .before .before .before .before .before .before .before .before .before .loop in
+    reached-next (c .before .before .before .before .before .before .before .before .before .before .before .before .args .s .now) (l .n) (l .before) (l .end) (l .at) (l .inv) (c .before .before .before .before .before .before .i .given .0 .0) (sym (c .before .before .before .before .before .before .before .before .first-bad .ensures) ∙ c .before .before .before .before .before .before .i .given .1) (c .before .before .judge-one .result) (c .before .before .judge-one .ensures) (c .enum-told .given .1)
+
+enum-known-r : tie.Need-enum-known-r Inv-loop μ-loop
+enum-known-r c = search needs
+
+returns : tie.Need-returns Inv-loop μ-loop
+returns c =
+    let l = c .before .before .before .before .before .before .before .before .before .before .before .loop in
+    reached-refusal (c .before .before .before .before .before .before .before .before .before .before .before .before .before .args .s .now) (l .n) (l .before) (l .end) (l .at) (l .inv) (c .before .before .before .before .before .before .before .i .given .0 .0) (sym (c .before .before .before .before .before .before .before .before .before .first-bad .ensures) ∙ c .before .before .before .before .before .before .before .i .given .1) (c .before .before .before .judge-one .result) (c .before .before .before .judge-one .ensures) (c .before .r .given .0 .0) (c .before .r .given .1)
+
+enum-told-2 : tie.Need-enum-told-2 Inv-loop μ-loop
+enum-told-2 c = search needs
+
+returns-2 : tie.Need-returns-2 Inv-loop μ-loop
+returns-2 c =
+    let l = c .before .before .before .before .loop in
+    reached-last (c .before .before .before .before .before .before .args .s .now) (l .n) (l .before) (l .end) (l .at) (l .inv) (sym (c .before .before .first-bad .ensures) ∙ c .enum-told2 .given .1)
+
+pub judge-fields-spec : {M : Type 1} → statement M
+judge-fields-spec =
+    tie.close
+    (tie.spec
+    Inv-loop
+    μ-loop
+    loop-holds
+    sub-first-bad
+    part-first-bad-start
+    part-first-bad-end
+    first-bad-requires
+    enum-known-i
+    add-stop
+    sub-judge-one
+    part-judge-one-start
+    part-judge-one-end
+    sub-judge-one-2
+    part-judge-one-start-2
+    part-judge-one-end-2
+    judge-one-requires
+    enum-told
+    add-at
+    add-n
+    loop-less
+    loop-again
+    enum-known-r
+    returns
+    enum-told-2
+    returns-2)

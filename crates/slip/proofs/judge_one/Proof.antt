@@ -1,0 +1,36 @@
+-- `slip::judge_one` meets its contract: a refusal's byte lies within the field, so that its place in the slip fits. Assumes nothing.
+use mathlib.Core.Path.{sym, _∙_}
+use native.Mathlib.Omega.{arith}
+use Rattle.slip.proofs.Laws.{byte-within}
+use borrow.Author.Needs.{needs}
+use Rattle.slip.proofs.judge_one.Statement.{statement}
+use Rattle.slip.proofs.judge_one.Tie as tie
+use Rattle.slip.proofs.judge_one.Reads as reads
+use Rattle.slip.proofs.judge_one.Lts as lts
+use Rattle.slip_fields.proofs.judge_field.Reads as judge-field-reads
+use Rattle.slip.proofs.placed.Reads as placed-reads
+
+judge-field-requires : tie.Need-judge-field-requires
+judge-field-requires c κs = search needs
+
+enum-told : tie.Need-enum-told
+enum-told c = search needs
+
+enum-known-r : tie.Need-enum-known-r
+enum-known-r c = search needs
+
+placed-requires : tie.Need-placed-requires
+placed-requires c κs =
+    let a = c .before .before .before .before .before .before .args in
+    omega (arith, byte-within (a .n) (a .before .now) (a .s .now) (c .before .r .given .0 .0) (sym (c .before .before .before .judge-field .ensures) ∙ c .before .r .given .1))
+
+returns : tie.Need-returns
+returns c = rw (sym (c .before .before .judge-field .ensures) ∙ c .enum-told .given .1)
+
+returns-2 : tie.Need-returns-2
+returns-2 c = rw (c .placed .ensures, sym (c .before .before .before .before .judge-field .ensures) ∙ c .before .before .r .given .1)
+
+pub judge-one-spec : {M : Type 1} → statement M
+judge-one-spec =
+    tie.close
+    (tie.spec judge-field-requires enum-told enum-known-r placed-requires returns returns-2)

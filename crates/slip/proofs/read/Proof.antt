@@ -1,0 +1,45 @@
+-- `slip::read` meets its contract: each return is the definition's choice on the tests that led there. Assumes nothing.
+use mathlib.Core.Path.{sym, _∙_}
+use borrow.Author.Tests.{not-true, not-false}
+use Rattle.slip.proofs.Laws.{too-long, ends-wrong, fields-judged}
+use borrow.Author.Needs.{needs}
+use Rattle.slip.proofs.read.Statement.{statement}
+use Rattle.slip.proofs.read.Tie as tie
+use Rattle.slip.proofs.read.Reads as reads
+use Rattle.slip.proofs.read.Lts as lts
+use Rattle.refusal.proofs.nowhere.Reads as nowhere-reads
+use Rattle.slip.proofs.ends_right.Reads as ends-right-reads
+use Rattle.slip.proofs.judge_fields.Reads as judge-fields-reads
+
+nowhere-requires : tie.Need-nowhere-requires
+nowhere-requires c κs = search needs
+
+returns : tie.Need-returns
+returns c = rw (c .nowhere .ensures) (too-long (c .before .before .before .args .s .now) (c .before .if1 .taken))
+
+ends-right-requires : tie.Need-ends-right-requires
+ends-right-requires c κs = search needs
+
+nowhere-requires-2 : tie.Need-nowhere-requires-2
+nowhere-requires-2 c κs = search needs
+
+returns-2 : tie.Need-returns-2
+returns-2 c = rw (c .nowhere2 .ensures) (ends-wrong (c .before .before .before .before .before .args .s .now) (c .before .before .before .if1 .left) (sym (c .before .before .ends-right .ensures) ∙ not-true _ (c .before .if2 .taken)))
+
+judge-fields-requires : tie.Need-judge-fields-requires
+judge-fields-requires c κs = search needs
+
+returns-3 : tie.Need-returns-3
+returns-3 c = fields-judged (c .before .before .before .before .before .args .s .now) (c .judge-fields .result) (c .before .before .before .if1 .left) (sym (c .before .before .ends-right .ensures) ∙ not-false _ (c .before .if2 .left)) (c .judge-fields .ensures)
+
+pub read-spec : {M : Type 1} → statement M
+read-spec =
+    tie.close
+    (tie.spec
+    nowhere-requires
+    returns
+    ends-right-requires
+    nowhere-requires-2
+    returns-2
+    judge-fields-requires
+    returns-3)

@@ -1,0 +1,2 @@
+-- The definitions of the crate `slip`.
+pub mod Slip

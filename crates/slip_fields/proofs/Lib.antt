@@ -1,0 +1,4 @@
+-- What the proofs of `slip_fields` share, and what its definitions promise.
+pub mod Laws
+pub mod Accepted
+pub mod Theorems

@@ -1,0 +1,49 @@
+-- `slip_fields::judge_amount` meets its contract: each return is the definition's choice on what the scan found and the test that
+-- led there. Assumes nothing.
+use mathlib.Core.Path.{refl, sym, _∙_}
+use borrow.Author.Tests.{ne-eqb, eq-eqb}
+use Rattle.text.proofs.Laws.{taken, left}
+use borrow.Author.Needs.{needs}
+use Rattle.slip_fields.proofs.judge_amount.Statement.{statement}
+use Rattle.slip_fields.proofs.judge_amount.Tie as tie
+use Rattle.slip_fields.proofs.judge_amount.Reads as reads
+use Rattle.slip_fields.proofs.judge_amount.Lts as lts
+use Rattle.refusal.proofs.nowhere.Reads as nowhere-reads
+use Rattle.text.proofs.first_bad.Reads as first-bad-reads
+
+first-bad-requires : tie.Need-first-bad-requires
+first-bad-requires c κs = search needs
+
+enum-known-i : tie.Need-enum-known-i
+enum-known-i c = search needs
+
+enum-told : tie.Need-enum-told
+enum-told c = search needs
+
+returns : tie.Need-returns
+returns c =
+    rw (sym (c .before .before .before .first-bad .ensures) ∙ c .before .enum-told .given .1)
+    (taken _ _ _ (eq-eqb _ _ (c .if1 .taken)))
+
+nowhere-requires : tie.Need-nowhere-requires
+nowhere-requires c κs = search needs
+
+returns-2 : tie.Need-returns-2
+returns-2 c = rw (sym (c .before .before .before .first-bad .ensures) ∙ c .before .i .given .1)
+
+returns-3 : tie.Need-returns-3
+returns-3 c =
+    rw (c .nowhere .ensures, sym (c .before .before .before .before .first-bad .ensures) ∙ c .before .before .enum-told .given .1)
+    (left _ _ _ _ (ne-eqb _ _ (c .before .if1 .left)) refl)
+
+pub judge-amount-spec : {M : Type 1} → statement M
+judge-amount-spec =
+    tie.close
+    (tie.spec
+    first-bad-requires
+    enum-known-i
+    enum-told
+    returns
+    nowhere-requires
+    returns-2
+    returns-3)

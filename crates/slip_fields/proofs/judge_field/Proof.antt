@@ -1,0 +1,109 @@
+-- `slip_fields::judge_field` meets its contract: each arm says the number, and its answer is the definition's at that number.
+-- Assumes nothing.
+use borrow.Author.Tests.{ne-eqb}
+use Rattle.slip_fields.specs.Fields.{fieldAnswer}
+use borrow.Author.Needs.{needs}
+use Rattle.slip_fields.proofs.judge_field.Statement.{statement}
+use Rattle.slip_fields.proofs.judge_field.Tie as tie
+use Rattle.slip_fields.proofs.judge_field.Reads as reads
+use Rattle.slip_fields.proofs.judge_field.Lts as lts
+use Rattle.account.proofs.iban.Reads as iban-reads
+use Rattle.characters.proofs.judge.Reads as judge-reads
+use Rattle.reference.proofs.reference.Reads as reference-reads
+use Rattle.slip_fields.proofs.judge_amount.Reads as judge-amount-reads
+use Rattle.slip_fields.proofs.judge_model.Reads as judge-model-reads
+use Rattle.slip_fields.proofs.judge_purpose.Reads as judge-purpose-reads
+use Rattle.slip_fields.proofs.judge_word.Reads as judge-word-reads
+use Rattle.slip_fields.proofs.most_of.Reads as most-of-reads
+
+slice-aggregate-judge-word : tie.Need-slice-aggregate-judge-word
+slice-aggregate-judge-word c = search needs
+
+judge-word-requires : tie.Need-judge-word-requires
+judge-word-requires c κs = search needs
+
+slice-aggregate-judge-word-2 : tie.Need-slice-aggregate-judge-word-2
+slice-aggregate-judge-word-2 c = search needs
+
+judge-word-requires-2 : tie.Need-judge-word-requires-2
+judge-word-requires-2 c κs = search needs
+
+judge-amount-requires : tie.Need-judge-amount-requires
+judge-amount-requires c κs = search needs
+
+iban-requires : tie.Need-iban-requires
+iban-requires c κs = search needs
+
+judge-model-requires : tie.Need-judge-model-requires
+judge-model-requires c κs = search needs
+
+reference-requires : tie.Need-reference-requires
+reference-requires c κs = search needs
+
+judge-purpose-requires : tie.Need-judge-purpose-requires
+judge-purpose-requires c κs = search needs
+
+most-of-requires : tie.Need-most-of-requires
+most-of-requires c κs = search needs
+
+judge-requires : tie.Need-judge-requires
+judge-requires c κs = search needs
+
+returns : tie.Need-returns
+unfolding fieldAnswer
+returns c = rw (c .before .before .match .keys1) (c .judge-word .ensures)
+
+returns-2 : tie.Need-returns-2
+unfolding fieldAnswer
+returns-2 c = rw (c .before .before .match .keys2) (c .judge-word2 .ensures)
+
+returns-3 : tie.Need-returns-3
+unfolding fieldAnswer
+returns-3 c = rw (c .before .match .keys3) (c .judge-amount .ensures)
+
+returns-4 : tie.Need-returns-4
+unfolding fieldAnswer
+returns-4 c = rw (c .before .match .keys4) (c .iban .ensures)
+
+returns-5 : tie.Need-returns-5
+unfolding fieldAnswer
+returns-5 c = rw (c .before .match .keys5) (c .judge-model .ensures)
+
+returns-6 : tie.Need-returns-6
+unfolding fieldAnswer
+returns-6 c = rw (c .before .match .keys6) (c .reference .ensures)
+
+returns-7 : tie.Need-returns-7
+unfolding fieldAnswer
+returns-7 c = rw (c .before .match .keys7) (c .judge-purpose .ensures)
+
+returns-8 : tie.Need-returns-8
+unfolding fieldAnswer
+returns-8 c =
+    let n = c .before .before .before .before .before .args .n in
+    let r = c .before .before .match .rest in
+    rw (ne-eqb n 1 (r .0 .0 .0 .0 .0 .0 .1), ne-eqb n 2 (r .0 .0 .0 .0 .0 .1), ne-eqb n 3 (r .0 .0 .0 .0 .1), ne-eqb n 10 (r .0 .0 .0 .1), ne-eqb n 11 (r .0 .0 .1), ne-eqb n 12 (r .0 .1), ne-eqb n 13 (r .1), ← c .before .most-of .ensures) (c .judge .ensures)
+
+pub judge-field-spec : {M : Type 1} → statement M
+judge-field-spec =
+    tie.close
+    (tie.spec
+    slice-aggregate-judge-word
+    judge-word-requires
+    slice-aggregate-judge-word-2
+    judge-word-requires-2
+    judge-amount-requires
+    iban-requires
+    judge-model-requires
+    reference-requires
+    judge-purpose-requires
+    most-of-requires
+    judge-requires
+    returns
+    returns-2
+    returns-3
+    returns-4
+    returns-5
+    returns-6
+    returns-7
+    returns-8)

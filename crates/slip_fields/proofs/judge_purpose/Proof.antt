@@ -1,0 +1,55 @@
+-- `slip_fields::judge_purpose` meets its contract: each return is the definition's choice on what the scan found and the tests that
+-- led there. Assumes nothing.
+use mathlib.Core.Path.{refl, sym, _∙_}
+use borrow.Author.Tests.{ne-eqb, eq-eqb}
+use Rattle.text.proofs.Laws.{taken, left, or-first, or-second}
+use borrow.Author.Needs.{needs}
+use Rattle.slip_fields.proofs.judge_purpose.Statement.{statement}
+use Rattle.slip_fields.proofs.judge_purpose.Tie as tie
+use Rattle.slip_fields.proofs.judge_purpose.Reads as reads
+use Rattle.slip_fields.proofs.judge_purpose.Lts as lts
+use Rattle.refusal.proofs.nowhere.Reads as nowhere-reads
+use Rattle.text.proofs.first_bad.Reads as first-bad-reads
+
+first-bad-requires : tie.Need-first-bad-requires
+first-bad-requires c κs = search needs
+
+enum-known-i : tie.Need-enum-known-i
+enum-known-i c = search needs
+
+enum-told : tie.Need-enum-told
+enum-told c = search needs
+
+returns : tie.Need-returns
+returns c =
+    rw (sym (c .before .before .before .first-bad .ensures) ∙ c .before .enum-told .given .1)
+    (taken _ _ _ (sym (or-first _ _ (eq-eqb _ _ (c .if1 .taken)))))
+
+returns-2 : tie.Need-returns-2
+returns-2 c =
+    rw (sym (c .before .before .before .before .first-bad .ensures) ∙ c .before .before .enum-told .given .1)
+    (taken _ _ _ (sym (or-second _ _ _ (ne-eqb _ _ (c .before .if1 .left)) (sym (eq-eqb _ _ (c .if2 .taken))))))
+
+nowhere-requires : tie.Need-nowhere-requires
+nowhere-requires c κs = search needs
+
+returns-3 : tie.Need-returns-3
+returns-3 c = rw (sym (c .before .before .before .first-bad .ensures) ∙ c .before .i .given .1)
+
+returns-4 : tie.Need-returns-4
+returns-4 c =
+    rw (c .nowhere .ensures, sym (c .before .before .before .before .before .first-bad .ensures) ∙ c .before .before .before .enum-told .given .1)
+    (left _ _ _ _ (sym (or-second _ _ _ (ne-eqb _ _ (c .before .before .if1 .left)) (sym (ne-eqb _ _ (c .before .if2 .left))))) refl)
+
+pub judge-purpose-spec : {M : Type 1} → statement M
+judge-purpose-spec =
+    tie.close
+    (tie.spec
+    first-bad-requires
+    enum-known-i
+    enum-told
+    returns
+    returns-2
+    nowhere-requires
+    returns-3
+    returns-4)

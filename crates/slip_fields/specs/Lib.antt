@@ -1,0 +1,3 @@
+-- The definitions of the crate `slip_fields`.
+pub mod Fields
+pub mod Sizes
