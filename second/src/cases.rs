@@ -1,14 +1,18 @@
-//! The case file: one question a line, answered behind ` -> `.
+//! The case file: one question a line, answered behind ` -> `. A slip's line
+//! feeds stand there as `|`, which no field permits.
 
 use crate::account::{iban, oib};
 use crate::checkdigit::Rule;
 use crate::reference::Model;
 use crate::refusal::Refusal;
+use crate::slip::Slip;
 use crate::wet::{divide, list, WHOLE_ROOM};
 use std::fmt::Write as _;
 use std::io::{self, Write};
 
 const UNKNOWN: &str = "unknown";
+/// As many digits as the greatest u64 has.
+const MOST_DIGITS: usize = 20;
 
 /// Answers every line. What follows the last LF is a line unless empty.
 pub fn answer_all(input: &[u8], mut output: impl Write) -> io::Result<()> {
@@ -54,7 +58,52 @@ pub fn answer(line: &[u8]) -> String {
                 None => UNKNOWN.to_string(),
             }
         }
+        b"slip" => verdict(Slip::read(&swapped(argument, b'|', b'\n')).map(|_| ())),
+        b"write" => {
+            let (room, parts) = halves(argument);
+            match (decimal(room), said(parts)) {
+                (Some(room), Some(slip)) => written(&slip, room),
+                _ => UNKNOWN.to_string(),
+            }
+        }
         _ => UNKNOWN.to_string(),
+    }
+}
+
+pub fn swapped(text: &[u8], from: u8, to: u8) -> Vec<u8> {
+    text.iter()
+        .map(|&b| if b == from { to } else { b })
+        .collect()
+}
+
+/// The amount and the eleven fields of a `write` line.
+fn said(parts: &[u8]) -> Option<Slip<'_>> {
+    let parts: Vec<&[u8]> = parts.split(|&b| b == b'|').collect();
+    let (cents, texts) = parts.split_first()?;
+    Some(Slip {
+        cents: amount(cents)?,
+        texts: texts.try_into().ok()?,
+    })
+}
+
+/// One to twenty digits whose number fits.
+fn amount(text: &[u8]) -> Option<u64> {
+    let sized = (1..=MOST_DIGITS).contains(&text.len());
+    if !sized || !text.iter().all(u8::is_ascii_digit) {
+        return None;
+    }
+    text.iter().try_fold(0u64, |n, b| {
+        n.checked_mul(10)?.checked_add(u64::from(b - b'0'))
+    })
+}
+
+fn written(slip: &Slip, room: usize) -> String {
+    match slip.write(room) {
+        Err(refusal) => refusal.to_string(),
+        Ok(bytes) => {
+            let text = String::from_utf8(swapped(&bytes, b'\n', b'|')).expect("permitted only");
+            format!("written {} {text}", bytes.len())
+        }
     }
 }
 
@@ -136,6 +185,80 @@ mod tests {
             ("room x HR01 ??", "unknown"),
             ("IBAN HR1210010051863000160", "unknown"),
             ("", "unknown"),
+        ] {
+            assert_eq!(answer(line.as_bytes()), expected, "{line}");
+        }
+    }
+
+    #[test]
+    fn slips() {
+        let tail = "Ž||||||HR1210010051863000160|HR99||COST|a b";
+        let slip = format!("HRVHUB30|EUR|000000000000007|{tail}|");
+        for (line, expected) in [
+            (format!("slip {slip}"), "accepted".to_string()),
+            (
+                format!("slip {slip}").replace("COST", "CO T"),
+                "refused 3 line 0 field 13 byte 67".to_string(),
+            ),
+            (
+                format!("slip {slip}x"),
+                "refused 2 line 0 field 0 byte 0".to_string(),
+            ),
+            (
+                format!("slip  {slip}"),
+                "refused 5 line 0 field 1 byte 0".to_string(),
+            ),
+            (
+                "slip".to_string(),
+                "refused 2 line 0 field 0 byte 0".to_string(),
+            ),
+            (
+                format!("slip {}", "|".repeat(484)),
+                "refused 1 line 0 field 0 byte 0".to_string(),
+            ),
+            (format!("write 74 7|{tail}"), format!("written 74 {slip}")),
+            (
+                format!("write 74 00000000000000000007|{tail}"),
+                format!("written 74 {slip}"),
+            ),
+            (
+                format!("write 9{} 7|{tail}", "9".repeat(40)),
+                format!("written 74 {slip}"),
+            ),
+            (
+                format!("write 73 7|{tail}"),
+                "refused 15 needed 74".to_string(),
+            ),
+            (
+                format!("write 0 1000000000000000|{tail}"),
+                "refused 4 line 0 field 3 byte 0".to_string(),
+            ),
+            (
+                format!("write 0 18446744073709551615|{tail}"),
+                "refused 4 line 0 field 3 byte 0".to_string(),
+            ),
+            (
+                format!("write 0 7|{tail};"),
+                "refused 3 line 0 field 14 byte 3".to_string(),
+            ),
+            (format!("write 74 7|{tail}|"), UNKNOWN.to_string()),
+            (format!("write 74 {tail}"), UNKNOWN.to_string()),
+            (format!("write 74 |{tail}"), UNKNOWN.to_string()),
+            (format!("write 74 -7|{tail}"), UNKNOWN.to_string()),
+            (format!("write 74  7|{tail}"), UNKNOWN.to_string()),
+            (format!("write  74 7|{tail}"), UNKNOWN.to_string()),
+            (format!("write x 7|{tail}"), UNKNOWN.to_string()),
+            (format!("write 7|{tail}"), UNKNOWN.to_string()),
+            (
+                format!("write 74 18446744073709551616|{tail}"),
+                UNKNOWN.to_string(),
+            ),
+            (
+                format!("write 74 000000000000000000007|{tail}"),
+                UNKNOWN.to_string(),
+            ),
+            ("write".to_string(), UNKNOWN.to_string()),
+            ("write 74".to_string(), UNKNOWN.to_string()),
         ] {
             assert_eq!(answer(line.as_bytes()), expected, "{line}");
         }

@@ -1,4 +1,4 @@
-//! Runs a listing program and `second listing` side by side on the same bytes.
+//! Runs a program and its twin in `second` side by side on the same bytes.
 
 use crate::generate::{listing_input, Dice};
 use crate::reference::MODELS;
@@ -10,8 +10,13 @@ use std::sync::mpsc;
 use std::thread;
 use std::time::Duration;
 
+mod slips;
+pub use slips::compare_slips;
+
 /// A program that says nothing for so long is stuck, and that is a difference.
 const PATIENCE: Duration = Duration::from_secs(20);
+
+const MEGABYTE: usize = 1 << 20;
 
 pub struct Outcome {
     pub inputs: usize,
@@ -21,25 +26,41 @@ pub struct Outcome {
 /// Compares `program` with `second listing`, where `second` is that binary.
 pub fn compare(program: &OsStr, second: &Path, seed: u64, count: usize) -> io::Result<Outcome> {
     let mut dice = Dice::new(seed);
-    let inputs: Vec<Vec<u8>> = hand_picked()
+    let inputs = hand_picked()
         .into_iter()
-        .chain((0..count).map(|_| listing_input(&mut dice)))
-        .collect();
+        .chain((0..count).map(|_| listing_input(&mut dice)));
+    side_by_side(program, second, "listing", inputs, |_, theirs, ours| {
+        theirs.output == ours.output
+    })
+}
+
+/// Runs `program` and `second` with this word; `agree` judges both their ends.
+fn side_by_side(
+    program: &OsStr,
+    second: &Path,
+    word: &str,
+    inputs: impl Iterator<Item = Vec<u8>>,
+    mut agree: impl FnMut(&[u8], &End, &End) -> bool,
+) -> io::Result<Outcome> {
     let mut outcome = Outcome {
         inputs: 0,
         differ: 0,
     };
-    for input in &inputs {
+    for input in inputs {
         // Both are started first, so that they work at the same time.
-        let theirs = Run::start(&mut Command::new(program), input)?;
-        let ours = Run::start(Command::new(second).arg("listing"), input)?;
-        let (theirs, ours) = (theirs.output()?, ours.output()?);
+        let theirs = Run::start(&mut Command::new(program), &input)?;
+        let ours = Run::start(Command::new(second).arg(word), &input)?;
+        let (theirs, ours) = (theirs.end()?, ours.end()?);
         outcome.inputs += 1;
-        if theirs != ours {
+        let same = match (&theirs, &ours) {
+            (Some(theirs), Some(ours)) => agree(&input, theirs, ours),
+            _ => false,
+        };
+        if !same {
             outcome.differ += 1;
-            eprintln!("differ on {}", shown(Some(input)));
-            eprintln!("  program: {}", shown(theirs.as_deref()));
-            eprintln!("  second:  {}", shown(ours.as_deref()));
+            eprintln!("differ on {}", shown(&input));
+            eprintln!("  program: {}", shown_end(theirs.as_ref()));
+            eprintln!("  second:  {}", shown_end(ours.as_ref()));
         }
         if theirs.is_none() {
             // It would be stuck on most others too, and that takes hours.
@@ -47,6 +68,12 @@ pub fn compare(program: &OsStr, second: &Path, seed: u64, count: usize) -> io::R
         }
     }
     Ok(outcome)
+}
+
+/// What a program leaves behind.
+struct End {
+    output: Vec<u8>,
+    success: bool,
 }
 
 struct Run {
@@ -75,7 +102,7 @@ impl Run {
     }
 
     /// The whole standard output, or nothing from a program that is stuck.
-    fn output(mut self) -> io::Result<Option<Vec<u8>>> {
+    fn end(mut self) -> io::Result<Option<End>> {
         let output = match self.output.recv_timeout(PATIENCE) {
             Ok(result) => Some(result?),
             Err(_) => {
@@ -83,24 +110,26 @@ impl Run {
                 None
             }
         };
-        self.child.wait()?;
-        Ok(output)
+        let success = self.child.wait()?.success();
+        Ok(output.map(|output| End { output, success }))
     }
 }
 
-fn shown(bytes: Option<&[u8]>) -> String {
-    match bytes {
+fn shown(bytes: &[u8]) -> String {
+    let front = &bytes[..bytes.len().min(100)];
+    format!("\"{}\" ({} bytes)", front.escape_ascii(), bytes.len())
+}
+
+fn shown_end(end: Option<&End>) -> String {
+    match end {
         None => "(no end within 20 seconds)".to_string(),
-        Some(bytes) => {
-            let front = &bytes[..bytes.len().min(100)];
-            format!("\"{}\" ({} bytes)", front.escape_ascii(), bytes.len())
-        }
+        Some(end) if end.success => shown(&end.output),
+        Some(end) => format!("{} and failed", shown(&end.output)),
     }
 }
 
 /// Inputs at the edges of "reads one line".
 fn hand_picked() -> Vec<Vec<u8>> {
-    const MEGABYTE: usize = 1 << 20;
     let mut inputs: Vec<Vec<u8>> = [
         // No line, empty lines, more than one line.
         &b""[..],

@@ -8,6 +8,9 @@ use crate::refusal::Reason;
 use crate::wet::list;
 use std::io::{self, Write};
 
+mod slips;
+pub use slips::slip;
+
 /// splitmix64.
 pub struct Dice(u64);
 
@@ -71,7 +74,7 @@ pub fn cases(seed: u64, count: usize, mut output: impl Write) -> io::Result<()> 
 }
 
 fn case(dice: &mut Dice) -> Vec<u8> {
-    match dice.below(100) {
+    match dice.below(133) {
         0..=11 => {
             let text = account(dice);
             join(&[b"iban", &spoilt(dice, text)])
@@ -91,6 +94,8 @@ fn case(dice: &mut Dice) -> Vec<u8> {
             let room = room_for(dice, &line);
             join(&[b"room", room.to_string().as_bytes(), &line])
         }
+        96..=116 => slips::slip_case(dice),
+        117..=128 => slips::write_case(dice),
         _ => stray(dice),
     }
 }
@@ -439,8 +444,9 @@ fn room_for(dice: &mut Dice, line: &[u8]) -> usize {
 
 /// A line whose verb is none, or stands alone.
 fn stray(dice: &mut Dice) -> Vec<u8> {
-    const VERBS: [&str; 12] = [
+    const VERBS: [&str; 15] = [
         "iban", "oib", "ref", "check", "make", "list", "IBAN", "iban\t", " iban", "lists", "#", "",
+        "slip", "write", "slips",
     ];
     match dice.below(3) {
         0 => noise(dice, 40),

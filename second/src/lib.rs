@@ -1,5 +1,5 @@
 //! The ground of document 01 written a second time: check digits, IBAN, OIB,
-//! the sixteen reference models and the listing of wet texts.
+//! the sixteen reference models, the listing of wet texts and the slip.
 //!
 //! It shares only the formats with the first implementation, so that an answer
 //! both give is unlikely to be the same slip of the pen twice.
@@ -11,4 +11,5 @@ pub mod compare;
 pub mod generate;
 pub mod reference;
 pub mod refusal;
+pub mod slip;
 pub mod wet;

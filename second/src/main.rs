@@ -1,4 +1,4 @@
-use second::{cases, compare, generate, wet};
+use second::{cases, compare, generate, slip, wet};
 use std::env;
 use std::ffi::{OsStr, OsString};
 use std::io::{self, BufWriter, Read};
@@ -6,8 +6,10 @@ use std::process::ExitCode;
 
 const USAGE: &str = "usage: second cases < FILE
        second listing < LINE
+       second slipfile < SLIP
        second gen SEED N
-       second compare PROGRAM SEED COUNT";
+       second compare PROGRAM SEED COUNT
+       second compareslip PROGRAM SEED COUNT";
 
 fn main() -> ExitCode {
     let arguments: Vec<OsString> = env::args_os().skip(1).collect();
@@ -30,6 +32,7 @@ fn run(arguments: &[OsString]) -> io::Result<ExitCode> {
             cases::answer_all(&input, output())?;
         }
         ["listing"] => wet::program(io::stdin().lock(), output())?,
+        ["slipfile"] => slip::program(io::stdin().lock(), output())?,
         ["gen", seed, count] => {
             generate::cases(number(seed)?, number(count)? as usize, output())?;
         }
@@ -39,6 +42,19 @@ fn run(arguments: &[OsString]) -> io::Result<ExitCode> {
             let outcome = compare::compare(program, &env::current_exe()?, seed, count)?;
             println!(
                 "compare: {} inputs, {} differ",
+                outcome.inputs, outcome.differ
+            );
+            if outcome.differ > 0 {
+                return Ok(ExitCode::FAILURE);
+            }
+        }
+        ["compareslip", _, seed, count] => {
+            let program: &OsStr = &arguments[1];
+            let (seed, count) = (number(seed)?, number(count)? as usize);
+            let (outcome, written) =
+                compare::compare_slips(program, &env::current_exe()?, seed, count)?;
+            println!(
+                "compare-slip: {} inputs, {} differ, {written} written again",
                 outcome.inputs, outcome.differ
             );
             if outcome.differ > 0 {

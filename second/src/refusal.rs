@@ -7,6 +7,7 @@ use std::fmt;
 #[repr(u8)]
 pub enum Reason {
     Size = 1,
+    LineEnds = 2,
     Byte = 3,
     Length = 4,
     Form = 5,
@@ -21,14 +22,29 @@ pub enum Reason {
 #[derive(Clone, Copy, Debug, PartialEq, Eq)]
 pub struct Refusal {
     pub reason: Reason,
-    /// The offending byte for `Reason::Byte`, the needed number for
-    /// `Reason::Room`, otherwise 0.
+    /// The field of a slip; 0 for a text that stands alone.
+    pub field: usize,
+    /// The needed number for `Reason::Room`, otherwise a byte: the offending
+    /// one for `Reason::Byte`, else the first of the field.
     pub detail: usize,
 }
 
 impl Refusal {
     pub const fn at(reason: Reason, detail: usize) -> Self {
-        Refusal { reason, detail }
+        Refusal {
+            reason,
+            field: 0,
+            detail,
+        }
+    }
+
+    /// What was refused alone, as a field that begins at this byte.
+    pub const fn in_field(self, field: usize, start: usize) -> Self {
+        Refusal {
+            reason: self.reason,
+            field,
+            detail: start + self.detail,
+        }
     }
 
     pub const fn number(&self) -> u8 {
@@ -48,8 +64,9 @@ impl fmt::Display for Refusal {
             Reason::Room => write!(f, "refused 15 needed {}", self.detail),
             _ => write!(
                 f,
-                "refused {} line 0 field 0 byte {}",
+                "refused {} line 0 field {} byte {}",
                 self.number(),
+                self.field,
                 self.detail
             ),
         }

@@ -2,7 +2,8 @@
 // written back with its answer. An independent second implementation answers the same lines (`second cases`), and the
 // gate compares.
 //
-//     iban TEXT, oib TEXT, ref MODEL TEXT, check RULE TEXT, make RULE TEXT, list LINE, room K LINE
+//     iban TEXT, oib TEXT, ref MODEL TEXT, check RULE TEXT, make RULE TEXT, list LINE, room K LINE,
+//     slip TEXT, write K CENTS|F4|..|F14 (`|` stands for a line feed)
 //
 // The starred cases of 01 are proved about the definitions, as one table (proofs/Starred.antt).
 ghost use Prim.Native.Nat.{_≤_};
@@ -11,6 +12,9 @@ use check::same;
 use check_digits::Made;
 use check_digits::Rule;
 use fillings::Listed;
+use slip_writer::Written;
+use text::Class;
+use text::Found;
 use libc::STDOUT_FILENO;
 use refusal::Answer;
 use refusal::Refusal;
@@ -117,6 +121,19 @@ fn answer_list(verb: &[u8], rest: &[u8]) {
     if same(verb, b"room") {
         let r = find(rest, 32);
         list(beyond(rest, r), decimal(front(rest, r)));
+        return;
+    }
+    answer_slip(verb, rest);
+}
+
+fn answer_slip(verb: &[u8], rest: &[u8]) {
+    if same(verb, b"slip") {
+        read_slip(rest);
+        return;
+    }
+    if same(verb, b"write") {
+        let r = find(rest, 32);
+        write_by(front(rest, r), beyond(rest, r));
         return;
     }
     say(b"unknown");
@@ -270,4 +287,188 @@ fn padded(n: u16, marks: usize) {
         }
     }
     say_number(n as usize);
+}
+
+// ---------------------------------------------------------------------------
+// Slips
+
+// Puts a text at the front of `out`, as far as there is room, with line feeds for its bars, and answers how many bytes.
+fn with_ends(s: &[u8], out: &mut [u8]) -> usize {
+    let mut i = 0;
+    while i < s.len() {
+        if i < out.len() {
+            out[i] = swapped(s[i], 124, 10);
+            i += 1;
+        } else {
+            i += 1;
+        }
+    }
+    i
+}
+
+// A byte, or b where it is a.
+fn swapped(x: u8, a: u8, b: u8) -> u8 {
+    if x == a { b } else { x }
+}
+
+fn read_slip(s: &[u8]) {
+    let mut buffer = [0u8; 2048];
+    let n = with_ends(s, &mut buffer);
+    judged(slip::read(front(&buffer, n)));
+}
+
+// The part of a text after k bars.
+fn after_bars(s: &[u8], k: usize) -> &[u8] {
+    let mut at = 0;
+    let mut left = k;
+    while 0 < left {
+        if s.len() <= at {
+            return &s[..0];
+        }
+        at = at + find(&s[at..], 124) + 1;
+        left -= 1;
+    }
+    if at <= s.len() {
+        return &s[at..];
+    }
+    &s[..0]
+}
+
+// The field of a text between bars, counted from 0.
+fn barred(s: &[u8], k: usize) -> &[u8] {
+    let t = after_bars(s, k);
+    let e = find(t, 124);
+    front(t, e)
+}
+
+// How many bars a text has.
+fn bars(s: &[u8]) -> usize {
+    let mut n = 0;
+    let mut i = 0;
+    while i < s.len() {
+        n = counted(n, s[i]);
+        i += 1;
+    }
+    n
+}
+
+fn counted(n: usize, b: u8) -> usize {
+    if b == 124 {
+        if n < 1000 {
+            return n + 1;
+        }
+    }
+    n
+}
+
+// An amount of up to twenty digits that fits, or nothing.
+fn cents_of(s: &[u8]) -> Found {
+    if s.len() == 0 {
+        return Found::Nothing;
+    }
+    if 20 < s.len() {
+        return Found::Nothing;
+    }
+    let mut n = 0;
+    let mut i = 0;
+    while i < s.len() {
+        let Found::At(m) = next_digit(n, s[i]) else {
+            return Found::Nothing;
+        };
+        n = m;
+        i += 1;
+    }
+    Found::At(n)
+}
+
+fn next_digit(n: usize, b: u8) -> Found {
+    if b < 48 {
+        return Found::Nothing;
+    }
+    if 57 < b {
+        return Found::Nothing;
+    }
+    let d = (b - 48) as usize;
+    if 1844674407370955161 < n {
+        return Found::Nothing;
+    }
+    let m = n * 10;
+    if 18446744073709551615 - d < m {
+        return Found::Nothing;
+    }
+    Found::At(m + d)
+}
+
+// Writes a slip where the room is decimal digits.
+fn write_by(room: &[u8], s: &[u8]) {
+    if room.len() == 0 {
+        say(b"unknown");
+        return;
+    }
+    if !text::all_of(Class::Digits, room) {
+        say(b"unknown");
+        return;
+    }
+    write_slip(decimal(room), s);
+}
+
+fn write_slip(room: usize, s: &[u8]) {
+    if bars(s) != 11 {
+        say(b"unknown");
+        return;
+    }
+    let Found::At(cents) = cents_of(barred(s, 0)) else {
+        say(b"unknown");
+        return;
+    };
+    let mut out = [0u8; 2048];
+    write_in(cents, room, s, &mut out);
+}
+
+fn write_in(cents: usize, room: usize, s: &[u8], out: &mut [u8]) {
+    let k = least(room, out.len());
+    if k <= out.len() {
+        let r = slip_writer::write(
+            cents as u64,
+            barred(s, 1),
+            barred(s, 2),
+            barred(s, 3),
+            barred(s, 4),
+            barred(s, 5),
+            barred(s, 6),
+            barred(s, 7),
+            barred(s, 8),
+            barred(s, 9),
+            barred(s, 10),
+            barred(s, 11),
+            &mut out[..k],
+        );
+        written(r, out);
+    }
+}
+
+fn least(a: usize, b: usize) -> usize {
+    if a < b { a } else { b }
+}
+
+fn written(r: Written, out: &[u8]) {
+    match r {
+        Written::Bytes(n) => {
+            say(b"written ");
+            say_number(n);
+            say(b" ");
+            say_barred(front(out, n));
+        }
+        Written::Refused(r) => refused(r),
+    }
+}
+
+// Writes a text with bars for its line feeds.
+fn say_barred(s: &[u8]) {
+    let mut i = 0;
+    while i < s.len() {
+        let one = [swapped(s[i], 10, 124)];
+        say(&one);
+        i += 1;
+    }
 }

@@ -6,7 +6,7 @@ use mathlib.Core.List.{List, [], _∷_}
 use Prim.Native.Nat.{ℕ, zero, suc, _+_, _-_, _≤_, _<_}
 use native.Mathlib.Numerals.{add-one}
 use native.Mathlib.Omega.{arith}
-use native.Mathlib.Nat.{add-zero, zero-add}
+use native.Mathlib.Nat.{add-zero}
 use lib.Dec.{eqb, leb}
 use lib.ListN.{length, take, drop, getD, length-drop}
 use lib.Seq.{drop-cons, drop-drop, drop-length, length-take-le, take-all}
@@ -33,7 +33,7 @@ use Rattle.models.specs.Models.{modelNumber, modelOf}
 use Rattle.reference.specs.Parts.{formed, groupsRight, partsOf}
 use Rattle.reference.specs.Answers.{obeyAnswer, numberAnswer, textAnswer as judgedText}
 use Rattle.slip_fields.specs.Fields.{fieldAnswer, same, hrvhub30, eur, amountFrom, modelFrom, purposeFrom, mostOf}
-use Rattle.slip.specs.Slip.{countOf, slipEnds, told, judged, fieldsAnswer, slipAnswer, isAccepted, pieceOf, fieldOf}
+use Rattle.slip.specs.Slip.{countOf, slipEnds, judged, fieldsAnswer, slipAnswer, isAccepted, pieceOf, fieldOf}
 
 -- ---------------------------------------------------------------------------
 -- The pieces between the bytes c
@@ -364,10 +364,10 @@ module _ (s : List ℕ) (n : ℕ) where
     field-tested : (b : Bool) → isAccepted (slipAnswer s) ≡ b → (leb 4 n && (leb n 14 && isAccepted (slipAnswer s))) ≡ b
     field-tested b e = sym (and-second (leb 4 n) _ _ (le-leb 4 n g) (and-second (leb n 14) _ _ (le-leb n 14 h) (sym e)))
 
-    pub field-refused : (q : Refusal) → slipAnswer s ≡ Refused q → [] ≡ fieldOf s n
+    pub field-refused : isAccepted (slipAnswer s) ≡ false → [] ≡ fieldOf s n
     unfolding fieldOf
-    field-refused q e = left (leb 4 n && (leb n 14 && isAccepted (slipAnswer s))) _ _ _ (field-tested false (ap isAccepted e)) refl
+    field-refused e = left (leb 4 n && (leb n 14 && isAccepted (slipAnswer s))) _ _ _ (field-tested false e) refl
 
-    pub field-handed : (r : List ℕ) → slipAnswer s ≡ Accepted → r ≡ pieceOf (n - 1) (split 10 s) → r ≡ fieldOf s n
+    pub field-handed : (r : List ℕ) → isAccepted (slipAnswer s) ≡ true → r ≡ pieceOf (n - 1) (split 10 s) → r ≡ fieldOf s n
     unfolding fieldOf
-    field-handed r e f = entered (leb 4 n && (leb n 14 && isAccepted (slipAnswer s))) _ _ _ (field-tested true (ap isAccepted e)) f
+    field-handed r e f = entered (leb 4 n && (leb n 14 && isAccepted (slipAnswer s))) _ _ _ (field-tested true e) f

@@ -1,2 +1,3 @@
 -- What the proofs of `slip` share, and what its definitions promise.
 pub mod Laws
+pub mod Theorems

@@ -9,7 +9,7 @@ ghost use lib.ListN.{length};
 ghost use Rattle.refusal.specs.Refusal.{placeOf};
 ghost use Rattle.text.specs.Split.{split};
 ghost use Rattle.slip_fields.specs.Fields.{fieldAnswer};
-ghost use Rattle.slip.specs.Slip.{countOf, slipEnds, told, judged, fieldsAnswer, slipAnswer, pieceOf, fieldOf};
+ghost use Rattle.slip.specs.Slip.{countOf, slipEnds, told, judged, fieldsAnswer, slipAnswer, isAccepted, pieceOf, fieldOf};
 use refusal::Answer;
 use refusal::Place;
 use refusal::Refusal;
@@ -125,6 +125,16 @@ pub fn read(s: &[u8]) -> Answer
 // ---------------------------------------------------------------------------
 // Its fields
 
+// Whether a slip is accepted.
+fn is_accepted(s: &[u8]) -> bool
+    ensures { λ r. ⌜ r ≡ isAccepted (slipAnswer (now (s .entry))) ⌝ }
+{
+    match read(s) {
+        Answer::Accepted => true,
+        Answer::Refused(_) => false,
+    }
+}
+
 // The first piece of a text: up to its first line feed, or all of it.
 fn first_piece(s: &[u8]) -> &[u8]
     ensures { λ r. ⌜ now r ≡ pieceOf 0 (split 10 (now (s .entry))) ⌝ }
@@ -165,8 +175,8 @@ pub fn field(s: &[u8], n: usize) -> &[u8]
     if 14 < n {
         return &s[..0];
     }
-    match read(s) {
-        Answer::Accepted => piece(s, n - 1),
-        Answer::Refused(_) => &s[..0],
+    if !is_accepted(s) {
+        return &s[..0];
     }
+    piece(s, n - 1)
 }

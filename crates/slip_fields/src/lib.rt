@@ -77,10 +77,10 @@ pub fn judge_purpose(s: &[u8]) -> Answer
     ensures { λ r. ⌜ r ≡ purposeAnswer (now (s .entry)) ⌝ }
 {
     match text::first_bad(Class::Letters, s) {
-        Found::At(i) => Answer::Refused(Refusal::Byte(Place {
+        Found::At(k) => Answer::Refused(Refusal::Byte(Place {
             line: 0,
             field: 0,
-            byte: i,
+            byte: k,
         })),
         Found::Nothing => {
             if s.len() == 0 {

@@ -1,10 +1,9 @@
 -- `slip::count_ends` meets its contract. The loop's invariant: the line feeds passed and those left from `i` on make up the whole. Assumes nothing.
-use Prim.Native.Nat.{_≤_, _<_, _+_, _-_}
-use mathlib.Core.Path.{_≡_, sym, ap, _∙_}
+use Prim.Native.Nat.{_≤_, _+_, _-_}
+use mathlib.Core.Path.{_≡_, sym, _∙_}
 use native.Mathlib.Omega.{arith}
-use native.Mathlib.Nat.{zero-add, add-zero}
-use lib.ListN.{length, drop, getD}
-use lib.Seq.{drop-length}
+use native.Mathlib.Nat.{zero-add}
+use lib.ListN.{length, drop}
 use Rattle.slip.specs.Slip.{countOf}
 use Rattle.slip.proofs.Laws.{ends-more, ends-same, ends-end}
 use Rattle.slip.proofs.count_ends.Statement.{statement}

@@ -1,13 +1,14 @@
 -- `slip::field` meets its contract: each return is the definition's choice on the tests that led there. Assumes nothing.
 use mathlib.Core.Path.{sym, _∙_}
+use borrow.Author.Tests.{not-true, not-false}
 use Rattle.slip.proofs.Laws.{field-below, field-above, field-handed, field-refused}
 use borrow.Author.Needs.{needs}
 use Rattle.slip.proofs.field.Statement.{statement}
 use Rattle.slip.proofs.field.Tie as tie
 use Rattle.slip.proofs.field.Reads as reads
 use Rattle.slip.proofs.field.Lts as lts
+use Rattle.slip.proofs.is_accepted.Reads as is-accepted-reads
 use Rattle.slip.proofs.piece.Reads as piece-reads
-use Rattle.slip.proofs.read.Reads as read-reads
 
 slice-aggregate-result : tie.Need-slice-aggregate-result
 slice-aggregate-result c = search needs
@@ -21,11 +22,14 @@ slice-aggregate-result-2 c = search needs
 returns-2 : tie.Need-returns-2
 returns-2 c = field-above (c .before .before .before .before .args .s .now) (c .before .before .before .before .args .n) (c .before .before .if1 .left) (c .before .if2 .taken)
 
-read-requires : tie.Need-read-requires
-read-requires c κs = search needs
+is-accepted-requires : tie.Need-is-accepted-requires
+is-accepted-requires c κs = search needs
 
-enum-told : tie.Need-enum-told
-enum-told c = search needs
+slice-aggregate-result-3 : tie.Need-slice-aggregate-result-3
+slice-aggregate-result-3 c = search needs
+
+returns-3 : tie.Need-returns-3
+returns-3 c = field-refused (c .before .before .before .before .before .before .args .s .now) (c .before .before .before .before .before .before .args .n) (c .before .before .before .before .if1 .left) (c .before .before .before .if2 .left) (sym (c .before .before .is-accepted .ensures) ∙ not-true _ (c .before .if3 .taken))
 
 sub-piece : tie.Need-sub-piece
 sub-piece c = search needs
@@ -33,17 +37,8 @@ sub-piece c = search needs
 piece-requires : tie.Need-piece-requires
 piece-requires c κs = search needs
 
-enum-told-2 : tie.Need-enum-told-2
-enum-told-2 c = search needs
-
-slice-aggregate-result-3 : tie.Need-slice-aggregate-result-3
-slice-aggregate-result-3 c = search needs
-
-returns-3 : tie.Need-returns-3
-returns-3 c = field-handed (c .before .before .before .before .before .before .before .args .s .now) (c .before .before .before .before .before .before .before .args .n) (c .before .before .before .before .before .if1 .left) (c .before .before .before .before .if2 .left) (c .piece .result .now) (sym (c .before .before .before .read .ensures) ∙ c .before .enum-told .given .1) (c .piece .ensures)
-
 returns-4 : tie.Need-returns-4
-returns-4 c = field-refused (c .before .before .before .before .before .before .before .args .s .now) (c .before .before .before .before .before .before .before .args .n) (c .before .before .before .before .before .if1 .left) (c .before .before .before .before .if2 .left) (c .before .enum-told2 .given .0 .0) (sym (c .before .before .before .read .ensures) ∙ c .before .enum-told2 .given .1)
+returns-4 c = field-handed (c .before .before .before .before .before .before .args .s .now) (c .before .before .before .before .before .before .args .n) (c .before .before .before .before .if1 .left) (c .before .before .before .if2 .left) (c .piece .result .now) (sym (c .before .before .is-accepted .ensures) ∙ not-false _ (c .before .if3 .left)) (c .piece .ensures)
 
 pub field-spec : {M : Type 1} → statement M
 field-spec =
@@ -53,11 +48,9 @@ field-spec =
     returns
     slice-aggregate-result-2
     returns-2
-    read-requires
-    enum-told
-    sub-piece
-    piece-requires
-    enum-told-2
+    is-accepted-requires
     slice-aggregate-result-3
     returns-3
+    sub-piece
+    piece-requires
     returns-4)

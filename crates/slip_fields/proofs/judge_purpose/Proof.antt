@@ -14,8 +14,8 @@ use Rattle.text.proofs.first_bad.Reads as first-bad-reads
 first-bad-requires : tie.Need-first-bad-requires
 first-bad-requires c κs = search needs
 
-enum-known-i : tie.Need-enum-known-i
-enum-known-i c = search needs
+enum-known-k : tie.Need-enum-known-k
+enum-known-k c = search needs
 
 enum-told : tie.Need-enum-told
 enum-told c = search needs
@@ -34,7 +34,7 @@ nowhere-requires : tie.Need-nowhere-requires
 nowhere-requires c κs = search needs
 
 returns-3 : tie.Need-returns-3
-returns-3 c = rw (sym (c .before .before .before .first-bad .ensures) ∙ c .before .i .given .1)
+returns-3 c = rw (sym (c .before .before .before .first-bad .ensures) ∙ c .before .k .given .1)
 
 returns-4 : tie.Need-returns-4
 returns-4 c =
@@ -46,7 +46,7 @@ judge-purpose-spec =
     tie.close
     (tie.spec
     first-bad-requires
-    enum-known-i
+    enum-known-k
     enum-told
     returns
     returns-2

@@ -1,0 +1,105 @@
+-- What is promised of a slip: accepted exactly when, and one answer.
+-- Assumes nothing.
+use mathlib.Core.Path.{_≡_, refl, sym}
+use mathlib.Core.Logic.{_↔_}
+use mathlib.Core.Bool.{Bool, true, false, cond}
+use mathlib.Core.List.{List, [], _∷_}
+use Prim.Native.Nat.{ℕ, zero, suc, _+_, _-_, _≤_, _<_}
+use native.Mathlib.Omega.{arith}
+use native.Mathlib.Nat.{add-zero}
+use lib.Dec.{eqb, leb}
+use lib.ListN.{length, getD}
+use borrow.Author.Tests.{eq-eqb, eqb-true, leb-true}
+use Rattle.refusal.specs.Only.{Only, defined-only}
+use Rattle.refusal.specs.Refusal.{none}
+use Rattle.refusal.specs.declared.Answer.{Answer}
+use Rattle.refusal.specs.declared.Answer.the-variants.{Accepted, Refused}
+use Rattle.refusal.specs.declared.Refusal.{Refusal}
+use Rattle.refusal.specs.declared.Refusal.the-variants.{Size, Ends}
+use Rattle.text.specs.Split.{split}
+use Rattle.text.proofs.Laws.{both-true, and-second}
+use Rattle.slip_fields.specs.Fields.{fieldAnswer}
+use Rattle.slip.specs.Slip.{countOf, slipEnds, judged, fieldsAnswer, slipAnswer, pieceOf, fieldOf}
+use Rattle.slip.proofs.Laws.{pieces-counted, fields-judged}
+
+-- ---------------------------------------------------------------------------
+-- Accepted exactly when
+
+-- the text of field n, counted from 1: the piece between its line feeds
+abbrev pub fieldText : List ℕ → ℕ → List ℕ
+fieldText s n = pieceOf (n - 1) (split 10 s)
+
+-- the text of the field before field n; there is nothing before the first
+abbrev pub textBefore : List ℕ → ℕ → List ℕ
+textBefore s n = pieceOf (n - 1) ([] ∷ split 10 s)
+
+-- no more than 483 bytes, fourteen line feeds with one last, and each of the fourteen fields right
+pub record Right (s : List ℕ) : Type 0 where
+  pub short : length s ≤ 483
+  pub ends : countOf 10 s ≡ 14
+  pub last : getD s (length s - 1) 0 ≡ 10
+  pub fields : (n : ℕ) → 1 ≤ n → n ≤ 14 → fieldAnswer n (textBefore s n) (fieldText s n) ≡ Accepted
+
+-- a choice between an answer and a refusal accepts where its test holds and the answer does
+chosen : (b : Bool) (x : Answer) (q : Refusal) → cond b x (Refused q) ≡ Accepted → (b ≡ true) × (x ≡ Accepted)
+chosen true x q e = (refl, e)
+chosen false x q e = let z : _≡_ {A = ℕ} 0 1 = cc in absurd (omega arith)
+
+-- a field and the rest accept where both do
+judged-both : (n start : ℕ) (a rest : Answer) → judged n start a rest ≡ Accepted → (a ≡ Accepted) × (rest ≡ Accepted)
+judged-both n start Accepted rest e = (refl, e)
+judged-both n start (Refused r) rest e = let z : _≡_ {A = ℕ} 0 1 = cc in absurd (omega arith)
+
+-- the fields of an accepted slip are each accepted, up to the last line feed
+fields-each : (n start : ℕ) (m : List ℕ) (ps : List (List ℕ)) → fieldsAnswer n start m ps ≡ Accepted → (k : ℕ) → k + 1 < length ps → fieldAnswer (n + k) (getD (m ∷ ps) k []) (getD ps k []) ≡ Accepted
+unfolding fieldsAnswer
+fields-each n start m [] e k h = absurd (omega arith)
+fields-each n start m (p ∷ []) e k h = absurd (omega arith)
+fields-each n start m (p ∷ (q ∷ ps)) e zero h = rw (add-zero n) (judged-both n start (fieldAnswer n m p) (fieldsAnswer (n + 1) (start + length p + 1) p (q ∷ ps)) e .0)
+fields-each n start m (p ∷ (q ∷ ps)) e (suc k) h =
+    let z : n + suc k ≡ n + 1 + k = omega arith in
+    rw z (fields-each (n + 1) (start + length p + 1) p (q ∷ ps) (judged-both n start (fieldAnswer n m p) (fieldsAnswer (n + 1) (start + length p + 1) p (q ∷ ps)) e .1) k (omega arith))
+
+-- and where each is accepted, so are they all
+each-fields : (n start : ℕ) (m : List ℕ) (ps : List (List ℕ)) → ((k : ℕ) → k + 1 < length ps → fieldAnswer (n + k) (getD (m ∷ ps) k []) (getD ps k []) ≡ Accepted) → Accepted ≡ fieldsAnswer n start m ps
+unfolding fieldsAnswer
+each-fields n start m [] f = refl
+each-fields n start m (p ∷ []) f = refl
+each-fields n start m (p ∷ (q ∷ ps)) f =
+    rw (rw (add-zero n) at (f 0 (omega arith)))
+    (each-fields (n + 1) (start + length p + 1) p (q ∷ ps) (λ k h. let z : n + suc k ≡ n + 1 + k = omega arith in rw z at (f (suc k) (omega arith))))
+
+module _ (s : List ℕ) where
+  accepted-right : slipAnswer s ≡ Accepted → Right s
+  unfolding slipAnswer pieceOf
+  accepted-right e =
+      let a = chosen (leb (length s) 483) (cond (slipEnds s) (fieldsAnswer 1 0 [] (split 10 s)) (Refused (Ends none))) (Size none) e in
+      let b = chosen (slipEnds s) (fieldsAnswer 1 0 [] (split 10 s)) (Ends none) (a .1) in
+      let d = both-true (eqb (countOf 10 s) 14) (eqb (getD s (length s - 1) 0) 10) (b .0) in
+      let f = eqb-true (countOf 10 s) 14 (d .0) in
+      record {
+        short = leb-true (length s) 483 (a .0);
+        ends = f;
+        last = eqb-true (getD s (length s - 1) 0) 10 (d .1);
+        fields = λ n g h. let z : 1 + (n - 1) ≡ n = omega arith in rw z at (fields-each 1 0 [] (split 10 s) (b .1) (n - 1) (omega (arith, pieces-counted 10 s)));
+      }
+
+  right-accepted : Right s → slipAnswer s ≡ Accepted
+  unfolding pieceOf
+  right-accepted w =
+      sym (fields-judged s Accepted (w .short)
+      (sym (and-second (eqb (countOf 10 s) 14) (eqb (getD s (length s - 1) 0) 10) true (eq-eqb (countOf 10 s) 14 (w .ends)) (sym (eq-eqb (getD s (length s - 1) 0) 10 (w .last)))))
+      (each-fields 1 0 [] (split 10 s) (λ k h. let z : k + 1 - 1 ≡ k = omega arith in let y : k + 1 ≡ 1 + k = omega arith in rw (z, y) at (w .fields (k + 1) (omega arith) (omega (arith, pieces-counted 10 s, w .ends))))))
+
+  -- a slip is accepted exactly when it is right
+  pub accepted-exactly : (slipAnswer s ≡ Accepted) ↔ Right s
+  accepted-exactly = (accepted-right, right-accepted)
+
+-- ---------------------------------------------------------------------------
+-- Any two answers that a contract allows are equal
+
+pub read-only : (s : List ℕ) → Only (λ (r : Answer). r ≡ slipAnswer s)
+read-only s = defined-only (slipAnswer s)
+
+pub field-only : (s : List ℕ) (n : ℕ) → Only (λ (r : List ℕ). r ≡ fieldOf s n)
+field-only s n = defined-only (fieldOf s n)

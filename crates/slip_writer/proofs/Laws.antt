@@ -1,0 +1,250 @@
+-- Laws of texts written one behind another, of fields judged one after another, and of what the writer answers. Assumes nothing.
+use mathlib.Core.Path.{_≡_, refl, sym, ap, _∙_}
+use mathlib.Core.List.{List, [], _∷_, _++_, append-assoc}
+use Prim.Native.Nat.{ℕ, zero, suc, _+_, _-_, _/_, _%_, _^_, _≤_, _<_}
+use native.Mathlib.Numerals.{add-one}
+use native.Mathlib.Omega.{arith}
+use native.Mathlib.Nat.{zero-add, add-zero, pow-suc, one-le-pow}
+use lib.ListN.{length, getD, drop, set, length-append}
+use lib.Seq.{sets, length-sets, sets-eq, drop-cons, drop-length}
+use borrow.Author.Tests.{lt-ltb, le-ltb}
+use Rattle.refusal.specs.declared.Place.{Place}
+use Rattle.refusal.specs.declared.Refusal.{Refusal}
+use Rattle.refusal.specs.declared.Refusal.the-variants.{Length, Room}
+use Rattle.refusal.specs.declared.Answer.{Answer}
+use Rattle.refusal.specs.Refusal.{none, placeOf, moved}
+use Rattle.slip_fields.specs.Fields.{hrvhub30, eur, fieldAnswer}
+use Rattle.slip.specs.Slip.{judged}
+use Rattle.slip_writer.specs.declared.Written.{Written}
+use Rattle.slip_writer.specs.Writer.{digitsText, joinLines, slipText, givenAnswer, roomAnswer, writeAnswer}
+use Rattle.slip_writer.specs.Steps.{Stands, firstOf, three, WritesSlip, WritesAccepted}
+
+-- ---------------------------------------------------------------------------
+-- Loops that write: what is left to be written makes up the whole
+
+-- one byte more of a text
+pub copied-more :
+    (s out whole : List ℕ) (at i : ℕ) → i < length s → sets out (at + i) (drop i s) ≡ whole
+    → sets (set out (at + i) (getD s i 0)) (at + (i + 1)) (drop (i + 1) s) ≡ whole
+copied-more s out whole at i h e =
+    let z : at + (i + 1) ≡ suc (at + i) = omega arith in
+    rw (z, add-one i) (rw (drop-cons s i 0 h) at e)
+
+-- nothing left of a text
+pub copied-all : (s out whole : List ℕ) (at i : ℕ) → i ≡ length s → sets out (at + i) (drop i s) ≡ whole → out ≡ whole
+copied-all s out whole at i z e = rw (z, drop-length) at e
+
+-- a tenth of a power of ten
+pub tenth : (n unit : ℕ) → 0 < n → unit ≡ 10 ^ n → unit / 10 ≡ 10 ^ (n - 1)
+tenth zero unit h e = absurd (omega arith)
+tenth (suc n) unit h e = let z : suc n - 1 ≡ n = omega arith in rw (e, z, pow-suc) (omega arith)
+
+-- and it is no zero
+pub tenth-some : (n unit : ℕ) → 0 < n → unit ≡ 10 ^ n → 0 < unit / 10
+tenth-some n unit h e = rw (tenth n unit h e) (one-le-pow (n - 1) 10 (omega arith))
+
+-- one digit more of an amount
+pub digit-more :
+    (cents unit left next : ℕ) (out whole : List ℕ) → 0 < left → unit ≡ 10 ^ left → sets out next (digitsText left cents) ≡ whole
+    → sets (set out next (48 + (cents / (unit / 10)) % 10)) (next + 1) (digitsText (left - 1) cents) ≡ whole
+unfolding digitsText
+digit-more cents unit zero next out whole h z e = absurd (omega arith)
+digit-more cents unit (suc left) next out whole h z e =
+    let y : suc left - 1 ≡ left = omega arith in
+    rw (tenth (suc left) unit h z, y, add-one next) e
+
+-- no digit left
+pub digits-all : (cents left next : ℕ) (out whole : List ℕ) → left ≡ 0 → sets out next (digitsText left cents) ≡ whole → out ≡ whole
+unfolding digitsText
+digits-all cents left next out whole z e = rw z at e
+
+-- as many digits as asked
+pub digits-length : (n a : ℕ) → length (digitsText n a) ≡ n
+unfolding digitsText
+digits-length zero a = refl
+digits-length (suc n) a = ap suc (digits-length n a)
+
+-- ---------------------------------------------------------------------------
+-- Texts one behind another
+
+-- one run behind another
+pub sets-append : (l : List ℕ) (i : ℕ) (xs ys : List ℕ) → sets (sets l i xs) (i + length xs) ys ≡ sets l i (xs ++ ys)
+sets-append l i [] ys = rw add-zero
+sets-append l i (x ∷ xs) ys = let e : i + suc (length xs) ≡ suc i + length xs = omega arith in rw e (sets-append (set l i x) (suc i) xs ys)
+
+-- one text was written behind another
+pub stands-append : {b b₁ b₂ xs ys : List ℕ} {at n₁ n₂ : ℕ} → Stands b at xs n₁ b₁ → Stands b₁ n₁ ys n₂ b₂ → Stands b at (xs ++ ys) n₂ b₂
+stands-append {b} {b₁} {b₂} {xs} {ys} {at} {n₁} {n₂} v w =
+    record {
+      counted = omega (arith, length-append xs ys, v .counted, w .counted);
+      content = w .content ∙ rw (v .content, v .counted) (sets-append b at xs ys);
+    }
+
+-- the lent slice keeps its length
+pub stands-length : {b after xs : List ℕ} {at next : ℕ} → Stands b at xs next after → length after ≡ length b
+stands-length {b} {after} {xs} {at} w = ap length (w .content) ∙ length-sets b at xs
+
+-- a text at the front, the bytes beyond it as they were
+pub front-stands : (b after xs : List ℕ) (n : ℕ) → Stands b 0 xs n after → length xs ≤ length b → after ≡ xs ++ drop (length xs) b
+front-stands b after xs n w h = w .content ∙ sets-eq xs b 0 (omega arith) ∙ rw zero-add
+
+-- ---------------------------------------------------------------------------
+-- Lines
+
+-- the size of a line and of what follows it
+pub lines-length : (p : List ℕ) (ps : List (List ℕ)) → length (joinLines (p ∷ ps)) ≡ length p + 1 + length (joinLines ps)
+unfolding joinLines
+lines-length p ps = length-append p (10 ∷ joinLines ps) ∙ omega arith
+
+-- the size of three lines
+pub three-length : (a b c : List ℕ) → length (joinLines (three a b c)) ≡ length a + length b + length c + 3
+unfolding joinLines
+three-length a b c = omega (arith, lines-length a (b ∷ (c ∷ [])), lines-length b (c ∷ []), lines-length c [])
+
+-- the size of one
+pub line-length : (s : List ℕ) → length (joinLines (s ∷ [])) ≡ length s + 1
+unfolding joinLines
+line-length s = lines-length s [] ∙ omega arith
+
+-- lines in front of lines
+pub lines-append : (ps qs : List (List ℕ)) → joinLines (ps ++ qs) ≡ joinLines ps ++ joinLines qs
+unfolding joinLines
+lines-append [] qs = refl
+lines-append (p ∷ ps) qs = rw (lines-append ps qs, append-assoc)
+
+-- a text and then a line feed
+pub line-stands : {b after s : List ℕ} {at n : ℕ} → Stands b at s n after → Stands b at (joinLines (s ∷ [])) (n + 1) (set after n 10)
+unfolding joinLines
+line-stands w = stands-append w (record { counted = refl; content = refl })
+
+-- lines behind lines
+pub lines-stand :
+    (ps qs : List (List ℕ)) {b b₁ b₂ : List ℕ} {at n₁ n₂ : ℕ} → Stands b at (joinLines ps) n₁ b₁ → Stands b₁ n₁ (joinLines qs) n₂ b₂
+    → Stands b at (joinLines (ps ++ qs)) n₂ b₂
+lines-stand ps qs v w = rw (lines-append ps qs) (stands-append v w)
+
+-- both sizes
+both-length : (ps qs : List (List ℕ)) → length (joinLines (ps ++ qs)) ≡ length (joinLines ps) + length (joinLines qs)
+both-length ps qs = rw (lines-append ps qs) (length-append (joinLines ps) (joinLines qs))
+
+-- room for lines and more is room for the lines
+pub room-first : (ps qs : List (List ℕ)) (at room : ℕ) → at + length (joinLines (ps ++ qs)) ≤ room → at + length (joinLines ps) ≤ room
+room-first ps qs at room h = omega (arith, both-length ps qs)
+
+-- and then for the rest
+pub room-next :
+    (ps qs : List (List ℕ)) {b after : List ℕ} {at next : ℕ} → at + length (joinLines (ps ++ qs)) ≤ length b → Stands b at (joinLines ps) next after
+    → next + length (joinLines qs) ≤ length after
+room-next ps qs h w = omega (arith, both-length ps qs, w .counted, stands-length w)
+
+-- room for a line is room for a byte behind its text
+pub room-feed : (s : List ℕ) {b after : List ℕ} {at next : ℕ} → at + length (joinLines (s ∷ [])) ≤ length b → Stands b at s next after → next < length after
+room-feed s h w = omega (arith, line-length s, w .counted, stands-length w)
+
+-- ---------------------------------------------------------------------------
+-- The slip in four parts: its head, and its fields in three
+
+-- the fields 1 to 3
+abbrev pub headOf : ℕ → List (List ℕ)
+headOf cents = three hrvhub30 eur (digitsText 15 cents)
+
+-- their size
+pub head-length : (cents : ℕ) → length (joinLines (headOf cents)) ≡ 29
+head-length cents = three-length hrvhub30 eur (digitsText 15 cents) ∙ omega (arith, digits-length 15 cents)
+
+-- the size of a slip
+pub slip-length : (cents : ℕ) (ps : List (List ℕ)) → length (slipText cents ps) ≡ 29 + length (joinLines ps)
+unfolding slipText
+slip-length cents ps = omega (arith, both-length (headOf cents) ps, head-length cents)
+
+module _ (cents : ℕ) (ps qs rs : List (List ℕ)) where
+  -- by its parts
+  pub slip-size : length (slipText cents (ps ++ (qs ++ rs))) ≡ 29 + length (joinLines ps) + length (joinLines qs) + length (joinLines rs)
+  slip-size = omega (arith, slip-length cents (ps ++ (qs ++ rs)), both-length ps (qs ++ rs), both-length qs rs)
+
+  -- room for the slip
+  pub slip-room :
+      (room : ℕ) → 29 + length (joinLines ps) + length (joinLines qs) + length (joinLines rs) ≤ room
+      → 0 + length (joinLines (headOf cents ++ (ps ++ (qs ++ rs)))) ≤ room
+  slip-room room h = omega (arith, both-length (headOf cents) (ps ++ (qs ++ rs)), head-length cents, both-length ps (qs ++ rs), both-length qs rs)
+
+  -- the slip stands at the front
+  pub slip-stands :
+      {b b₁ b₂ b₃ b₄ : List ℕ} {n₁ n₂ n₃ n₄ : ℕ} → Stands b 0 (joinLines (headOf cents)) n₁ b₁ → Stands b₁ n₁ (joinLines ps) n₂ b₂
+      → Stands b₂ n₂ (joinLines qs) n₃ b₃ → Stands b₃ n₃ (joinLines rs) n₄ b₄ → Stands b 0 (slipText cents (ps ++ (qs ++ rs))) n₄ b₄
+  unfolding slipText
+  slip-stands v w x y = lines-stand (headOf cents) (ps ++ (qs ++ rs)) v (lines-stand ps (qs ++ rs) w (lines-stand qs rs x y))
+
+-- more than there is room for: refused
+pub room-refused :
+    (s : List ℕ) (room n : ℕ) (place : Place) → n ≡ length s → room < n → place ≡ none → Written.Refused (Room place n) ≡ roomAnswer s room
+room-refused s room n place e h g = rw (lt-ltb room (length s) (omega arith), e, g)
+
+-- there is room: counted
+pub room-counted : (s : List ℕ) (room n : ℕ) → n ≡ length s → n ≤ room → Written.Bytes n ≡ roomAnswer s room
+room-counted s room n e h = rw (le-ltb room (length s) (omega arith), e)
+
+-- ---------------------------------------------------------------------------
+-- Answers one after another
+
+-- the last of the fields, or the one before them
+abbrev pub lastOf : List ℕ → List (List ℕ) → List ℕ
+lastOf m [] = m
+lastOf m (p ∷ ps) = lastOf p ps
+
+-- a refusal stands before what follows, an acceptance gives way to it
+judged-first : (n start : ℕ) (a x y : Answer) → judged n start a (firstOf x y) ≡ firstOf (judged n start a x) y
+judged-first n start Answer.Accepted x y = refl
+judged-first n start (Answer.Refused r) x y = refl
+
+-- fields after fields
+pub given-append :
+    (n : ℕ) (m : List ℕ) (ps qs : List (List ℕ))
+    → givenAnswer n m (ps ++ qs) ≡ firstOf (givenAnswer n m ps) (givenAnswer (n + length ps) (lastOf m ps) qs)
+unfolding givenAnswer
+given-append n m [] qs = rw add-zero
+given-append n m (p ∷ ps) qs =
+    let e : n + suc (length ps) ≡ n + 1 + length ps = omega arith in
+    rw (given-append (n + 1) p ps qs, e) (judged-first n 0 (fieldAnswer n m p) _ _)
+
+module _ (n : ℕ) (m : List ℕ) {x : Answer} where
+  -- one field accepted
+  pub one-accepted : (s : List ℕ) → x ≡ fieldAnswer n m s → x ≡ Answer.Accepted → Answer.Accepted ≡ givenAnswer n m (s ∷ [])
+  unfolding givenAnswer
+  one-accepted s e g = rw (sym e ∙ g)
+
+  -- one field refused
+  pub one-refused :
+      (s : List ℕ) (r y : Refusal) (t : Place) → x ≡ fieldAnswer n m s → x ≡ Answer.Refused r → t ≡ placeOf r
+      → y ≡ moved (record { line = 0; field = n; byte = t .byte }) r → Answer.Refused y ≡ givenAnswer n m (s ∷ [])
+  unfolding givenAnswer
+  one-refused s r y t e g h k = rw (sym e ∙ g, k, h, zero-add)
+
+  module _ (ps qs : List (List ℕ)) (e : x ≡ givenAnswer n m ps) where
+    -- refused among the first
+    pub refused-first : (r : Refusal) → x ≡ Answer.Refused r → Answer.Refused r ≡ givenAnswer n m (ps ++ qs)
+    refused-first r g = rw (given-append n m ps qs, sym e ∙ g)
+
+    -- the first accepted: the answer of the others
+    pub accepted-next : (y : Answer) → x ≡ Answer.Accepted → y ≡ givenAnswer (n + length ps) (lastOf m ps) qs → y ≡ givenAnswer n m (ps ++ qs)
+    accepted-next y g h = rw (given-append n m ps qs, sym e ∙ g) h
+
+-- ---------------------------------------------------------------------------
+-- What the writer answers
+
+module _ (cents : ℕ) (fields : List (List ℕ)) (out : List ℕ) where
+  -- an amount of more than fifteen digits
+  pub amount-refused : 1000000000000000 ≤ cents → WritesSlip cents fields out (Written.Refused (Length (record { line = 0; field = 3; byte = 0 }))) out
+  unfolding writeAnswer
+  amount-refused h = (rw (le-ltb cents 1000000000000000 h), refl)
+
+  module _ {x : Answer} (h : cents < 1000000000000000) (e : x ≡ givenAnswer 4 [] fields) where
+    -- a field refused
+    pub field-refused : (r : Refusal) → x ≡ Answer.Refused r → WritesSlip cents fields out (Written.Refused r) out
+    unfolding writeAnswer
+    field-refused r g = (rw (lt-ltb cents 1000000000000000 h, sym e ∙ g), refl)
+
+    -- all fields accepted
+    pub fields-accepted : (r : Written) (after : List ℕ) → x ≡ Answer.Accepted → WritesAccepted cents fields out r after → WritesSlip cents fields out r after
+    unfolding writeAnswer
+    fields-accepted r after g w = (rw (lt-ltb cents 1000000000000000 h, sym e ∙ g) (w .0), w .1)

@@ -1,0 +1,6 @@
+-- What the proofs here share, and what is proved of every slip that is written.
+pub mod Laws
+pub mod Sizes
+pub mod Lines
+pub mod Digits
+pub mod Theorems

@@ -1,0 +1,50 @@
+-- The size of a slip of accepted fields: at most 483 bytes. Assumes nothing.
+use mathlib.Core.Path.{_≡_, refl, sym, _∙_}
+use mathlib.Core.List.{List, [], _∷_}
+use Prim.Native.Nat.{ℕ, zero, suc, _+_, _≤_}
+use native.Mathlib.Omega.{arith}
+use lib.ListN.{length}
+use Rattle.refusal.specs.declared.Answer.{Answer}
+use Rattle.refusal.specs.declared.Answer.the-variants.{Accepted, Refused}
+use Rattle.slip_fields.specs.Fields.{fieldAnswer}
+use Rattle.slip_fields.specs.Sizes.{sizeOf}
+use Rattle.slip_fields.proofs.Theorems.{field-size}
+use Rattle.slip.specs.Slip.{judged}
+use Rattle.slip_writer.specs.Writer.{joinLines, slipText, givenAnswer}
+use Rattle.slip_writer.specs.Steps.{eleven}
+use Rattle.slip_writer.proofs.Laws.{lines-length, slip-length}
+
+-- what is accepted stands before an acceptance
+pub judged-accepted : (n start : ℕ) (a x : Answer) → judged n start a x ≡ Accepted → (a ≡ Accepted) × (x ≡ Accepted)
+judged-accepted n start Accepted x e = (refl, e)
+judged-accepted n start (Refused r) x e = let z : _≡_ {A = ℕ} 0 1 = cc in absurd (omega arith)
+
+-- of accepted fields the first is accepted, and so are those after it
+pub given-first :
+    (n : ℕ) (m p : List ℕ) (ps : List (List ℕ)) → givenAnswer n m (p ∷ ps) ≡ Accepted → (fieldAnswer n m p ≡ Accepted) × (givenAnswer (n + 1) p ps ≡ Accepted)
+unfolding givenAnswer
+given-first n m p ps e = judged-accepted n 0 (fieldAnswer n m p) (givenAnswer (n + 1) p ps) e
+
+-- the most bytes of k fields from field n on, with their line feeds
+abbrev pub sizes : ℕ → ℕ → ℕ
+sizes n zero = 0
+sizes n (suc k) = sizeOf n + 1 + sizes (n + 1) k
+
+-- accepted fields have no more
+pub given-size : (n : ℕ) (m : List ℕ) (ps : List (List ℕ)) → givenAnswer n m ps ≡ Accepted → length (joinLines ps) ≤ sizes n (length ps)
+given-size n m [] e = unfold joinLines in omega arith
+given-size n m (p ∷ ps) e =
+    let h = given-first n m p ps e in
+    omega (arith, lines-length p ps, field-size n m p (h .0), given-size (n + 1) p ps (h .1))
+
+-- the fields 4 to 14
+pub sizes-eleven : sizes 4 11 ≡ 454
+unfolding sizeOf
+sizes-eleven = refl
+
+-- the slip of accepted fields
+pub accepted-small :
+    (cents : ℕ) (a b c d e f g h i j k : List ℕ) {x : Answer} → x ≡ givenAnswer 4 [] (eleven a b c d e f g h i j k) → x ≡ Accepted
+    → length (slipText cents (eleven a b c d e f g h i j k)) ≤ 483
+accepted-small cents a b c d e f g h i j k v w =
+    omega (arith, slip-length cents (eleven a b c d e f g h i j k), given-size 4 [] (eleven a b c d e f g h i j k) (sym v ∙ w), sizes-eleven)

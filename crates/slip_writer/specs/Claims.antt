@@ -1,0 +1,48 @@
+-- What is claimed of slips written and read (proofs/Theorems.antt): lines, a slip's amount and fields, and what is read back.
+use Prim.Native.Nat.{ℕ, _-_, _^_, _≤_, _<_}
+use mathlib.Core.Path.{_≡_}
+use mathlib.Core.Bool.{true}
+use mathlib.Core.List.{List, [], _∷_}
+use lib.ListN.{length, getD}
+use Rattle.refusal.specs.declared.Answer.the-variants.{Accepted}
+use Rattle.text.specs.Bytes.{allOf}
+use Rattle.text.specs.declared.Class.the-variants.{Line}
+use Rattle.text.specs.Digits.{digitsOf, valueOf}
+use Rattle.text.specs.Split.{split}
+use Rattle.slip.specs.Slip.{slipAnswer, pieceOf, fieldOf}
+use Rattle.slip_writer.specs.Writer.{digitsText, slipText, givenAnswer}
+use Rattle.slip_writer.specs.Steps.{eleven}
+
+-- no line feed stands in any of the texts
+pub data EachLine : List (List ℕ) → Type 0 where
+  none : EachLine []
+  more : {p : List ℕ} {ps : List (List ℕ)} → allOf Line p ≡ true → EachLine ps → EachLine (p ∷ ps)
+
+-- all pieces but the last: the lines of a text
+abbrev pub linesOf : List (List ℕ) → List (List ℕ)
+linesOf [] = []
+linesOf (p ∷ []) = []
+linesOf (p ∷ (q ∷ ps)) = p ∷ linesOf (q ∷ ps)
+
+-- the amount of a slip, in cents
+abbrev pub centsOf : List ℕ → ℕ
+centsOf s = valueOf (digitsOf (pieceOf 2 (split 10 s)))
+
+-- the fields 4 to 14 of a slip
+abbrev pub fieldsOf : List ℕ → List (List ℕ)
+fieldsOf s =
+    eleven (fieldOf s 4) (fieldOf s 5) (fieldOf s 6) (fieldOf s 7) (fieldOf s 8) (fieldOf s 9) (fieldOf s 10) (fieldOf s 11) (fieldOf s 12) (fieldOf s 13) (fieldOf s 14)
+
+-- a slip of n bytes was written: the reader accepts it, and it has the amount and the fields that were given
+pub record ReadsBack (cents : ℕ) (fields : List (List ℕ)) (n : ℕ) : Type 0 where
+  pub accepted : slipAnswer (slipText cents fields) ≡ Accepted
+  pub size : n ≡ length (slipText cents fields)
+  pub digits : pieceOf 2 (split 10 (slipText cents fields)) ≡ digitsText 15 cents
+  pub amount : centsOf (slipText cents fields) ≡ cents
+  pub texts : (k : ℕ) → 4 ≤ k → k ≤ 14 → fieldOf (slipText cents fields) k ≡ getD fields (k - 4) []
+
+-- the amount and the fields of a slip make up the slip, and the writer refuses none of them
+pub record WritesBack (s : List ℕ) : Type 0 where
+  pub same : slipText (centsOf s) (fieldsOf s) ≡ s
+  pub small : centsOf s < 10 ^ 15
+  pub given : givenAnswer 4 [] (fieldsOf s) ≡ Accepted

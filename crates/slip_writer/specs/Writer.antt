@@ -1,0 +1,59 @@
+-- Document 01, "The slip's fourteen fields": what the writer of slips answers, and what it leaves in the lent room.
+use Prim.Native.Nat.{ℕ, zero, suc, _+_, _/_, _%_, _^_}
+use mathlib.Core.Bool.{cond}
+use mathlib.Core.List.{List, [], _∷_, _++_}
+use lib.Dec.{ltb}
+use lib.ListN.{length, drop}
+use Rattle.refusal.specs.Refusal.{none}
+use Rattle.refusal.specs.declared.Answer.{Answer}
+use Rattle.refusal.specs.declared.Answer.the-variants as answer
+use Rattle.refusal.specs.declared.Refusal.the-variants.{Length, Room}
+use Rattle.slip_fields.specs.Fields.{hrvhub30, eur, fieldAnswer}
+use Rattle.slip.specs.Slip.{judged}
+use Rattle.slip_writer.specs.declared.Written.{Written}
+use Rattle.slip_writer.specs.declared.Written.the-variants.{Bytes, Refused}
+
+-- ---------------------------------------------------------------------------
+-- The slip's bytes
+
+-- the last n digits of a number, with zeros in front; `0` is 48
+unfoldable pub digitsText : ℕ → ℕ → List ℕ
+digitsText zero a = []
+digitsText (suc n) a = (48 + (a / 10 ^ n) % 10) ∷ digitsText n a
+
+-- each text with a line feed after it
+unfoldable pub joinLines : List (List ℕ) → List ℕ
+joinLines [] = []
+joinLines (p ∷ ps) = p ++ (10 ∷ joinLines ps)
+
+-- the slip of an amount in cents and the fields 4 to 14
+unfoldable pub slipText : ℕ → List (List ℕ) → List ℕ
+slipText cents fields = joinLines (hrvhub30 ∷ (eur ∷ (digitsText 15 cents ∷ fields)))
+
+-- ---------------------------------------------------------------------------
+-- Answers
+
+-- "It refuses as the reader does, in field order, the byte of a 3 counted within its field and 0 otherwise": from field n on, after m
+unfoldable pub givenAnswer : ℕ → List ℕ → List (List ℕ) → Answer
+givenAnswer n m [] = answer.Accepted
+givenAnswer n m (p ∷ ps) = judged n 0 (fieldAnswer n m p) (givenAnswer (n + 1) p ps)
+
+-- "then 15 exactly when the room is too small"
+abbrev pub roomAnswer : List ℕ → ℕ → Written
+roomAnswer s room = cond (ltb room (length s)) (Refused (Room none (length s))) (Bytes (length s))
+
+abbrev pub afterFields : Answer → List ℕ → ℕ → Written
+afterFields answer.Accepted s room = roomAnswer s room
+afterFields (answer.Refused r) s room = Refused r
+
+-- "the amount in cents (10^15 or more is 4)"
+unfoldable pub writeAnswer : ℕ → List (List ℕ) → ℕ → Written
+writeAnswer cents fields room =
+    cond (ltb cents (10 ^ 15))
+    (afterFields (givenAnswer 4 [] fields) (slipText cents fields) room)
+    (Refused (Length (record { line = 0; field = 3; byte = 0 })))
+
+-- "It writes at the front and changes nothing after the slip"; no refusal changes lent memory
+abbrev pub leftBy : Written → List ℕ → List ℕ → List ℕ
+leftBy (Bytes n) s out = s ++ drop (length s) out
+leftBy (Refused r) s out = out
