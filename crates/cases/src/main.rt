@@ -12,12 +12,12 @@ use check::same;
 use check_digits::Made;
 use check_digits::Rule;
 use fillings::Listed;
-use slip_writer::Written;
-use text::Class;
-use text::Found;
 use libc::STDOUT_FILENO;
 use refusal::Answer;
 use refusal::Refusal;
+use slip_writer::Written;
+use text::Class;
+use text::Found;
 
 fn main() {
     let mut input = [0u8; 262144];

@@ -18,12 +18,11 @@ use Rattle.refusal.specs.declared.Refusal.{Refusal}
 use Rattle.refusal.specs.declared.Refusal.the-variants.{Size, Ends}
 use Rattle.text.specs.Bytes.{permits, later, firstBad}
 use Rattle.text.specs.declared.Class.{Class}
-use Rattle.text.specs.declared.Class.the-variants.{Line}
+use Rattle.text.specs.declared.Class.the-variants.{Digits, Account, Reference, Line, Letters}
 use Rattle.text.specs.declared.Found.{Found}
 use Rattle.text.specs.declared.Found.the-variants.{At, Nothing}
 use Rattle.text.specs.Split.{longer, split}
 use Rattle.text.proofs.Laws.{left, entered, and-first, and-second}
-use Rattle.text.specs.declared.Class.the-variants.{Digits, Letters, Account, Reference}
 use Rattle.characters.specs.Characters.{isSingle, isPair, firstWrong, characters}
 use Rattle.characters.specs.Answers.{textFrom}
 use Rattle.account.specs.Account.{ibanFormed, ibanPasses}
@@ -44,6 +43,7 @@ module _ (c : ℕ) where
   Divided s (At i) = (i < length s) × (split c s ≡ take i s ∷ split c (drop (i + 1) s))
   Divided s Nothing = split c s ≡ s ∷ []
 
+  -- a byte more in front, other than c
   divided-later : (b : ℕ) (s : List ℕ) (f : Found) → eqb b c ≡ false → Divided s f → Divided (b ∷ s) (later f)
   unfolding split
   divided-later b s (At i) e (h, g) = (omega arith, rw (e, g, add-one (suc i), add-one i))
@@ -79,10 +79,11 @@ module _ (c : ℕ) where
       go true w e = ap suc e
       go false w e = rw (w .2) (rw (w .2) at e)
 
--- the pieces of a text by its first line feed
+-- a text with a line feed: the piece before the first, and the pieces of what follows it
 pub split-at : (s : List ℕ) (i : ℕ) → firstBad Line s ≡ At i → (i < length s) × (split 10 s ≡ take i s ∷ split 10 (drop (i + 1) s))
 split-at s i e = rw e at (divided 10 Line (λ b. refl) s)
 
+-- a text with none: one piece
 pub split-whole : (s : List ℕ) → firstBad Line s ≡ Nothing → split 10 s ≡ s ∷ []
 split-whole s e = rw e at (divided 10 Line (λ b. refl) s)
 
@@ -90,14 +91,17 @@ split-whole s e = rw e at (divided 10 Line (λ b. refl) s)
 -- Line feeds, from place i on
 
 module _ (s : List ℕ) (i n : ℕ) (h : i < length s) where
+  -- one more where one stands
   pub ends-more : getD s i 0 ≡ 10 → n + countOf 10 (drop i s) ≡ n + 1 + countOf 10 (drop (i + 1) s)
   unfolding countOf
   ends-more e = rw (drop-cons s i 0 h, add-one i, e) (omega arith)
 
+  -- none more where another byte stands
   pub ends-same : (getD s i 0 ≡ 10 → ⊥) → n + countOf 10 (drop i s) ≡ n + countOf 10 (drop (i + 1) s)
   unfolding countOf
   ends-same e = rw (drop-cons s i 0 h, add-one i, ne-eqb (getD s i 0) 10 e)
 
+-- none left at the end
 pub ends-end : (s : List ℕ) (i n : ℕ) → length s ≤ i → i ≤ length s → n ≡ n + countOf 10 (drop i s)
 unfolding countOf
 ends-end s i n h g = let e : i ≡ length s = omega arith in rw (e, drop-length) (sym (add-zero n))
@@ -108,14 +112,17 @@ unfolding countOf
 no-byte-no-end [] h e = omega arith
 no-byte-no-end (b ∷ s) h e = omega arith
 
--- the tests in their order: fourteen, and one last
+-- the tests in their order, with n line feeds
 module _ (s : List ℕ) (n : ℕ) (e : n ≡ countOf 10 s) where
+  -- another number than fourteen
   pub other-number : (n ≡ 14 → ⊥) → false ≡ slipEnds s
   other-number h = and-first (eqb (countOf 10 s) 14) _ (ne-eqb (countOf 10 s) 14 (λ g. h (e ∙ g)))
 
+  -- fourteen in no byte: there is no such text
   pub none-last : n ≡ 14 → length s ≡ 0 → false ≡ slipEnds s
   none-last h z = absurd (no-byte-no-end s z (sym e ∙ h))
 
+  -- fourteen: what the last byte is decides
   pub one-last : n ≡ 14 → eqb (getD s (length s - 1) 0) 10 ≡ slipEnds s
   one-last h = and-second (eqb (countOf 10 s) 14) _ _ (eq-eqb (countOf 10 s) 14 (sym e ∙ h)) refl
 
@@ -141,8 +148,9 @@ module _ (s : List ℕ) (at : ℕ) where
 pub piece-on : (p : List ℕ) (ps qs : List (List ℕ)) (k : ℕ) → 0 < k → qs ≡ p ∷ ps → pieceOf k qs ≡ pieceOf (k - 1) ps
 unfolding pieceOf
 piece-on p ps qs zero h e = absurd (omega arith)
-piece-on p ps qs (suc k) h e = rw e (ap (λ (j : ℕ). getD ps j []) (omega arith))
+piece-on p ps qs (suc k) h e = rw e (ap (λ (j : ℕ). pieceOf j ps) (omega arith))
 
+-- past the last piece there is nothing
 pub piece-past : (p : List ℕ) (qs : List (List ℕ)) (k : ℕ) → 0 < k → qs ≡ p ∷ [] → [] ≡ pieceOf k qs
 unfolding pieceOf
 piece-past p qs zero h e = absurd (omega arith)
@@ -167,10 +175,12 @@ abbrev Below : ℕ → Found → Type 0
 Below n (At i) = i < n
 Below n Nothing = Unit
 
+-- one place further on, in a text of a byte more
 below-later : (n : ℕ) (f : Found) → Below n f → Below (suc n) (later f)
 below-later n (At i) h = omega arith
 below-later n Nothing h = tt
 
+-- what the scan for a class finds
 bad-below : (k : Class) (s : List ℕ) → Below (length s) (firstBad k s)
 unfolding firstBad
 bad-below k [] = tt
@@ -180,6 +190,7 @@ bad-below k (b ∷ s) = go (permits k b) (bad-below k s)
     go true h = below-later (length s) (firstBad k s) h
     go false h = omega arith
 
+-- what the scan for characters finds
 wrong-below : (s : List ℕ) → Below (length s) (firstWrong s)
 unfolding firstWrong
 wrong-below [] = tt
@@ -201,6 +212,7 @@ abbrev Within : ℕ → Answer → Type 0
 Within n Accepted = Unit
 Within n (Refused r) = placeOf r .byte ≤ n
 
+-- a choice of two answers
 within-one : (n : ℕ) (b : Bool) (x y : Answer) → Within n x → Within n y → Within n (cond b x y)
 within-one n true x y f g = f
 within-one n false x y f g = g
@@ -212,28 +224,35 @@ found-within n g a z Nothing h = z
 
 -- each kind of field refuses at a byte that a scan found, or at 0
 module _ (s : List ℕ) where
+  -- a refusal that tells no byte
   nowhere-within : 0 ≤ length s
   nowhere-within = omega arith
 
+  -- field 3
   amount-within : Within (length s) (amountFrom s (firstBad Digits s))
   amount-within = found-within (length s) (amountFrom s) (λ i h. omega arith) (within-one (length s) (eqb (length s) 15) _ _ tt nowhere-within) (firstBad Digits s) (bad-below Digits s)
 
+  -- field 13
   purpose-within : Within (length s) (purposeFrom s (firstBad Letters s))
   purpose-within = found-within (length s) (purposeFrom s) (λ i h. omega arith) (within-one (length s) (eqb (length s) 0 || eqb (length s) 4) _ _ tt nowhere-within) (firstBad Letters s) (bad-below Letters s)
 
+  -- fields 4 to 9 and 14
   text-within : (most : ℕ) → Within (length s) (textFrom most s (firstWrong s))
   text-within most = found-within (length s) (textFrom most s) (λ i h. omega arith) (within-one (length s) (leb (characters s) most) _ _ tt nowhere-within) (firstWrong s) (wrong-below s)
 
+  -- field 10
   iban-within : Within (length s) (ibanFrom s (firstBad Account s))
   iban-within =
       found-within (length s) (ibanFrom s) (λ i h. omega arith)
       (within-one (length s) (eqb (length s) 21) _ _ (within-one (length s) (ibanFormed s) _ _ (within-one (length s) (ibanPasses s) _ _ tt nowhere-within) nowhere-within) nowhere-within)
       (firstBad Account s) (bad-below Account s)
 
+  -- field 11
   model-within : (f : Found) → Within (length s) (modelFrom f)
   model-within (At i) = within-one (length s) (modelOf i .handled) _ _ tt nowhere-within
   model-within Nothing = nowhere-within
 
+  -- field 12, its parts and check groups
   obey-within : (model : Model) → Within (length s) (obeyAnswer model s)
   unfolding obeyAnswer
   obey-within model =
@@ -241,6 +260,7 @@ module _ (s : List ℕ) where
       (within-one (length s) (groupsRight (model .groups) (partsOf s)) _ _ tt nowhere-within)
       nowhere-within
 
+  -- field 12
   reference-within : (f : Found) → Within (length s) (numberAnswer s f)
   reference-within Nothing = nowhere-within
   reference-within (At i) =
@@ -260,12 +280,16 @@ module _ (s : List ℕ) where
       (within-one (length s) (eqb n 12) _ _ (reference-within (modelNumber m))
       (within-one (length s) (eqb n 13) _ _ purpose-within (text-within (mostOf n))))))))
 
--- the byte of a field's refusal lies within the field, or is its end
+-- the byte of a field's refusal is at most the field's length
 pub byte-within : (n : ℕ) (m s : List ℕ) (r : Refusal) → fieldAnswer n m s ≡ Refused r → placeOf r .byte ≤ length s
 byte-within n m s r e = rw e at (field-within s n m)
 
 -- ---------------------------------------------------------------------------
 -- Fields, from place `at` on
+
+-- what the code lends as `&s[from..to]`
+abbrev pub part : ℕ → ℕ → List ℕ → List ℕ
+part from to s = take (to - from) (drop from s)
 
 -- the fields before `n` are accepted: the answer is that of the pieces from `at` on, after the field from `before` to `end`
 pub record Reached (s : List ℕ) (n before end at : ℕ) : Type 0 where
@@ -273,44 +297,48 @@ pub record Reached (s : List ℕ) (n before end at : ℕ) : Type 0 where
   pub fewer : n ≤ at + 1
   pub ordered : before ≤ end
   pub passed : end ≤ length s
-  pub whole : fieldsAnswer 1 0 [] (split 10 s) ≡ fieldsAnswer n at (take (end - before) (drop before s)) (split 10 (drop at s))
+  pub whole : fieldsAnswer 1 0 [] (split 10 s) ≡ fieldsAnswer n at (part before end s) (split 10 (drop at s))
 
 -- a piece and what follows it
 fields-step : (n start : ℕ) (m p t : List ℕ) → fieldsAnswer n start m (p ∷ split 10 t) ≡ judged n start (fieldAnswer n m p) (fieldsAnswer (n + 1) (start + length p + 1) p (split 10 t))
 unfolding fieldsAnswer
 fields-step n start m p t = rw (first-piece 10 t .2)
 
--- what follows an accepted field answers, and what follows a refused one does not
+-- what follows an accepted field is the answer
 pub judged-on : (n start : ℕ) (a rest : Answer) → judged n start a Accepted ≡ Accepted → judged n start a rest ≡ rest
 judged-on n start Accepted rest e = refl
 judged-on n start (Refused r) rest e = let z : _≡_ {A = ℕ} 0 1 = cc in absurd (omega arith)
 
+-- a refused field is the answer
 pub judged-there : (n start : ℕ) (a rest : Answer) (q : Refusal) → judged n start a Accepted ≡ Refused q → judged n start a rest ≡ Refused q
 judged-there n start Accepted rest q e = let z : _≡_ {A = ℕ} 0 1 = cc in absurd (omega arith)
 judged-there n start (Refused r) rest q e = e
 
+-- the first field
 pub reached-first : (s : List ℕ) → Reached s 1 0 0 0
 reached-first s = record { within = omega arith; fewer = omega arith; ordered = omega arith; passed = omega arith; whole = refl }
 
 module _ (s : List ℕ) (n before end at : ℕ) (w : Reached s n before end at) where
   module _ (i : ℕ) (e : firstBad Line (take (length s - at) (drop at s)) ≡ At i) where
-    -- it ends within the text
+    -- the field that a scan found ends within the text
     pub reached-ends : at + i < length s
     reached-ends = next-piece s at i (w .within) e .0
 
-    reached-length : length (take (at + i - at) (drop at s)) ≡ i
+    -- it has as many bytes as the scan passed
+    reached-length : length (part at (at + i) s) ≡ i
     reached-length = let z : at + i - at ≡ i = omega arith in rw z (length-take-le i (drop at s) (omega (arith, reached-ends, length-drop at s)))
 
-    reached-field : fieldsAnswer 1 0 [] (split 10 s) ≡ judged n at (fieldAnswer n (take (end - before) (drop before s)) (take (at + i - at) (drop at s))) (fieldsAnswer (n + 1) (at + i + 1) (take (at + i - at) (drop at s)) (split 10 (drop (at + i + 1) s)))
+    -- the answer is its answer and that of what follows
+    reached-field : fieldsAnswer 1 0 [] (split 10 s) ≡ judged n at (fieldAnswer n (part before end s) (part at (at + i) s)) (fieldsAnswer (n + 1) (at + i + 1) (part at (at + i) s) (split 10 (drop (at + i + 1) s)))
     reached-field =
         let z : at + i - at ≡ i = omega arith in
         let y : at + (i + 1) ≡ at + i + 1 = omega arith in
-        let m = take (end - before) (drop before s) in
-        let p = take (at + i - at) (drop at s) in
+        let m = part before end s in
+        let p = part at (at + i) s in
         let d : split 10 (drop at s) ≡ p ∷ split 10 (drop (at + i + 1) s) = next-piece s at i (w .within) e .1 ∙ rw (z, y) in
         w .whole ∙ (ap (fieldsAnswer n at m) d ∙ (fields-step n at m p (drop (at + i + 1) s) ∙ rw reached-length))
 
-    module _ (r : Answer) (j : r ≡ judged n at (fieldAnswer n (take (end - before) (drop before s)) (take (at + i - at) (drop at s))) Accepted) where
+    module _ (r : Answer) (j : r ≡ judged n at (fieldAnswer n (part before end s) (part at (at + i) s)) Accepted) where
       -- accepted: on to the next field
       pub reached-next : r ≡ Accepted → Reached s (n + 1) at (at + i) (at + i + 1)
       reached-next a =
@@ -319,12 +347,12 @@ module _ (s : List ℕ) (n before end at : ℕ) (w : Reached s n before end at) 
             fewer = omega (arith, w .fewer);
             ordered = omega arith;
             passed = omega (arith, reached-ends);
-            whole = reached-field ∙ judged-on n at (fieldAnswer n (take (end - before) (drop before s)) (take (at + i - at) (drop at s))) (fieldsAnswer (n + 1) (at + i + 1) (take (at + i - at) (drop at s)) (split 10 (drop (at + i + 1) s))) (sym j ∙ a);
+            whole = reached-field ∙ judged-on n at (fieldAnswer n (part before end s) (part at (at + i) s)) (fieldsAnswer (n + 1) (at + i + 1) (part at (at + i) s) (split 10 (drop (at + i + 1) s))) (sym j ∙ a);
           }
 
       -- refused: that is the answer
       pub reached-refusal : (q : Refusal) → r ≡ Refused q → Refused q ≡ fieldsAnswer 1 0 [] (split 10 s)
-      reached-refusal q a = sym (reached-field ∙ judged-there n at (fieldAnswer n (take (end - before) (drop before s)) (take (at + i - at) (drop at s))) (fieldsAnswer (n + 1) (at + i + 1) (take (at + i - at) (drop at s)) (split 10 (drop (at + i + 1) s))) q (sym j ∙ a))
+      reached-refusal q a = sym (reached-field ∙ judged-there n at (fieldAnswer n (part before end s) (part at (at + i) s)) (fieldsAnswer (n + 1) (at + i + 1) (part at (at + i) s) (split 10 (drop (at + i + 1) s))) q (sym j ∙ a))
 
   -- no further line feed: every field was accepted
   pub reached-last : firstBad Line (take (length s - at) (drop at s)) ≡ Nothing → Accepted ≡ fieldsAnswer 1 0 [] (split 10 s)
@@ -334,26 +362,29 @@ module _ (s : List ℕ) (n before end at : ℕ) (w : Reached s n before end at) 
 -- ---------------------------------------------------------------------------
 -- The slip, and a field of it
 
--- 1, then 2, then the fields
 module _ (s : List ℕ) where
+  -- 1
   pub too-long : 483 < length s → Refused (Size none) ≡ slipAnswer s
   unfolding slipAnswer
   too-long h = left (leb (length s) 483) _ _ _ (lt-leb (length s) 483 h) refl
 
+  -- then 2
   pub ends-wrong : length s ≤ 483 → slipEnds s ≡ false → Refused (Ends none) ≡ slipAnswer s
   unfolding slipAnswer
   ends-wrong h e = entered (leb (length s) 483) _ _ _ (le-leb (length s) 483 h) (left (slipEnds s) _ _ _ e refl)
 
+  -- then the fields
   pub fields-judged : (r : Answer) → length s ≤ 483 → slipEnds s ≡ true → r ≡ fieldsAnswer 1 0 [] (split 10 s) → r ≡ slipAnswer s
   unfolding slipAnswer
   fields-judged r h e f = entered (leb (length s) 483) _ _ _ (le-leb (length s) 483 h) (entered (slipEnds s) _ _ _ e f)
 
--- fields 4 to 14 of an accepted slip, and nothing else
 module _ (s : List ℕ) (n : ℕ) where
+  -- fields 1 to 3 are not handed out
   pub field-below : n < 4 → [] ≡ fieldOf s n
   unfolding fieldOf
   field-below h = left (leb 4 n && (leb n 14 && isAccepted (slipAnswer s))) _ _ _ (sym (and-first (leb 4 n) _ (lt-leb 4 n h))) refl
 
+  -- nor is an unknown one
   pub field-above : 4 ≤ n → 14 < n → [] ≡ fieldOf s n
   unfolding fieldOf
   field-above g h =
@@ -361,13 +392,16 @@ module _ (s : List ℕ) (n : ℕ) where
       (sym (and-second (leb 4 n) _ _ (le-leb 4 n g) (and-first (leb n 14) _ (lt-leb n 14 h)))) refl
 
   module _ (g : 4 ≤ n) (h : n ≤ 14) where
+    -- of the others, acceptance decides
     field-tested : (b : Bool) → isAccepted (slipAnswer s) ≡ b → (leb 4 n && (leb n 14 && isAccepted (slipAnswer s))) ≡ b
     field-tested b e = sym (and-second (leb 4 n) _ _ (le-leb 4 n g) (and-second (leb n 14) _ _ (le-leb n 14 h) (sym e)))
 
+    -- none of a refused slip
     pub field-refused : isAccepted (slipAnswer s) ≡ false → [] ≡ fieldOf s n
     unfolding fieldOf
     field-refused e = left (leb 4 n && (leb n 14 && isAccepted (slipAnswer s))) _ _ _ (field-tested false e) refl
 
+    -- and the piece of an accepted one
     pub field-handed : (r : List ℕ) → isAccepted (slipAnswer s) ≡ true → r ≡ pieceOf (n - 1) (split 10 s) → r ≡ fieldOf s n
     unfolding fieldOf
     field-handed r e f = entered (leb 4 n && (leb n 14 && isAccepted (slipAnswer s))) _ _ _ (field-tested true e) f

@@ -19,7 +19,8 @@ use Rattle.refusal.specs.declared.Refusal.the-variants.{Size, Ends}
 use Rattle.text.specs.Split.{split}
 use Rattle.text.proofs.Laws.{both-true, and-second}
 use Rattle.slip_fields.specs.Fields.{fieldAnswer}
-use Rattle.slip.specs.Slip.{countOf, slipEnds, judged, fieldsAnswer, slipAnswer, pieceOf, fieldOf}
+use Rattle.slip.specs.declared.Amount.{Amount}
+use Rattle.slip.specs.Slip.{centsOf, countOf, slipEnds, judged, fieldsAnswer, slipAnswer, pieceOf, fieldOf}
 use Rattle.slip.proofs.Laws.{pieces-counted, fields-judged}
 
 -- ---------------------------------------------------------------------------
@@ -103,3 +104,6 @@ read-only s = defined-only (slipAnswer s)
 
 pub field-only : (s : List ℕ) (n : ℕ) → Only (λ (r : List ℕ). r ≡ fieldOf s n)
 field-only s n = defined-only (fieldOf s n)
+
+pub cents-only : (s : List ℕ) → Only (λ (r : Amount). r ≡ centsOf s)
+cents-only s = defined-only (centsOf s)

@@ -9,7 +9,11 @@ use Rattle.refusal.specs.declared.Answer.{Answer}
 use Rattle.refusal.specs.declared.Answer.the-variants.{Accepted, Refused}
 use Rattle.refusal.specs.declared.Refusal.{Refusal}
 use Rattle.refusal.specs.declared.Refusal.the-variants.{Size, Ends}
+use Rattle.text.specs.Digits.{digitsOf, valueOf}
 use Rattle.text.specs.Split.{split}
+use Rattle.slip.specs.declared.Amount.{Amount}
+use Rattle.slip.specs.declared.Amount.the-variants as amount
+use Rattle.slip.specs.declared.Amount.the-variants.{Cents}
 use Rattle.slip_fields.specs.Fields.{fieldAnswer}
 
 -- ---------------------------------------------------------------------------
@@ -64,3 +68,18 @@ pieceOf k ps = getD ps k []
 -- slip give an empty one
 unfoldable pub fieldOf : List ℕ → ℕ → List ℕ
 fieldOf s n = cond (leb 4 n && (leb n 14 && isAccepted (slipAnswer s))) (pieceOf (n - 1) (split 10 s)) []
+
+-- ---------------------------------------------------------------------------
+-- The amount of a slip
+
+-- the number that its field 3 writes
+abbrev pub amountOf : List ℕ → ℕ
+amountOf s = valueOf (digitsOf (pieceOf 2 (split 10 s)))
+
+abbrev pub centsFrom : List ℕ → Answer → Amount
+centsFrom s Accepted = Cents (amountOf s)
+centsFrom s (Refused r) = amount.Refused r
+
+-- the amount of an accepted slip in cents; else its refusal
+abbrev pub centsOf : List ℕ → Amount
+centsOf s = centsFrom s (slipAnswer s)

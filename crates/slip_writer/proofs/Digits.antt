@@ -11,7 +11,7 @@ use Rattle.text.proofs.Laws.{both-true, digit-between, digit-bounds}
 use Rattle.text.specs.Bytes.{isDigit, allOf}
 use Rattle.text.specs.declared.Class.the-variants.{Digits}
 use Rattle.text.specs.Digits.{digitsOf, valueFrom, valueOf}
-use Rattle.slip_writer.specs.Writer.{digitsText}
+use Rattle.text.specs.Digits.{digitsText}
 
 -- the digits of a number are digits
 pub text-digits : (n a : ℕ) → allOf Digits (digitsText n a) ≡ true

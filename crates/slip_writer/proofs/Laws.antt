@@ -16,7 +16,8 @@ use Rattle.refusal.specs.Refusal.{none, placeOf, moved}
 use Rattle.slip_fields.specs.Fields.{hrvhub30, eur, fieldAnswer}
 use Rattle.slip.specs.Slip.{judged}
 use Rattle.slip_writer.specs.declared.Written.{Written}
-use Rattle.slip_writer.specs.Writer.{digitsText, joinLines, slipText, givenAnswer, roomAnswer, writeAnswer}
+use Rattle.text.specs.Digits.{digitsText}
+use Rattle.slip_writer.specs.Writer.{joinLines, slipText, givenAnswer, roomAnswer, writeAnswer}
 use Rattle.slip_writer.specs.Steps.{Stands, firstOf, three, WritesSlip, WritesAccepted}
 
 -- ---------------------------------------------------------------------------

@@ -23,9 +23,11 @@ use Rattle.slip_fields.proofs.Theorems.{no-line-feed, first-is-hrvhub30, second
 use Rattle.slip.specs.Slip.{countOf, slipEnds, fieldsAnswer, slipAnswer, pieceOf, fieldOf}
 use Rattle.slip_writer.specs.declared.Written.{Written}
 use Rattle.slip_writer.specs.declared.Written.the-variants.{Bytes}
-use Rattle.slip_writer.specs.Writer.{digitsText, joinLines, slipText, givenAnswer, afterFields, writeAnswer, leftBy}
+use Rattle.text.specs.Digits.{digitsText}
+use Rattle.slip_writer.specs.Writer.{joinLines, slipText, givenAnswer, afterFields, writeAnswer, leftBy}
 use Rattle.slip_writer.specs.Steps.{WritesSlip}
-use Rattle.slip_writer.specs.Claims.{EachLine, none as no-line, more, linesOf, centsOf, fieldsOf, ReadsBack, WritesBack}
+use Rattle.slip.specs.Slip.{amountOf}
+use Rattle.slip_writer.specs.Claims.{EachLine, none as no-line, more, linesOf, fieldsOf, ReadsBack, WritesBack}
 use Rattle.slip_writer.proofs.Laws.{digits-length, slip-length}
 use Rattle.slip_writer.proofs.Sizes.{judged-accepted, given-first, given-size, sizes, sizes-eleven}
 use Rattle.slip_writer.proofs.Lines.{split-joined, count-joined, last-joined, joined-split, lines-of-text, line-at}
@@ -252,11 +254,11 @@ read-and-written-again s e =
     lines-again s e (linesOf (split 10 s)) refl (lines-of-text s ∙ eqb-true (countOf 10 s) 14 (b .0)) (read-given 1 0 [] (split 10 s) (h .fields)) (joined-split s (eqb-true (getD s (length s - 1) 0) 10 (b .1)))
 
 -- so the writer writes that slip wherever it has the room
-pub accepted-is-written : (s : List ℕ) (room : ℕ) → slipAnswer s ≡ Accepted → length s ≤ room → writeAnswer (centsOf s) (fieldsOf s) room ≡ Bytes (length s)
+pub accepted-is-written : (s : List ℕ) (room : ℕ) → slipAnswer s ≡ Accepted → length s ≤ room → writeAnswer (amountOf s) (fieldsOf s) room ≡ Bytes (length s)
 unfolding writeAnswer
 accepted-is-written s room e h =
     let w = read-and-written-again s e in
-    rw (lt-ltb (centsOf s) (10 ^ 15) (w .small), w .given, w .same, le-ltb room (length s) h)
+    rw (lt-ltb (amountOf s) (10 ^ 15) (w .small), w .given, w .same, le-ltb room (length s) h)
 
 -- ---------------------------------------------------------------------------
 -- "one possible answer and one content of the lent slices"

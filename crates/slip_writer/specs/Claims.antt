@@ -9,8 +9,9 @@ use Rattle.text.specs.Bytes.{allOf}
 use Rattle.text.specs.declared.Class.the-variants.{Line}
 use Rattle.text.specs.Digits.{digitsOf, valueOf}
 use Rattle.text.specs.Split.{split}
-use Rattle.slip.specs.Slip.{slipAnswer, pieceOf, fieldOf}
-use Rattle.slip_writer.specs.Writer.{digitsText, slipText, givenAnswer}
+use Rattle.slip.specs.Slip.{amountOf, slipAnswer, pieceOf, fieldOf}
+use Rattle.text.specs.Digits.{digitsText}
+use Rattle.slip_writer.specs.Writer.{slipText, givenAnswer}
 use Rattle.slip_writer.specs.Steps.{eleven}
 
 -- no line feed stands in any of the texts
@@ -24,10 +25,6 @@ linesOf [] = []
 linesOf (p ∷ []) = []
 linesOf (p ∷ (q ∷ ps)) = p ∷ linesOf (q ∷ ps)
 
--- the amount of a slip, in cents
-abbrev pub centsOf : List ℕ → ℕ
-centsOf s = valueOf (digitsOf (pieceOf 2 (split 10 s)))
-
 -- the fields 4 to 14 of a slip
 abbrev pub fieldsOf : List ℕ → List (List ℕ)
 fieldsOf s =
@@ -38,11 +35,11 @@ pub record ReadsBack (cents : ℕ) (fields : List (List ℕ)) (n : ℕ) : Type 0
   pub accepted : slipAnswer (slipText cents fields) ≡ Accepted
   pub size : n ≡ length (slipText cents fields)
   pub digits : pieceOf 2 (split 10 (slipText cents fields)) ≡ digitsText 15 cents
-  pub amount : centsOf (slipText cents fields) ≡ cents
+  pub amount : amountOf (slipText cents fields) ≡ cents
   pub texts : (k : ℕ) → 4 ≤ k → k ≤ 14 → fieldOf (slipText cents fields) k ≡ getD fields (k - 4) []
 
 -- the amount and the fields of a slip make up the slip, and the writer refuses none of them
 pub record WritesBack (s : List ℕ) : Type 0 where
-  pub same : slipText (centsOf s) (fieldsOf s) ≡ s
-  pub small : centsOf s < 10 ^ 15
+  pub same : slipText (amountOf s) (fieldsOf s) ≡ s
+  pub small : amountOf s < 10 ^ 15
   pub given : givenAnswer 4 [] (fieldsOf s) ≡ Accepted

@@ -8,6 +8,7 @@ use Rattle.refusal.specs.Refusal.{none}
 use Rattle.refusal.specs.declared.Answer.{Answer}
 use Rattle.refusal.specs.declared.Answer.the-variants as answer
 use Rattle.refusal.specs.declared.Refusal.the-variants.{Length, Room}
+use Rattle.text.specs.Digits.{digitsText}
 use Rattle.slip_fields.specs.Fields.{hrvhub30, eur, fieldAnswer}
 use Rattle.slip.specs.Slip.{judged}
 use Rattle.slip_writer.specs.declared.Written.{Written}
@@ -15,11 +16,6 @@ use Rattle.slip_writer.specs.declared.Written.the-variants.{Bytes, Refus
 
 -- ---------------------------------------------------------------------------
 -- The slip's bytes
-
--- the last n digits of a number, with zeros in front; `0` is 48
-unfoldable pub digitsText : ℕ → ℕ → List ℕ
-digitsText zero a = []
-digitsText (suc n) a = (48 + (a / 10 ^ n) % 10) ∷ digitsText n a
 
 -- each text with a line feed after it
 unfoldable pub joinLines : List (List ℕ) → List ℕ

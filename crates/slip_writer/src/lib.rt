@@ -6,7 +6,8 @@ ghost use mathlib.Core.List.{[], _∷_};
 ghost use Prim.Native.Nat.{_+_, _≤_};
 ghost use lib.ListN.{length};
 ghost use Rattle.slip_fields.specs.Fields.{hrvhub30, eur};
-ghost use Rattle.slip_writer.specs.Writer.{digitsText, joinLines, slipText, givenAnswer};
+ghost use Rattle.text.specs.Digits.{digitsText};
+ghost use Rattle.slip_writer.specs.Writer.{joinLines, slipText, givenAnswer};
 ghost use Rattle.slip_writer.specs.Steps.{Stands, three, four, eleven, WritesSlip, WritesAccepted};
 use refusal::Answer;
 use refusal::Place;
@@ -118,6 +119,7 @@ fn size_four(a: &[u8], b: &[u8], c: &[u8], d: &[u8]) -> usize
 {
     a.len() + 1 + size_three(b, c, d)
 }
+
 // ---------------------------------------------------------------------------
 // Fields judged
 

@@ -5,9 +5,6 @@ use native.Mathlib.Omega.{arith}
 use lib.ListN.{length, drop, length-take, length-drop}
 use Rattle.cases.proofs.after_bars.Statement.{statement}
 use Rattle.cases.proofs.after_bars.Tie as tie
-use Rattle.cases.proofs.after_bars.Reads as reads
-use Rattle.cases.proofs.after_bars.Lts as lts
-use Rattle.cases.proofs.find.Reads as find-reads
 
 abbrev Inv-loop : tie.InvT-loop
 Inv-loop s k at₀ left₀ at left = at ≤ length s + 1

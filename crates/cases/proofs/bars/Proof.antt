@@ -4,9 +4,6 @@ use native.Mathlib.Omega.{arith}
 use lib.ListN.{length}
 use Rattle.cases.proofs.bars.Statement.{statement}
 use Rattle.cases.proofs.bars.Tie as tie
-use Rattle.cases.proofs.bars.Reads as reads
-use Rattle.cases.proofs.bars.Lts as lts
-use Rattle.cases.proofs.counted.Reads as counted-reads
 
 abbrev Inv-loop : tie.InvT-loop
 Inv-loop s n₀ i₀ n i = i ≤ length s

@@ -5,9 +5,6 @@ use borrow.Author.Needs.{needs}
 use lib.ListN.{length}
 use Rattle.cases.proofs.cents_of.Statement.{statement}
 use Rattle.cases.proofs.cents_of.Tie as tie
-use Rattle.cases.proofs.cents_of.Reads as reads
-use Rattle.cases.proofs.cents_of.Lts as lts
-use Rattle.cases.proofs.next_digit.Reads as next-digit-reads
 
 abbrev Inv-loop : tie.InvT-loop
 Inv-loop s n₀ i₀ n i = i ≤ length s

@@ -5,10 +5,6 @@ use native.Mathlib.Omega.{arith}
 use lib.ListN.{length}
 use Rattle.cases.proofs.say_barred.Statement.{statement}
 use Rattle.cases.proofs.say_barred.Tie as tie
-use Rattle.cases.proofs.say_barred.Reads as reads
-use Rattle.cases.proofs.say_barred.Lts as lts
-use Rattle.cases.proofs.say.Reads as say-reads
-use Rattle.cases.proofs.swapped.Reads as swapped-reads
 
 abbrev Inv-loop : tie.InvT-loop
 Inv-loop s i₀ i = i ≤ length s

@@ -5,9 +5,6 @@ use native.Mathlib.Omega.{arith}
 use lib.ListN.{length, length-set}
 use Rattle.cases.proofs.with_ends.Statement.{statement}
 use Rattle.cases.proofs.with_ends.Tie as tie
-use Rattle.cases.proofs.with_ends.Reads as reads
-use Rattle.cases.proofs.with_ends.Lts as lts
-use Rattle.cases.proofs.swapped.Reads as swapped-reads
 
 abbrev Inv-loop : tie.InvT-loop
 Inv-loop s out₀ i₀ out i = (i ≤ length s) × (length out ≡ length out₀)

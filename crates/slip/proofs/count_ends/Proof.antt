@@ -8,8 +8,6 @@ use Rattle.slip.specs.Slip.{countOf}
 use Rattle.slip.proofs.Laws.{ends-more, ends-same, ends-end}
 use Rattle.slip.proofs.count_ends.Statement.{statement}
 use Rattle.slip.proofs.count_ends.Tie as tie
-use Rattle.slip.proofs.count_ends.Reads as reads
-use Rattle.slip.proofs.count_ends.Lts as lts
 
 abbrev Inv-loop : tie.InvT-loop
 Inv-loop s n₀ i₀ n i = (i ≤ length s) × ((n ≤ i) × (countOf 10 s ≡ n + countOf 10 (drop i s)))

@@ -3,9 +3,6 @@ use Rattle.slip.proofs.Laws.{other-number, none-last, one-last}
 use borrow.Author.Needs.{needs}
 use Rattle.slip.proofs.ends_right.Statement.{statement}
 use Rattle.slip.proofs.ends_right.Tie as tie
-use Rattle.slip.proofs.ends_right.Reads as reads
-use Rattle.slip.proofs.ends_right.Lts as lts
-use Rattle.slip.proofs.count_ends.Reads as count-ends-reads
 
 count-ends-requires : tie.Need-count-ends-requires
 count-ends-requires c κs = search needs

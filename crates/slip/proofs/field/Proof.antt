@@ -5,10 +5,6 @@ use Rattle.slip.proofs.Laws.{field-below, field-above, field-handed, fi
 use borrow.Author.Needs.{needs}
 use Rattle.slip.proofs.field.Statement.{statement}
 use Rattle.slip.proofs.field.Tie as tie
-use Rattle.slip.proofs.field.Reads as reads
-use Rattle.slip.proofs.field.Lts as lts
-use Rattle.slip.proofs.is_accepted.Reads as is-accepted-reads
-use Rattle.slip.proofs.piece.Reads as piece-reads
 
 slice-aggregate-result : tie.Need-slice-aggregate-result
 slice-aggregate-result c = search needs

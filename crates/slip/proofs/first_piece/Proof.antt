@@ -6,9 +6,6 @@ use Rattle.slip.proofs.Laws.{split-at, split-whole, piece-here}
 use borrow.Author.Needs.{needs}
 use Rattle.slip.proofs.first_piece.Statement.{statement}
 use Rattle.slip.proofs.first_piece.Tie as tie
-use Rattle.slip.proofs.first_piece.Reads as reads
-use Rattle.slip.proofs.first_piece.Lts as lts
-use Rattle.text.proofs.first_bad.Reads as first-bad-reads
 
 first-bad-requires : tie.Need-first-bad-requires
 first-bad-requires c κs = search needs

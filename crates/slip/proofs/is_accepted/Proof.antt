@@ -3,9 +3,6 @@ use mathlib.Core.Path.{sym, _∙_}
 use borrow.Author.Needs.{needs}
 use Rattle.slip.proofs.is_accepted.Statement.{statement}
 use Rattle.slip.proofs.is_accepted.Tie as tie
-use Rattle.slip.proofs.is_accepted.Reads as reads
-use Rattle.slip.proofs.is_accepted.Lts as lts
-use Rattle.slip.proofs.read.Reads as read-reads
 
 read-requires : tie.Need-read-requires
 read-requires c κs = search needs

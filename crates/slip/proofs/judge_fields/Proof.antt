@@ -8,10 +8,6 @@ use lib.ListN.{length, drop, length-take, length-drop}
 use Rattle.slip.proofs.Laws.{Reached, reached-first, reached-ends, reached-next, reached-refusal, reached-last}
 use Rattle.slip.proofs.judge_fields.Statement.{statement}
 use Rattle.slip.proofs.judge_fields.Tie as tie
-use Rattle.slip.proofs.judge_fields.Reads as reads
-use Rattle.slip.proofs.judge_fields.Lts as lts
-use Rattle.slip.proofs.judge_one.Reads as judge-one-reads
-use Rattle.text.proofs.first_bad.Reads as first-bad-reads
 
 abbrev Inv-loop : tie.InvT-loop
 Inv-loop s n₀ before₀ end₀ at₀ n before end at = Reached s n before end at

@@ -5,10 +5,6 @@ use Rattle.slip.proofs.Laws.{byte-within}
 use borrow.Author.Needs.{needs}
 use Rattle.slip.proofs.judge_one.Statement.{statement}
 use Rattle.slip.proofs.judge_one.Tie as tie
-use Rattle.slip.proofs.judge_one.Reads as reads
-use Rattle.slip.proofs.judge_one.Lts as lts
-use Rattle.slip_fields.proofs.judge_field.Reads as judge-field-reads
-use Rattle.slip.proofs.placed.Reads as placed-reads
 
 judge-field-requires : tie.Need-judge-field-requires
 judge-field-requires c κs = search needs

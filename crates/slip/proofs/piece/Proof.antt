@@ -10,10 +10,6 @@ use Rattle.text.specs.Split.{split}
 use Rattle.slip.specs.Slip.{pieceOf}
 use Rattle.slip.proofs.piece.Statement.{statement}
 use Rattle.slip.proofs.piece.Tie as tie
-use Rattle.slip.proofs.piece.Reads as reads
-use Rattle.slip.proofs.piece.Lts as lts
-use Rattle.slip.proofs.first_piece.Reads as first-piece-reads
-use Rattle.text.proofs.first_bad.Reads as first-bad-reads
 
 abbrev Inv-loop : tie.InvT-loop
 Inv-loop s k left₀ at₀ left at = (at ≤ length s) × (pieceOf k (split 10 s) ≡ pieceOf left (split 10 (drop at s)))

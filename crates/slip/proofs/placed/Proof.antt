@@ -5,10 +5,6 @@ use Rattle.refusal.specs.declared.Place.{Place}
 use borrow.Author.Needs.{needs}
 use Rattle.slip.proofs.placed.Statement.{statement}
 use Rattle.slip.proofs.placed.Tie as tie
-use Rattle.slip.proofs.placed.Reads as reads
-use Rattle.slip.proofs.placed.Lts as lts
-use Rattle.refusal.proofs.put.Reads as put-reads
-use Rattle.refusal.proofs.told.Reads as told-reads
 
 told-requires : tie.Need-told-requires
 told-requires c κs = search needs

@@ -5,11 +5,6 @@ use Rattle.slip.proofs.Laws.{too-long, ends-wrong, fields-judged}
 use borrow.Author.Needs.{needs}
 use Rattle.slip.proofs.read.Statement.{statement}
 use Rattle.slip.proofs.read.Tie as tie
-use Rattle.slip.proofs.read.Reads as reads
-use Rattle.slip.proofs.read.Lts as lts
-use Rattle.refusal.proofs.nowhere.Reads as nowhere-reads
-use Rattle.slip.proofs.ends_right.Reads as ends-right-reads
-use Rattle.slip.proofs.judge_fields.Reads as judge-fields-reads
 
 nowhere-requires : tie.Need-nowhere-requires
 nowhere-requires c κs = search needs

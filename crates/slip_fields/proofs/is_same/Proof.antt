@@ -7,8 +7,6 @@ use Rattle.slip_fields.specs.Fields.{same}
 use Rattle.slip_fields.proofs.Laws.{same-lengths, same-on, same-stops, same-ends}
 use Rattle.slip_fields.proofs.is_same.Statement.{statement}
 use Rattle.slip_fields.proofs.is_same.Tie as tie
-use Rattle.slip_fields.proofs.is_same.Reads as reads
-use Rattle.slip_fields.proofs.is_same.Lts as lts
 
 abbrev Inv-loop : tie.InvT-loop
 Inv-loop a b i₀ i = (i ≤ length a) × (same a b ≡ same (drop i a) (drop i b))

@@ -5,16 +5,6 @@ use Rattle.slip_fields.specs.Fields.{fieldAnswer}
 use borrow.Author.Needs.{needs}
 use Rattle.slip_fields.proofs.judge_field.Statement.{statement}
 use Rattle.slip_fields.proofs.judge_field.Tie as tie
-use Rattle.slip_fields.proofs.judge_field.Reads as reads
-use Rattle.slip_fields.proofs.judge_field.Lts as lts
-use Rattle.account.proofs.iban.Reads as iban-reads
-use Rattle.characters.proofs.judge.Reads as judge-reads
-use Rattle.reference.proofs.reference.Reads as reference-reads
-use Rattle.slip_fields.proofs.judge_amount.Reads as judge-amount-reads
-use Rattle.slip_fields.proofs.judge_model.Reads as judge-model-reads
-use Rattle.slip_fields.proofs.judge_purpose.Reads as judge-purpose-reads
-use Rattle.slip_fields.proofs.judge_word.Reads as judge-word-reads
-use Rattle.slip_fields.proofs.most_of.Reads as most-of-reads
 
 slice-aggregate-judge-word : tie.Need-slice-aggregate-judge-word
 slice-aggregate-judge-word c = search needs

@@ -6,11 +6,6 @@ use Rattle.text.proofs.Laws.{taken, left}
 use borrow.Author.Needs.{needs}
 use Rattle.slip_fields.proofs.judge_model.Statement.{statement}
 use Rattle.slip_fields.proofs.judge_model.Tie as tie
-use Rattle.slip_fields.proofs.judge_model.Reads as reads
-use Rattle.slip_fields.proofs.judge_model.Lts as lts
-use Rattle.models.proofs.number.Reads as number-reads
-use Rattle.models.proofs.rules.Reads as rules-reads
-use Rattle.refusal.proofs.nowhere.Reads as nowhere-reads
 
 number-requires : tie.Need-number-requires
 number-requires c κs = search needs

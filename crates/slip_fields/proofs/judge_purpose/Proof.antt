@@ -6,10 +6,6 @@ use Rattle.text.proofs.Laws.{taken, left, or-first, or-second}
 use borrow.Author.Needs.{needs}
 use Rattle.slip_fields.proofs.judge_purpose.Statement.{statement}
 use Rattle.slip_fields.proofs.judge_purpose.Tie as tie
-use Rattle.slip_fields.proofs.judge_purpose.Reads as reads
-use Rattle.slip_fields.proofs.judge_purpose.Lts as lts
-use Rattle.refusal.proofs.nowhere.Reads as nowhere-reads
-use Rattle.text.proofs.first_bad.Reads as first-bad-reads
 
 first-bad-requires : tie.Need-first-bad-requires
 first-bad-requires c κs = search needs

@@ -4,10 +4,6 @@ use Rattle.text.proofs.Laws.{taken, left}
 use borrow.Author.Needs.{needs}
 use Rattle.slip_fields.proofs.judge_word.Statement.{statement}
 use Rattle.slip_fields.proofs.judge_word.Tie as tie
-use Rattle.slip_fields.proofs.judge_word.Reads as reads
-use Rattle.slip_fields.proofs.judge_word.Lts as lts
-use Rattle.refusal.proofs.nowhere.Reads as nowhere-reads
-use Rattle.slip_fields.proofs.is_same.Reads as is-same-reads
 
 is-same-requires : tie.Need-is-same-requires
 is-same-requires c κs = search needs

@@ -2,8 +2,6 @@
 use borrow.Author.Tests.{ne-eqb}
 use Rattle.slip_fields.proofs.most_of.Statement.{statement}
 use Rattle.slip_fields.proofs.most_of.Tie as tie
-use Rattle.slip_fields.proofs.most_of.Reads as reads
-use Rattle.slip_fields.proofs.most_of.Lts as lts
 
 returns : tie.Need-returns
 returns c = rw (c .match .keys1)

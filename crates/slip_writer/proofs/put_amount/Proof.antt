@@ -4,7 +4,7 @@ use mathlib.Core.Path.{_≡_, refl}
 use native.Mathlib.Omega.{arith}
 use lib.ListN.{length, length-set}
 use lib.Seq.{sets}
-use Rattle.slip_writer.specs.Writer.{digitsText}
+use Rattle.text.specs.Digits.{digitsText}
 use Rattle.slip_writer.proofs.Laws.{tenth, tenth-some, digit-more, digits-all, digits-length}
 use Rattle.slip_writer.proofs.put_amount.Statement.{statement}
 use Rattle.slip_writer.proofs.put_amount.Tie as tie

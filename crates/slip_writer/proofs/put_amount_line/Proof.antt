@@ -1,6 +1,6 @@
 -- `slip_writer::put_amount_line` meets its contract. Assumes nothing.
 use native.Mathlib.Omega.{arith}
-use Rattle.slip_writer.specs.Writer.{digitsText}
+use Rattle.text.specs.Digits.{digitsText}
 use Rattle.slip_writer.proofs.Laws.{line-length, line-stands, room-feed, digits-length}
 use borrow.Author.Needs.{needs}
 use Rattle.slip_writer.proofs.put_amount_line.Statement.{statement}

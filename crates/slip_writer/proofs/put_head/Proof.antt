@@ -2,7 +2,7 @@
 use mathlib.Core.List.{[], _∷_}
 use Rattle.slip_writer.proofs.Laws.{room-first, room-next, lines-stand}
 use Rattle.slip_fields.specs.Fields.{hrvhub30, eur}
-use Rattle.slip_writer.specs.Writer.{digitsText}
+use Rattle.text.specs.Digits.{digitsText}
 use borrow.Author.Needs.{needs}
 use Rattle.slip_writer.proofs.put_head.Statement.{statement}
 use Rattle.slip_writer.proofs.put_head.Tie as tie

@@ -3,10 +3,6 @@ use Prim.Native.Nat.{_≤_, _-_}
 use native.Mathlib.Omega.{arith}
 use Rattle.slipfile.proofs.write_fields.Statement.{statement}
 use Rattle.slipfile.proofs.write_fields.Tie as tie
-use Rattle.slipfile.proofs.write_fields.Reads as reads
-use Rattle.slipfile.proofs.write_fields.Lts as lts
-use Rattle.slipfile.proofs.write_amount.Reads as write-amount-reads
-use Rattle.slipfile.proofs.write_field.Reads as write-field-reads
 
 abbrev Inv-loop : tie.InvT-loop
 Inv-loop s n₀ n = n ≤ 15
