@@ -16,6 +16,10 @@ use Rattle.account.specs.Answers.{ibanAnswer, oibAnswer}
 use Rattle.models.specs.Models.{modelOf, specialOf}
 use Rattle.reference.specs.Parts.{partsOf, partsFit, formed, joined, groupRight, groupsRight}
 use Rattle.reference.specs.Answers.{obeyAnswer, referenceAnswer}
+use Rattle.characters.specs.Characters.{firstWrong, characters}
+use Rattle.slip_fields.specs.Fields.{same, fieldAnswer}
+use Rattle.slip.specs.Slip.{countOf, fieldsAnswer, slipAnswer}
+use Rattle.slip_writer.specs.Writer.{joinLines, slipText}
 
 -- ---------------------------------------------------------------------------
 -- Questions, as the document prints them
@@ -30,17 +34,65 @@ dashed [] = []
 dashed (p ∷ []) = p
 dashed (p ∷ (q ∷ ps)) = p ++ (45 ∷ dashed (q ∷ ps))
 
+-- ---------------------------------------------------------------------------
+-- 000's printed slip, by the last part of its reference
+
+-- `ŽELJKO SENEKOVIĆ`
+abbrev name : List ℕ
+name = 197 ∷ (189 ∷ (69 ∷ (76 ∷ (74 ∷ (75 ∷ (79 ∷ (32 ∷ (83 ∷ (69 ∷ (78 ∷ (69 ∷ (75 ∷ (79 ∷ (86 ∷ (73 ∷ (196 ∷ (134 ∷ [])))))))))))))))))
+
+-- `IVANEČKA ULICA 125`
+abbrev street : List ℕ
+street = 73 ∷ (86 ∷ (65 ∷ (78 ∷ (69 ∷ (196 ∷ (140 ∷ (75 ∷ (65 ∷ (32 ∷ (85 ∷ (76 ∷ (73 ∷ (67 ∷ (65 ∷ (32 ∷ (49 ∷ (50 ∷ (53 ∷ []))))))))))))))))))
+
+-- `42000 VARAŽDIN`
+abbrev town : List ℕ
+town = 52 ∷ (50 ∷ (48 ∷ (48 ∷ (48 ∷ (32 ∷ (86 ∷ (65 ∷ (82 ∷ (65 ∷ (197 ∷ (189 ∷ (68 ∷ (73 ∷ (78 ∷ []))))))))))))))
+
+-- `2DBK d.d.`
+abbrev payee : List ℕ
+payee = 50 ∷ (68 ∷ (66 ∷ (75 ∷ (32 ∷ (100 ∷ (46 ∷ (100 ∷ (46 ∷ []))))))))
+
+-- `ALKARSKI PROLAZ 13B`
+abbrev payee-street : List ℕ
+payee-street = 65 ∷ (76 ∷ (75 ∷ (65 ∷ (82 ∷ (83 ∷ (75 ∷ (73 ∷ (32 ∷ (80 ∷ (82 ∷ (79 ∷ (76 ∷ (65 ∷ (90 ∷ (32 ∷ (49 ∷ (51 ∷ (66 ∷ []))))))))))))))))))
+
+-- `21230 SINJ`
+abbrev payee-town : List ℕ
+payee-town = 50 ∷ (49 ∷ (50 ∷ (51 ∷ (48 ∷ (32 ∷ (83 ∷ (73 ∷ (78 ∷ (74 ∷ [])))))))))
+
+-- `Troškovi za 1. mjesec`
+abbrev description : List ℕ
+description = 84 ∷ (114 ∷ (111 ∷ (197 ∷ (161 ∷ (107 ∷ (111 ∷ (118 ∷ (105 ∷ (32 ∷ (122 ∷ (97 ∷ (32 ∷ (49 ∷ (46 ∷ (32 ∷ (109 ∷ (106 ∷ (101 ∷ (115 ∷ (101 ∷ (99 ∷ [])))))))))))))))))))))
+
+-- `COST`
+abbrev purpose : List ℕ
+purpose = 67 ∷ (79 ∷ (83 ∷ (84 ∷ [])))
+
+unfoldable printed : ℕ → List ℕ
+printed k =
+    slipText 12355
+    (name ∷ (street ∷ (town ∷ (payee ∷ (payee-street ∷ (payee-town
+    ∷ (HR 19 1210010051863000160
+    ∷ (HR 2 1 ∷ (dashed (digitsText 4 7269 ∷ (digitsText 11 68499637766 ∷ (digitsText 5 k ∷ [])))
+    ∷ (purpose ∷ (description ∷ [])))))))))))
+
+-- ---------------------------------------------------------------------------
+-- Cases
+
 -- a question, with the number that answers it: 0 is acceptance
 data Case : Type 0 where
   iban : List ℕ → ℕ → Case
   oib : List ℕ → ℕ → Case
   reference : List ℕ → List (List ℕ) → ℕ → Case
+  slip : List ℕ → ℕ → Case
 
 -- the answer is the expected one
 unfoldable holds : Case → Bool
 holds (iban s n) = eqb (answerNumber (ibanAnswer s)) n
 holds (oib s n) = eqb (answerNumber (oibAnswer s)) n
 holds (reference m ps n) = eqb (answerNumber (referenceAnswer m (dashed ps))) n
+holds (slip s n) = eqb (answerNumber (slipAnswer s)) n
 
 unfoldable allHold : List Case → Bool
 allHold [] = true
@@ -65,9 +117,11 @@ starred =
     ∷ (reference (HR 2 1) (digitsText 1 1 ∷ []) 9
     ∷ (reference (HR 2 99) [] 0
     ∷ (reference (HR 2 0) [] 8
-    ∷ [])))))))))))))
+    ∷ (slip (printed 19) 9
+    ∷ (slip (printed 11) 0
+    ∷ [])))))))))))))))
 
 -- the claim
 starred-cases-hold : allHold starred ≡ true
-unfolding starred allHold holds HR dashed digitsText firstBad allOf digitsOf valueFrom split weighted carriedOver checkDigit passes ibanPasses oibPasses modelOf specialOf partsOf partsFit formed joined groupRight groupsRight obeyAnswer
+unfolding starred allHold holds HR dashed digitsText firstBad allOf digitsOf valueFrom split weighted carriedOver checkDigit passes ibanPasses oibPasses modelOf specialOf partsOf partsFit formed joined groupRight groupsRight obeyAnswer printed slipText joinLines same firstWrong characters fieldAnswer countOf fieldsAnswer slipAnswer
 starred-cases-hold = refl

@@ -7,7 +7,6 @@ use lib.ListN.{length, getD}
 use Rattle.refusal.specs.declared.Answer.the-variants.{Accepted}
 use Rattle.text.specs.Bytes.{allOf}
 use Rattle.text.specs.declared.Class.the-variants.{Line}
-use Rattle.text.specs.Digits.{digitsOf, valueOf}
 use Rattle.text.specs.Split.{split}
 use Rattle.slip.specs.Slip.{amountOf, slipAnswer, pieceOf, fieldOf}
 use Rattle.text.specs.Digits.{digitsText}

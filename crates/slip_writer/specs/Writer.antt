@@ -1,5 +1,5 @@
 -- Document 01, "The slip's fourteen fields": what the writer of slips answers, and what it leaves in the lent room.
-use Prim.Native.Nat.{ℕ, zero, suc, _+_, _/_, _%_, _^_}
+use Prim.Native.Nat.{ℕ, _+_, _^_}
 use mathlib.Core.Bool.{cond}
 use mathlib.Core.List.{List, [], _∷_, _++_}
 use lib.Dec.{ltb}

@@ -1,6 +1,6 @@
 -- `cases::with_ends` is safe and ends. The loop's invariant: the lent slice keeps its length. Assumes nothing.
 use Prim.Native.Nat.{_≤_, _-_}
-use mathlib.Core.Path.{_≡_, refl, _∙_}
+use mathlib.Core.Path.{_≡_, refl}
 use native.Mathlib.Omega.{arith}
 use lib.ListN.{length, length-set}
 use Rattle.cases.proofs.with_ends.Statement.{statement}

@@ -1,7 +1,7 @@
 use Rattle.slip.proofs.Laws.{next-piece, last-piece, piece-on, piece-past, piece-found}
 -- `slip::piece` meets its contract. The loop's invariant: the piece is the one that is left to count, of what is left from `at` on.
 -- Assumes nothing.
-use Prim.Native.Nat.{_≤_, _-_}
+use Prim.Native.Nat.{_≤_}
 use mathlib.Core.Path.{_≡_, refl, sym, _∙_}
 use native.Mathlib.Omega.{arith}
 use borrow.Author.Needs.{needs}

@@ -1,5 +1,5 @@
 -- `slip::value` meets its contract. The loop's invariant: the number of the whole is that of `v` and the rest from here. Assumes nothing.
-use Prim.Native.Nat.{_≤_, _<_, _+_, _-_, _^_}
+use Prim.Native.Nat.{_≤_, _<_, _-_, _^_}
 use mathlib.Core.Path.{_≡_, refl, sym, _∙_}
 use native.Mathlib.Omega.{arith}
 use lib.ListN.{length, drop, getD}
