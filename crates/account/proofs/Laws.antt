@@ -3,12 +3,11 @@
 use mathlib.Core.Path.{_≡_, sym, ap, _∙_}
 use mathlib.Core.Bool.{false, and-false}
 use mathlib.Core.List.{List, _∷_}
-use Prim.Native.Nat.{ℕ, _+_, _-_, _*_, _/_, _%_, _<_}
+use Prim.Native.Nat.{ℕ, _+_, _*_, _/_, _%_, _<_}
 use native.Mathlib.Nat.{div-add-mod, add-mul-mod-self-left}
 use native.Mathlib.Omega.{arith}
 use lib.Dec.{eqb}
-use lib.ListN.{length, take, drop, getD, List·getD-eq-default, length-drop}
-use lib.Seq.{take-all}
+use lib.ListN.{length, take, drop, getD, List·getD-eq-default}
 use Rattle.text.specs.Bytes.{isDigit}
 use Rattle.text.specs.Digits.{digitsOf, valueFrom, valueOf, twoDigits}
 use Rattle.text.proofs.Laws.{value-append, and-first}
@@ -49,7 +48,3 @@ short-fails s h = and-first (inRange (twoDigits (getD s 2 0) (getD s 3 0))) (eqb
   where
     none : inRange (twoDigits (getD s 2 0) (getD s 3 0)) ≡ false
     none = rw (List·getD-eq-default s 0 {n = 3} (omega arith), and-false (isDigit (getD s 2 0)))
-
--- a part that goes to the end
-pub to-the-end : (k : ℕ) (s : List ℕ) → take (length s - k) (drop k s) ≡ drop k s
-to-the-end k s = take-all (length s - k) (drop k s) (omega (arith, length-drop k s))

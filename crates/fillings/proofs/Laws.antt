@@ -1,6 +1,6 @@
 -- Laws of the listing, over any rule: of ranges of numbers, of the first mark, of the ten digits at it, and of runs of stores.
 -- Assumes nothing.
-use mathlib.Core.Path.{_≡_, refl, sym, ap, _∙_}
+use mathlib.Core.Path.{_≡_, refl, sym, ap}
 use mathlib.Core.Bool.{Bool, true, false, cond, not}
 use mathlib.Core.List.{List, [], _∷_, _++_}
 use Prim.Native.Nat.{ℕ, zero, suc, _+_, _-_, _*_, _/_, _%_, _^_, _≤_, _<_}
@@ -8,8 +8,8 @@ use native.Mathlib.Numerals.{add-one}
 use native.Mathlib.Omega.{arith}
 use native.Mathlib.Nat.{zero-add, add-zero, suc-add, mul-one, suc-mul, add-mul, mul-assoc, one-mul, zero-mul, pow-suc, pow-succ', one-le-pow, mul-le-mul-right, le-mul-of-pos-right, pow-le-pow-right, div-one, div-div-eq-div-mul, div-eq-of-lt-le}
 use lib.Dec.{eqb}
-use lib.ListN.{length, getD, take, drop, set, length-append, length-take, take-append-drop}
-use lib.Seq.{sets, length-sets, sets-eq, take-suc, take-suc-set, append-snoc, set-at, length-take-le, drop-length, drop-cons, take-set-lt}
+use lib.ListN.{length, getD, take, drop, set, length-take, take-append-drop}
+use lib.Seq.{take-suc, take-suc-set, append-snoc, set-at, length-take-le, drop-length, drop-cons, take-set-lt}
 use borrow.Author.Tests.{eqb-true, ne-eqb, lt-ltb, le-ltb}
 use Rattle.refusal.specs.declared.Place.{Place}
 use Rattle.refusal.specs.declared.Refusal.the-variants.{Room}
@@ -22,7 +22,9 @@ use Rattle.text.specs.Bytes.{later, firstBad, marks}
 use Rattle.fillings.specs.declared.Listed.the-variants.{Count, Refused}
 use Rattle.fillings.specs.Fillings.{fill, among, fillings}
 use Rattle.fillings.specs.Answers.{roomAnswer, filledAnswer}
-use Rattle.fillings.specs.ByMark.{between, block, Written}
+use Rattle.text.specs.Stands.{Stands}
+use Rattle.text.proofs.Stands.{stands-none, stands-append}
+use Rattle.fillings.specs.ByMark.{between, block}
 
 -- ---------------------------------------------------------------------------
 -- The accepted numbers of a range
@@ -179,33 +181,12 @@ place-small at number left e u = rw (e, mul-one) at u
 pub copied-more : (s t : List ℕ) (i : ℕ) → i < length s → i < length t → take i t ≡ take i s → take (i + 1) (set t i (getD s i 0)) ≡ take (i + 1) s
 copied-more s t i h g e = rw (add-one i, take-suc-set t i (getD s i 0) g, take-suc s i 0 h, e)
 
--- one run behind another
-pub sets-append : (l : List ℕ) (i : ℕ) (xs ys : List ℕ) → sets (sets l i xs) (i + length xs) ys ≡ sets l i (xs ++ ys)
-sets-append l i [] ys = rw add-zero
-sets-append l i (x ∷ xs) ys = let e : i + suc (length xs) ≡ suc i + length xs = omega arith in rw e (sets-append (set l i x) (suc i) xs ys)
-
--- nothing was written
-pub written-none : (b : List ℕ) (at : ℕ) → Written b at [] at b
-written-none b at = record { counted = omega arith; content = refl }
-
--- one list was written behind another
-pub written-append : {b b₁ b₂ xs ys : List ℕ} {at n₁ n₂ : ℕ} → Written b at xs n₁ b₁ → Written b₁ n₁ ys n₂ b₂ → Written b at (xs ++ ys) n₂ b₂
-written-append {b} {b₁} {b₂} {xs} {ys} {at} {n₁} {n₂} v w =
-    record {
-      counted = omega (arith, length-append xs ys, v .counted, w .counted);
-      content = w .content ∙ rw (v .content, v .counted) (sets-append b at xs ys);
-    }
-
--- the lent slice keeps its length
-pub written-length : {b after xs : List ℕ} {at next : ℕ} → Written b at xs next after → length after ≡ length b
-written-length {b} {after} {xs} {at} w = ap length (w .content) ∙ length-sets b at xs
-
 -- a number that is not accepted is not written
-pub written-rejected : (t : Bool) (b : List ℕ) (at x : ℕ) → t ≡ false → Written b at (cond t (x ∷ []) []) at b
-written-rejected t b at x e = rw e (written-none b at)
+pub written-rejected : (t : Bool) (b : List ℕ) (at x : ℕ) → t ≡ false → Stands b at (cond t (x ∷ []) []) at b
+written-rejected t b at x e = rw e (stands-none b at)
 
 -- a number that is accepted is written, where there is room
-pub written-accepted : (t : Bool) (b after : List ℕ) (at x : ℕ) → t ≡ true → after ≡ set b at x → Written b at (cond t (x ∷ []) []) (at + 1) after
+pub written-accepted : (t : Bool) (b after : List ℕ) (at x : ℕ) → t ≡ true → after ≡ set b at x → Stands b at (cond t (x ∷ []) []) (at + 1) after
 written-accepted t b after at x e h = rw e (record { counted = refl; content = h })
 
 -- ---------------------------------------------------------------------------
@@ -241,20 +222,20 @@ module _ {t : List ℕ} {n i left : ℕ} (o : Open t n i left) where
   module _ (p : List ℕ → Bool) (number d : ℕ) {b after : List ℕ} {at next : ℕ} where
     -- one digit more
     pub digits-more :
-        {after′ : List ℕ} {next′ : ℕ} → d < 10 → Written b at (digitsBelow p (take n t) left number d) next after
-        → Written after next (block p (take n (set t i (48 + d))) (number * 10 + d)) next′ after′
-        → Written b at (digitsBelow p (take n t) left number (d + 1)) next′ after′
+        {after′ : List ℕ} {next′ : ℕ} → d < 10 → Stands b at (digitsBelow p (take n t) left number d) next after
+        → Stands after next (block p (take n (set t i (48 + d))) (number * 10 + d)) next′ after′
+        → Stands b at (digitsBelow p (take n t) left number (d + 1)) next′ after′
     digits-more h v w =
-        rw (add-one d, block-digit p (left - 1) number d (o .first) some-left h) (written-append v (rw (take-set-lt n t i (48 + d) first-before) at w))
+        rw (add-one d, block-digit p (left - 1) number d (o .first) some-left h) (stands-append v (rw (take-set-lt n t i (48 + d) first-before) at w))
 
     -- after the last digit
     pub digits-all :
-        10 ≤ d → d ≤ 10 → Written b at (digitsBelow p (take n t) left number d) next after → Written b at (block p (take n t) number) next after
+        10 ≤ d → d ≤ 10 → Stands b at (digitsBelow p (take n t) left number d) next after → Stands b at (block p (take n t) number) next after
     digits-all l u w = let e : d ≡ 10 = omega arith in rw (← block-ten p (take n t) (left - 1) number some-left) (rw e at w)
 
     -- the place of the next number is at most that number
     pub digits-place :
-        at ≤ number * 10 ^ left → Written b at (digitsBelow p (take n t) left number d) next after → next ≤ (number * 10 + d) * 10 ^ (left - 1)
+        at ≤ number * 10 ^ left → Stands b at (digitsBelow p (take n t) left number d) next after → next ≤ (number * 10 + d) * 10 ^ (left - 1)
     unfolding between
     digits-place u w =
         let e : left ≡ suc (left - 1) = omega (arith, o .some) in
@@ -262,9 +243,9 @@ module _ {t : List ℕ} {n i left : ℕ} (o : Open t n i left) where
         omega (arith, w .counted, digit-more number d (left - 1), among-length (λ (k : ℕ). p (fill (take n t) k)) (number * 10 ^ suc (left - 1)) (d * 10 ^ (left - 1)))
 
 -- before the first digit
-pub digits-none : (p : List ℕ → Bool) (s : List ℕ) (left number : ℕ) (b : List ℕ) (at : ℕ) → Written b at (digitsBelow p s left number 0) at b
+pub digits-none : (p : List ℕ → Bool) (s : List ℕ) (left number : ℕ) (b : List ℕ) (at : ℕ) → Stands b at (digitsBelow p s left number 0) at b
 unfolding between among
-digits-none p s left number b at = rw zero-mul (written-none b at)
+digits-none p s left number b at = rw zero-mul (stands-none b at)
 
 -- ---------------------------------------------------------------------------
 -- The whole listing
@@ -274,7 +255,7 @@ pub whole-fits : (m : ℕ) → m ≤ 4 → suc 0 * 10 ^ m ≤ 10000
 whole-fits m h = rw one-mul (pow-le-pow-right {n = 10} (omega arith) h)
 
 -- with no digit before it, the listing is that of all fillings
-pub written-all : (p : List ℕ → Bool) (s u : List ℕ) {b after : List ℕ} {at next : ℕ} → u ≡ s → Written b at (block p u 0) next after → Written b at (fillings p s) next after
+pub written-all : (p : List ℕ → Bool) (s u : List ℕ) {b after : List ℕ} {at next : ℕ} → u ≡ s → Stands b at (block p u 0) next after → Stands b at (fillings p s) next after
 unfolding between fillings
 written-all p s u e w = rw (e, zero-mul) at w
 
@@ -285,10 +266,6 @@ room-refused xs room n place e h g = let z : n ≡ length xs = omega arith in rw
 -- there is room: counted
 pub room-counted : (xs : List ℕ) (room n : ℕ) → n ≡ 0 + length xs → n ≤ room → Count n ≡ roomAnswer xs room
 room-counted xs room n e h = let z : n ≡ length xs = omega arith in rw (le-ltb room (length xs) (omega arith), z)
-
--- and the list stands at the front, the entries beyond it as they were
-pub front-written : (b after xs : List ℕ) (n : ℕ) → Written b 0 xs n after → length xs ≤ length b → after ≡ xs ++ drop (length xs) b
-front-written b after xs n w h = w .content ∙ sets-eq xs b 0 (omega arith) ∙ rw zero-add
 
 -- ---------------------------------------------------------------------------
 -- A filled text, written from the last byte to the first

@@ -1,10 +1,7 @@
--- The listing mark by mark: the fillings that stand in one part of the numbers, and what a writer leaves of a list.
-use Prim.Native.Nat.{ℕ, _+_, _*_, _^_}
-use mathlib.Core.Path.{_≡_}
+-- The listing mark by mark: the fillings that stand in one part of the numbers.
+use Prim.Native.Nat.{ℕ, _*_, _^_}
 use mathlib.Core.Bool.{Bool}
 use mathlib.Core.List.{List}
-use lib.ListN.{length}
-use lib.Seq.{sets}
 use Rattle.text.specs.Bytes.{marks}
 use Rattle.fillings.specs.Fillings.{fill, among}
 
@@ -15,8 +12,3 @@ between p s a n = among (λ (k : ℕ). p (fill s k)) a n
 -- the accepted fillings of s whose numbers begin with the digits of `number`
 abbrev pub block : (List ℕ → Bool) → List ℕ → ℕ → List ℕ
 block p s number = between p s (number * 10 ^ marks s) (10 ^ marks s)
-
--- xs was written from the place `at` on, as far as there is room, and `next` is the place behind it
-pub record Written (before : List ℕ) (at : ℕ) (xs : List ℕ) (next : ℕ) (after : List ℕ) : Type 0 where
-  pub counted : next ≡ at + length xs
-  pub content : after ≡ sets before at xs

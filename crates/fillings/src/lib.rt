@@ -13,7 +13,8 @@ ghost use Rattle.fillings.specs.Wet.{wetIban, ibanListing, modelListing,
 ghost use Rattle.account.specs.Answers.{isIban};
 ghost use Rattle.reference.specs.Parts.{formed};
 ghost use Rattle.reference.specs.Answers.{obeys};
-ghost use Rattle.fillings.specs.ByMark.{block, Written};
+ghost use Rattle.text.specs.Stands.{Stands};
+ghost use Rattle.fillings.specs.ByMark.{block};
 ghost use Rattle.fillings.specs.Accepts.{accepts};
 ghost use Rattle.fillings.specs.Answers.{roomAnswer, leftBy, filledAnswer, filledBy};
 use models::Group;
@@ -63,7 +64,7 @@ fn held(s: &[u8]) -> [u8; 22]
 // A text with no mark left: its number is written at the place `at`, if there is room, where the text is accepted.
 fn leaf(aim: Aim, s: &[u8], number: u32, out: &mut [u16], at: usize) -> usize
     requires { ⌜ (number < 10000) × (at ≤ number) ⌝ }
-    ensures { λ r. ⌜ Written (now (out .entry)) at (cond (accepts aim (now (s .entry))) (number ∷ []) []) r (now (out .exit)) ⌝ }
+    ensures { λ r. ⌜ Stands (now (out .entry)) at (cond (accepts aim (now (s .entry))) (number ∷ []) []) r (now (out .exit)) ⌝ }
 {
     if !accepted(aim, s) {
         return at;
@@ -87,7 +88,7 @@ fn list(
     at: usize,
 ) -> usize
     requires { ⌜ (n ≤ 22) × ((left ≡ marks (take n t)) × ((suc number * 10 ^ left ≤ 10000) × (at ≤ number * 10 ^ left))) ⌝ }
-    ensures { λ r. ⌜ Written (now (out .entry)) at (block (accepts aim) (take n t) number) r (now (out .exit)) ⌝ }
+    ensures { λ r. ⌜ Stands (now (out .entry)) at (block (accepts aim) (take n t) number) r (now (out .exit)) ⌝ }
 {
     if left == 0 {
         return leaf(aim, &t[..n], number, out, at);

@@ -9,15 +9,15 @@ use native.Mathlib.Numerals.{add-one}
 use native.Mathlib.Omega.{arith}
 use native.Mathlib.Nat.{add-zero, zero-add}
 use lib.Dec.{eqb, leb, ltb, eqb·suc-zero, leb·suc-zero}
-use lib.ListN.{length, take, drop, getD, length-drop, drop-of-length-le}
-use lib.Seq.{drop-cons, drop-length, drop-nil, take-nil, take-all}
+use lib.ListN.{length, take, drop, getD, drop-of-length-le}
+use lib.Seq.{drop-cons, drop-length, drop-nil, take-nil}
 use borrow.Author.Tests.{eq-eqb, ne-eqb, eqb-true, lt-ltb, le-leb, ltb-true}
 use Rattle.text.specs.Bytes.{isDigit, allOf, later}
 use Rattle.text.specs.Digits.{digitsOf}
 use Rattle.text.specs.declared.Class.the-variants.{Digits}
 use Rattle.text.specs.declared.Found.{Found}
 use Rattle.text.specs.declared.Found.the-variants.{At, Nothing}
-use Rattle.text.proofs.Laws.{taken, left, entered, both-true, shifted, shifted-later}
+use Rattle.text.proofs.Laws.{to-the-end, taken, left, entered, both-true, shifted, shifted-later}
 use Rattle.check_digits.specs.declared.Rule.{Rule}
 use Rattle.check_digits.specs.CheckDigit.{checkDigit, passes}
 use Rattle.check_digits.proofs.Theorems.{passes-snoc}
@@ -32,10 +32,6 @@ use Rattle.reference.specs.Groups.{afterHyphens, stretchHolds, before, h
 
 -- ---------------------------------------------------------------------------
 -- The readers' turns
-
--- what the code lends as `&s[k..]` is all from k on
-pub from-place : {A : Type 0} (k : ℕ) (s : List A) → take (length s - k) (drop k s) ≡ drop k s
-from-place k s = take-all (length s - k) (drop k s) (omega (arith, length-drop k s))
 
 -- a part that fits has lengths
 pub fits-lengths : (lengths : List ℕ) (n : ℕ) → fitsNext lengths n ≡ true → 1 < length lengths
@@ -55,7 +51,7 @@ module _ (lengths : List ℕ) (n count : ℕ) where
   pub hyphen-fits : (s : List ℕ) (r : Read) → (length s ≡ 0 → ⊥) → getD s 0 0 ≡ 45 → fitsNext lengths n ≡ true → r ≡ partRead (take (length lengths - 2) (drop 2 lengths)) (count + 1) (take (length s - 1) (drop 1 s)) → r ≡ digitRead lengths n count s
   unfolding digitRead
   hyphen-fits [] r some h e f = absurd (some refl)
-  hyphen-fits (b ∷ s) r some h e f = entered _ _ _ _ (eq-eqb b 45 h) (entered _ _ _ _ e (rw (from-place 2 lengths, from-place 1 (b ∷ s)) at f))
+  hyphen-fits (b ∷ s) r some h e f = entered _ _ _ _ (eq-eqb b 45 h) (entered _ _ _ _ e (rw (to-the-end 2 lengths, to-the-end 1 (b ∷ s)) at f))
 
   pub hyphen-breaks : (s : List ℕ) → (length s ≡ 0 → ⊥) → getD s 0 0 ≡ 45 → fitsNext lengths n ≡ false → Broken ≡ digitRead lengths n count s
   unfolding digitRead
@@ -65,7 +61,7 @@ module _ (lengths : List ℕ) (n count : ℕ) where
   pub digit-reads : (s : List ℕ) (r : Read) → (length s ≡ 0 → ⊥) → (getD s 0 0 ≡ 45 → ⊥) → isDigit (getD s 0 0) ≡ true → r ≡ digitRead lengths (n + 1) count (take (length s - 1) (drop 1 s)) → r ≡ digitRead lengths n count s
   unfolding digitRead
   digit-reads [] r some h e f = absurd (some refl)
-  digit-reads (b ∷ s) r some h e f = left _ _ _ _ (ne-eqb b 45 h) (entered _ _ _ _ e (rw (from-place 1 (b ∷ s)) at f))
+  digit-reads (b ∷ s) r some h e f = left _ _ _ _ (ne-eqb b 45 h) (entered _ _ _ _ e (rw (to-the-end 1 (b ∷ s)) at f))
 
   pub other-breaks : (s : List ℕ) → (length s ≡ 0 → ⊥) → (getD s 0 0 ≡ 45 → ⊥) → isDigit (getD s 0 0) ≡ false → Broken ≡ digitRead lengths n count s
   unfolding digitRead

@@ -9,7 +9,7 @@ use native.Mathlib.Omega.{arith}
 use native.Mathlib.Nat.{add-zero}
 use lib.Dec.{eqb, leb}
 use lib.ListN.{length, take, drop, getD, length-drop}
-use lib.Seq.{drop-cons, drop-drop, drop-length, length-take-le, take-all}
+use lib.Seq.{drop-cons, drop-drop, drop-length, length-take-le}
 use borrow.Author.Tests.{ne-eqb, eq-eqb, le-leb, lt-leb}
 use Rattle.refusal.specs.Refusal.{none, placeOf}
 use Rattle.refusal.specs.declared.Answer.{Answer}
@@ -22,7 +22,7 @@ use Rattle.text.specs.declared.Class.the-variants.{Digits, Account, Reference, 
 use Rattle.text.specs.declared.Found.{Found}
 use Rattle.text.specs.declared.Found.the-variants.{At, Nothing}
 use Rattle.text.specs.Split.{longer, split}
-use Rattle.text.proofs.Laws.{left, entered, and-first, and-second}
+use Rattle.text.proofs.Laws.{to-the-end, left, entered, and-first, and-second}
 use Rattle.characters.specs.Characters.{isSingle, isPair, firstWrong, characters}
 use Rattle.characters.specs.Answers.{textFrom}
 use Rattle.account.specs.Account.{ibanFormed, ibanPasses}
@@ -129,20 +129,16 @@ module _ (s : List ℕ) (n : ℕ) (e : n ≡ countOf 10 s) where
 -- ---------------------------------------------------------------------------
 -- Pieces, from place `at` on
 
--- what the code lends as `&s[at..]` is all from there on
-pub from-place : (k : ℕ) (s : List ℕ) → take (length s - k) (drop k s) ≡ drop k s
-from-place k s = take-all (length s - k) (drop k s) (omega (arith, length-drop k s))
-
 module _ (s : List ℕ) (at : ℕ) where
   -- the scan stopped: a piece, and the rest after the line feed
   pub next-piece : (i : ℕ) → at ≤ length s → firstBad Line (take (length s - at) (drop at s)) ≡ At i → (at + i < length s) × (split 10 (drop at s) ≡ take i (drop at s) ∷ split 10 (drop (at + (i + 1)) s))
   next-piece i h e =
-      let d = split-at (drop at s) i (rw (from-place at s) at e) in
+      let d = split-at (drop at s) i (rw (to-the-end at s) at e) in
       (omega (arith, d .0, length-drop at s), d .1 ∙ rw (drop-drop (i + 1) at s))
 
   -- it did not: the last piece
   pub last-piece : firstBad Line (take (length s - at) (drop at s)) ≡ Nothing → split 10 (drop at s) ≡ drop at s ∷ []
-  last-piece e = split-whole (drop at s) (rw (from-place at s) at e)
+  last-piece e = split-whole (drop at s) (rw (to-the-end at s) at e)
 
 -- the piece at a place is that of the rest one place before
 pub piece-on : (p : List ℕ) (ps qs : List (List ℕ)) (k : ℕ) → 0 < k → qs ≡ p ∷ ps → pieceOf k qs ≡ pieceOf (k - 1) ps
@@ -165,7 +161,7 @@ piece-here p ps qs e = rw e
 pub piece-found : (s r : List ℕ) (at k left : ℕ) → left ≤ 0 → r ≡ pieceOf 0 (split 10 (take (length s - at) (drop at s))) → pieceOf k (split 10 s) ≡ pieceOf left (split 10 (drop at s)) → r ≡ pieceOf k (split 10 s)
 piece-found s r at k left h e f =
     let z : left ≡ 0 = omega arith in
-    (rw (from-place at s) at e) ∙ sym (rw z at f)
+    (rw (to-the-end at s) at e) ∙ sym (rw z at f)
 
 -- ---------------------------------------------------------------------------
 -- The byte of a field's refusal

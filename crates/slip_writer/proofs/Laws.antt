@@ -6,7 +6,7 @@ use native.Mathlib.Numerals.{add-one}
 use native.Mathlib.Omega.{arith}
 use native.Mathlib.Nat.{zero-add, add-zero, pow-suc, one-le-pow}
 use lib.ListN.{length, getD, drop, set, length-append}
-use lib.Seq.{sets, length-sets, sets-eq, drop-cons, drop-length}
+use lib.Seq.{sets, drop-cons, drop-length}
 use borrow.Author.Tests.{lt-ltb, le-ltb}
 use Rattle.refusal.specs.declared.Place.{Place}
 use Rattle.refusal.specs.declared.Refusal.{Refusal}
@@ -18,7 +18,9 @@ use Rattle.slip.specs.Slip.{judged}
 use Rattle.slip_writer.specs.declared.Written.{Written}
 use Rattle.text.specs.Digits.{digitsText}
 use Rattle.slip_writer.specs.Writer.{joinLines, slipText, givenAnswer, roomAnswer, writeAnswer}
-use Rattle.slip_writer.specs.Steps.{Stands, firstOf, three, WritesSlip, WritesAccepted}
+use Rattle.text.specs.Stands.{Stands}
+use Rattle.text.proofs.Stands.{stands-append, stands-length}
+use Rattle.slip_writer.specs.Steps.{firstOf, three, WritesSlip, WritesAccepted}
 
 -- ---------------------------------------------------------------------------
 -- Loops that write: what is left to be written makes up the whole
@@ -67,27 +69,6 @@ digits-length (suc n) a = ap suc (digits-length n a)
 
 -- ---------------------------------------------------------------------------
 -- Texts one behind another
-
--- one run behind another
-pub sets-append : (l : List ℕ) (i : ℕ) (xs ys : List ℕ) → sets (sets l i xs) (i + length xs) ys ≡ sets l i (xs ++ ys)
-sets-append l i [] ys = rw add-zero
-sets-append l i (x ∷ xs) ys = let e : i + suc (length xs) ≡ suc i + length xs = omega arith in rw e (sets-append (set l i x) (suc i) xs ys)
-
--- one text was written behind another
-pub stands-append : {b b₁ b₂ xs ys : List ℕ} {at n₁ n₂ : ℕ} → Stands b at xs n₁ b₁ → Stands b₁ n₁ ys n₂ b₂ → Stands b at (xs ++ ys) n₂ b₂
-stands-append {b} {b₁} {b₂} {xs} {ys} {at} {n₁} {n₂} v w =
-    record {
-      counted = omega (arith, length-append xs ys, v .counted, w .counted);
-      content = w .content ∙ rw (v .content, v .counted) (sets-append b at xs ys);
-    }
-
--- the lent slice keeps its length
-pub stands-length : {b after xs : List ℕ} {at next : ℕ} → Stands b at xs next after → length after ≡ length b
-stands-length {b} {after} {xs} {at} w = ap length (w .content) ∙ length-sets b at xs
-
--- a text at the front, the bytes beyond it as they were
-pub front-stands : (b after xs : List ℕ) (n : ℕ) → Stands b 0 xs n after → length xs ≤ length b → after ≡ xs ++ drop (length xs) b
-front-stands b after xs n w h = w .content ∙ sets-eq xs b 0 (omega arith) ∙ rw zero-add
 
 -- ---------------------------------------------------------------------------
 -- Lines

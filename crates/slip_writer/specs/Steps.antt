@@ -1,18 +1,12 @@
 -- What the steps of the writer do: bytes written at a place, answers one after another, and what is promised of a slip.
-use Prim.Native.Nat.{ℕ, _+_}
+use Prim.Native.Nat.{ℕ}
 use mathlib.Core.Path.{_≡_}
 use mathlib.Core.List.{List, [], _∷_}
 use lib.ListN.{length}
-use lib.Seq.{sets}
 use Rattle.refusal.specs.declared.Answer.{Answer}
 use Rattle.refusal.specs.declared.Answer.the-variants.{Accepted, Refused}
 use Rattle.slip_writer.specs.declared.Written.{Written}
 use Rattle.slip_writer.specs.Writer.{slipText, roomAnswer, writeAnswer, leftBy}
-
--- xs was written from the place `at` on, and `next` is the place behind it
-pub record Stands (before : List ℕ) (at : ℕ) (xs : List ℕ) (next : ℕ) (after : List ℕ) : Type 0 where
-  pub counted : next ≡ at + length xs
-  pub content : after ≡ sets before at xs
 
 -- the first refusal stands
 abbrev pub firstOf : Answer → Answer → Answer

@@ -8,8 +8,8 @@ use native.Mathlib.Numerals.{add-one}
 use native.Mathlib.Omega.{arith}
 use native.Mathlib.Nat.{zero-add, add-zero}
 use lib.Dec.{leb}
-use lib.ListN.{length, drop, getD}
-use lib.Seq.{drop-cons, drop-length}
+use lib.ListN.{length, take, drop, getD, length-drop}
+use lib.Seq.{drop-cons, drop-length, take-all}
 use borrow.Author.Tests.{ne-eqb, lt-leb, le-leb, leb-true}
 use Rattle.text.specs.declared.Class.{Class}
 use Rattle.text.specs.declared.Found.{Found}
@@ -153,3 +153,10 @@ module _ (s : List ℕ) (i n : ℕ) (h : i < length s) where
 pub marks-end : (s : List ℕ) (i n : ℕ) → length s ≤ i → i ≤ length s → n ≡ n + marks (drop i s)
 unfolding marks
 marks-end s i n h g = let e : i ≡ length s = omega arith in rw (e, drop-length) (sym (add-zero n))
+
+-- ---------------------------------------------------------------------------
+-- Parts
+
+-- a part that goes to the end
+pub to-the-end : {A : Type 0} (k : ℕ) (s : List A) → take (length s - k) (drop k s) ≡ drop k s
+to-the-end k s = take-all (length s - k) (drop k s) (omega (arith, length-drop k s))

@@ -1,3 +1,4 @@
 -- What the proofs here and in the crates above share, and what is promised of texts.
 pub mod Laws
 pub mod Theorems
+pub mod Stands

@@ -2,3 +2,4 @@
 pub mod Bytes
 pub mod Digits
 pub mod Split
+pub mod Stands

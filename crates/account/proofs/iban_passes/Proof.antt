@@ -7,7 +7,8 @@ use lib.Dec.{eqb}
 use borrow.Author.Tests.{not-true, not-false}
 use Rattle.text.proofs.Laws.{and-first, and-second}
 use Rattle.account.specs.Account.{inRange, ibanPasses}
-use Rattle.account.proofs.Laws.{short-fails, in-three-pieces, to-the-end}
+use Rattle.text.proofs.Laws.{to-the-end}
+use Rattle.account.proofs.Laws.{short-fails, in-three-pieces}
 use borrow.Author.Needs.{needs}
 use Rattle.account.proofs.iban_passes.Statement.{statement}
 use Rattle.account.proofs.iban_passes.Tie as tie

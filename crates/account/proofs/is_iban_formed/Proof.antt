@@ -4,7 +4,7 @@ use borrow.Author.Tests.{ne-eqb, eq-eqb}
 use Rattle.text.proofs.Laws.{and-first, and-second}
 use Rattle.text.specs.Bytes.{allOf}
 use Rattle.text.specs.declared.Class.the-variants.{Digits}
-use Rattle.account.proofs.Laws.{to-the-end}
+use Rattle.text.proofs.Laws.{to-the-end}
 use borrow.Author.Needs.{needs}
 use Rattle.account.proofs.is_iban_formed.Statement.{statement}
 use Rattle.account.proofs.is_iban_formed.Tie as tie

@@ -9,8 +9,9 @@ use borrow.Author.Needs.{needs}
 use borrow.Fn.Kinds.{In}
 use borrow.Fn.PlainCycle.{Measures, is, falls, and}
 use Rattle.fillings.specs.Accepts.{accepts}
-use Rattle.fillings.specs.ByMark.{Written}
-use Rattle.fillings.proofs.Laws.{first-mark, no-mark, block-dry, number-small, place-small, written-length}
+use Rattle.text.specs.Stands.{Stands}
+use Rattle.text.proofs.Stands.{stands-length}
+use Rattle.fillings.proofs.Laws.{first-mark, no-mark, block-dry, number-small, place-small}
 use Rattle.fillings.proofs.Laws.{Open, digitsBelow, first-before, one-fewer, digits-none, digits-more, digits-all, digits-fit, digits-place}
 use Rattle.fillings.proofs.list.Reads as list
 use Rattle.fillings.proofs.list.Kinds as list-kinds
@@ -31,7 +32,7 @@ list-below t = and 1 list-kinds.ps (falls 1 list-kinds.ps _<_ μ-list t) list.Pr
 
 abbrev list-Inv-loop : list-lts.InvT-loop
 list-Inv-loop aim n left number out₀ at t i next₀ d₀ out next d =
-    (d ≤ 10) × Written out₀ at (digitsBelow (accepts aim) (take n t) left number d) next out
+    (d ≤ 10) × Stands out₀ at (digitsBelow (accepts aim) (take n t) left number d) next out
 
 abbrev list-μ-loop : list-lts.MeasureT-loop
 list-μ-loop aim n left number out₀ at t i next₀ d₀ out next d = 10 - d
@@ -94,7 +95,7 @@ pub +list-spec : {M : Type 1} → statement M
     let z = c .before .before .before .before in
     let a = z .args in
     (number-small (a .number) (a .left) (z .pre .1 .1 .1 .0), place-small (a .at) (a .number) (a .left) (c .before .before .if1 .taken) (z .pre .1 .1 .1 .1)))  -- list-leaf-requires
-    (λ c. written-length (c .before .before .leaf .ensures))  -- list-same-length
+    (λ c. stands-length (c .before .before .leaf .ensures))  -- list-same-length
     (λ c.
     let y = c .before .before .before .before .before in
     rw (block-dry _ _ _ (sym (y .before .before .pre .1 .1 .0) ∙ y .if1 .taken)) (c .before .before .leaf .ensures))  -- list-returns
@@ -127,7 +128,7 @@ pub +list-spec : {M : Type 1} → statement M
     let k = c .before .before .before .before .before .before in
     let l = c .before .before .before .before .before .loop in
     (omega arith, digits-more (opened t k) _ (entry t k .args .number) (l .d) (omega arith) (l .inv .1) (c .before .before .list .ensures)))  -- list-loop-again
-    (λ c. written-length (c .before .loop .inv .1))  -- list-same-length-2
+    (λ c. stands-length (c .before .loop .inv .1))  -- list-same-length-2
     (λ c.
     let k = c .before .before in
     let l = c .before .loop in

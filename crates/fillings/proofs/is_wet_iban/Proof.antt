@@ -4,7 +4,7 @@ use borrow.Author.Tests.{ne-eqb, eq-eqb}
 use Rattle.text.proofs.Laws.{and-first, and-second}
 use Rattle.text.specs.Bytes.{allOf}
 use Rattle.text.specs.declared.Class.the-variants.{WetAccount}
-use Rattle.account.proofs.Laws.{to-the-end}
+use Rattle.text.proofs.Laws.{to-the-end}
 use Rattle.fillings.proofs.Accepts.{short-is-not-wet}
 use borrow.Author.Needs.{needs}
 use Rattle.fillings.proofs.is_wet_iban.Statement.{statement}

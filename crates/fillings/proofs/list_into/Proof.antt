@@ -6,7 +6,8 @@ use lib.ListN.{length, take}
 use Rattle.text.specs.Bytes.{marks}
 use Rattle.fillings.specs.Accepts.{accepts}
 use Rattle.fillings.specs.Fillings.{fillings}
-use Rattle.fillings.proofs.Laws.{whole-fits, written-all, room-refused, room-counted, front-written}
+use Rattle.text.proofs.Stands.{front-stands}
+use Rattle.fillings.proofs.Laws.{whole-fits, written-all, room-refused, room-counted}
 use borrow.Author.Needs.{needs}
 use Rattle.fillings.proofs.list_into.Statement.{statement}
 use Rattle.fillings.proofs.list_into.Tie as tie
@@ -54,7 +55,7 @@ returns-2 c =
     let a = b .before .before .before .before .before .before .args in
     let v = written-all (accepts (a .aim)) (a .s .now) _ (b .before .before .before .held .ensures) (b .list .ensures) in
     let w = written-all (accepts (a .aim)) (a .s .now) _ (b .before .before .before .held .ensures) (c .before .before .list2 .ensures) in
-    (room-counted (fillings (accepts (a .aim)) (a .s .now)) _ _ (v .counted) (c .before .before .before .before .if1 .left), front-written _ _ _ _ w (omega (arith, v .counted, c .before .before .before .before .if1 .left)))
+    (room-counted (fillings (accepts (a .aim)) (a .s .now)) _ _ (v .counted) (c .before .before .before .before .if1 .left), front-stands _ _ _ _ w (omega (arith, v .counted, c .before .before .before .before .if1 .left)))
 
 pub list-into-spec : {M : Type 1} → statement M
 list-into-spec =

@@ -10,7 +10,8 @@ use borrow.Fn.PlainCycle.{Measures, is, falls, and}
 use mathlib.Core.Path.{refl, sym, _∙_}
 use borrow.Author.Tests.{lt-ltb, le-ltb}
 use Rattle.text.proofs.Laws.{left, entered}
-use Rattle.reference.proofs.Laws.{from-place, fits-lengths, last-fits, last-breaks, hyphen-fits, hyphen-breaks, digit-reads, other-breaks}
+use Rattle.text.proofs.Laws.{to-the-end}
+use Rattle.reference.proofs.Laws.{fits-lengths, last-fits, last-breaks, hyphen-fits, hyphen-breaks, digit-reads, other-breaks}
 use Rattle.reference.proofs.digit.Reads as digit
 use Rattle.reference.proofs.digit.Kinds as digit-kinds
 use Rattle.reference.proofs.+digit+part.Lts-digit as digit-lts
@@ -66,7 +67,7 @@ pub +digit+part-spec : {M : Type 1} → statement M
     (λ c. fits-lengths (c .before .before .before .before .before .before .before .before .args .lengths .now) (c .before .before .before .before .before .before .before .before .args .n) (sym (c .before .before .fits3 .ensures) ∙ c .before .if4 .taken))  -- digit-part-part-start-2
     (λ c. search needs)  -- digit-part-part-end-2
     (λ c. omega arith)  -- digit-add-part
-    (λ c κs. let s = c .before .before .before .before .before .before .before .before .before .args .s .now in rw (from-place 1 s, length-drop 1 s) (omega arith))  -- digit-part-requires
+    (λ c κs. let s = c .before .before .before .before .before .before .before .before .before .args .s .now in rw (to-the-end 1 s, length-drop 1 s) (omega arith))  -- digit-part-requires
     (λ c. hyphen-fits (c .before .before .before .before .before .before .before .before .before .before .args .lengths .now) (c .before .before .before .before .before .before .before .before .before .before .args .n) (c .before .before .before .before .before .before .before .before .before .before .args .count) (c .before .before .before .before .before .before .before .before .before .before .args .s .now) _ (c .before .before .before .before .before .before .before .if1 .left) (c .before .before .before .before .before .if3 .taken) (sym (c .before .before .before .before .fits3 .ensures) ∙ c .before .before .before .if4 .taken) (c .part .ensures))  -- digit-returns-3
     (λ c. hyphen-breaks (c .before .before .before .before .before .before .before .args .lengths .now) (c .before .before .before .before .before .before .before .args .n) (c .before .before .before .before .before .before .before .args .count) (c .before .before .before .before .before .before .before .args .s .now) (c .before .before .before .before .if1 .left) (c .before .before .if3 .taken) (sym (c .before .fits3 .ensures) ∙ c .if4 .left))  -- digit-returns-4
     (λ c κs. search needs)  -- digit-is-digit-requires
@@ -74,7 +75,7 @@ pub +digit+part-spec : {M : Type 1} → statement M
     (λ c. search needs)  -- digit-part-digit-start
     (λ c. search needs)  -- digit-part-digit-end
     (λ c. search needs)  -- digit-add-digit
-    (λ c κs. let s = c .before .before .before .before .before .before .before .before .args .s .now in rw (from-place 1 s, length-drop 1 s) (omega arith))  -- digit-digit-requires
+    (λ c κs. let s = c .before .before .before .before .before .before .before .before .args .s .now in rw (to-the-end 1 s, length-drop 1 s) (omega arith))  -- digit-digit-requires
     (λ c. digit-reads (c .before .before .before .before .before .before .before .before .before .args .lengths .now) (c .before .before .before .before .before .before .before .before .before .args .n) (c .before .before .before .before .before .before .before .before .before .args .count) (c .before .before .before .before .before .before .before .before .before .args .s .now) _ (c .before .before .before .before .before .before .if1 .left) (c .before .before .before .before .if3 .left) (sym (c .before .before .before .is-digit .ensures) ∙ c .before .before .if5 .taken) (c .digit .ensures))  -- digit-returns-5
     (λ c. other-breaks (c .before .before .before .before .before .before .before .args .lengths .now) (c .before .before .before .before .before .before .before .args .n) (c .before .before .before .before .before .before .before .args .count) (c .before .before .before .before .before .before .before .args .s .now) (c .before .before .before .before .if1 .left) (c .before .before .if3 .left) (sym (c .before .is-digit .ensures) ∙ c .if5 .left)))  -- digit-returns-6
     λ t. part-lts.spec

@@ -1,7 +1,8 @@
 -- `reference::group_holds` meets its contract: the group is the head of what stands after the parts before it. Assumes nothing.
 use mathlib.Core.Path.{sym, ap, _∙_}
 use Rattle.reference.specs.Groups.{heldFrom, headHolds}
-use Rattle.reference.proofs.Laws.{from-place, found-within}
+use Rattle.text.proofs.Laws.{to-the-end}
+use Rattle.reference.proofs.Laws.{found-within}
 use borrow.Author.Needs.{needs}
 use Rattle.reference.proofs.group_holds.Statement.{statement}
 use Rattle.reference.proofs.group_holds.Tie as tie
@@ -31,7 +32,7 @@ returns : tie.Need-returns
 returns c =
     let a = c .before .before .before .before .before .before .before .args in
     c .head-holds .ensures
-    ∙ ap (headHolds (a .g .rule) (a .g .joins)) (from-place (c .before .before .before .a .given .0 .0) (a .s .now))
+    ∙ ap (headHolds (a .g .rule) (a .g .joins)) (to-the-end (c .before .before .before .a .given .0 .0) (a .s .now))
     ∙ ap (heldFrom (a .g) (a .s .now)) (sym (c .before .before .before .a .given .1) ∙ c .before .before .before .before .before .after .ensures)
 
 returns-2 : tie.Need-returns-2

@@ -5,8 +5,9 @@ use mathlib.Core.List.{List, _++_}
 use native.Mathlib.Omega.{arith}
 use lib.ListN.{length}
 use Rattle.slip_writer.specs.Writer.{joinLines, slipText}
+use Rattle.text.proofs.Stands.{front-stands}
 use Rattle.slip_writer.specs.Steps.{three, four}
-use Rattle.slip_writer.proofs.Laws.{headOf, slip-size, slip-room, slip-stands, room-refused, room-counted, room-first, room-next, front-stands}
+use Rattle.slip_writer.proofs.Laws.{headOf, slip-size, slip-room, slip-stands, room-refused, room-counted, room-first, room-next}
 use borrow.Author.Needs.{needs}
 use Rattle.slip_writer.proofs.write_accepted.Statement.{statement}
 use Rattle.slip_writer.proofs.write_accepted.Tie as tie
