@@ -7,7 +7,7 @@ use mathlib.Core.Bool.{Bool, true, _&&_}
 use mathlib.Core.List.{List, [], _∷_, _++_}
 use lib.Dec.{eqb}
 use Rattle.refusal.specs.Refusal.{answerNumber}
-use Rattle.text.specs.Bytes.{firstBad, allOf}
+use Rattle.text.specs.Bytes.{firstBad, allOf, same}
 use Rattle.text.specs.Digits.{digitsOf, valueFrom, digitsText}
 use Rattle.text.specs.Split.{split}
 use Rattle.check_digits.specs.CheckDigit.{weighted, carriedOver, checkDigit, passes}
@@ -17,7 +17,7 @@ use Rattle.models.specs.Models.{modelOf, specialOf}
 use Rattle.reference.specs.Parts.{partsOf, partsFit, formed, joined, groupRight, groupsRight}
 use Rattle.reference.specs.Answers.{obeyAnswer, referenceAnswer}
 use Rattle.characters.specs.Characters.{firstWrong, characters}
-use Rattle.slip_fields.specs.Fields.{same, fieldAnswer}
+use Rattle.slip_fields.specs.Fields.{fieldAnswer}
 use Rattle.slip.specs.Slip.{countOf, fieldsAnswer, slipAnswer}
 use Rattle.slip_writer.specs.Writer.{joinLines, slipText}
 

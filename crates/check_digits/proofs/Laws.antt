@@ -4,7 +4,7 @@ use mathlib.Core.Path.{_≡_, refl, sym, ap, _∙_}
 use mathlib.Core.Bool.{Bool, true, false, cond}
 use mathlib.Core.List.{List, [], _∷_}
 use Prim.Native.Nat.{ℕ, suc, _+_, _-_, _*_, _/_, _%_, _≤_, _<_}
-use native.Mathlib.Nat.{mod-lt, mod-eq-of-lt, mod-eq-sub-mod, mul-add, add-mul, suc-mul, mul-left-comm, zero-mul, div-add-mod, add-mul-mod-self-left, mod-mod}
+use native.Mathlib.Nat.{mod-lt, mod-eq-of-lt, mod-eq-sub-mod, mul-add, add-mul, suc-mul, mul-left-comm, zero-mul, div-add-mod, add-mul-mod-self-left}
 use native.Mathlib.Numerals.{add-one}
 use native.Mathlib.Omega.{arith}
 use lib.Dec.{leb, ltb, lit<}
@@ -158,26 +158,18 @@ unfolding valueFrom
 value-over-97 v w [] e = e
 value-over-97 v w (d ∷ ds) e = value-over-97 (v * 10 + d) (w * 10 + d) ds (digit-over-97 v d ∙ ap (λ (x : ℕ). (x * 10 + d) % 97) e ∙ sym (digit-over-97 w d))
 
-pub value-skips : (r b : ℕ) → r < 97 → isDigit b ≡ false → r ≡ valueFrom r (digitsOf (b ∷ [])) % 97
-unfolding valueFrom digitsOf
-value-skips r b h e = rw e (sym (mod-eq-of-lt h))
-
-pub value-takes : (r b : ℕ) → isDigit b ≡ true → (r * 10 + (b - 48)) % 97 ≡ valueFrom r (digitsOf (b ∷ [])) % 97
-unfolding valueFrom digitsOf
-value-takes r b e = rw e
-
 -- the loop's turn, and its end
 module _ (r : ℕ) (s : List ℕ) (i : ℕ) where
-  pub value-on : (q : ℕ) → i < length s → q ≡ valueFrom r (digitsOf (getD s i 0 ∷ [])) % 97 → valueFrom r (digitsOf (drop i s)) % 97 ≡ valueFrom q (digitsOf (drop (i + 1) s)) % 97
+  pub value-on : (q : ℕ) → i < length s → q % 97 ≡ valueFrom r (digitsOf (getD s i 0 ∷ [])) % 97 → valueFrom r (digitsOf (drop i s)) % 97 ≡ valueFrom q (digitsOf (drop (i + 1) s)) % 97
   value-on q h e =
       rw (drop-cons s i 0 h, add-one)
       (ap (λ (l : List ℕ). valueFrom r l % 97) (digits-append (getD s i 0 ∷ []) (drop (suc i) s))
       ∙ ap (λ (n : ℕ). n % 97) (value-append r (digitsOf (getD s i 0 ∷ [])) (digitsOf (drop (suc i) s)))
-      ∙ value-over-97 (valueFrom r (digitsOf (getD s i 0 ∷ []))) q (digitsOf (drop (suc i) s)) (sym (mod-mod (valueFrom r (digitsOf (getD s i 0 ∷ []))) 97) ∙ ap (λ (n : ℕ). n % 97) (sym e)))
+      ∙ value-over-97 (valueFrom r (digitsOf (getD s i 0 ∷ []))) q (digitsOf (drop (suc i) s)) (sym e))
 
-  pub value-ends : length s ≤ i → i ≤ length s → r < 97 → r ≡ valueFrom r (digitsOf (drop i s)) % 97
+  pub value-ends : length s ≤ i → i ≤ length s → r % 97 ≡ valueFrom r (digitsOf (drop i s)) % 97
   unfolding valueFrom digitsOf
-  value-ends h g l = let e : i ≡ length s = omega arith in rw (e, drop-length) (sym (mod-eq-of-lt l))
+  value-ends h g = let e : i ≡ length s = omega arith in rw (e, drop-length)
 
 -- ---------------------------------------------------------------------------
 -- Sizes

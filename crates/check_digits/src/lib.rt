@@ -154,10 +154,11 @@ pub fn ends_right(rule: Rule, s: &[u8]) -> bool
     s[last] == 48 + d
 }
 
-// One more byte of a number taken over 97; what is no digit is passed over.
-fn read97(r: u32, b: u8) -> u32
-    requires { ⌜ r < 97 ⌝ }
-    ensures { λ q. ⌜ (q < 97) × (q ≡ valueFrom r (digitsOf (b ∷ [])) % 97) ⌝ }
+// One more byte of a number that is kept as it is while it is small, and over 97 where it grows; what is no digit is
+// passed over.
+fn read97(r: u64, b: u8) -> u64
+    requires { ⌜ r < 100000000000000000 ⌝ }
+    ensures { λ q. ⌜ (q < 100000000000000000) × (q % 97 ≡ valueFrom r (digitsOf (b ∷ [])) % 97) ⌝ }
 {
     if b < 48 {
         return r;
@@ -165,20 +166,24 @@ fn read97(r: u32, b: u8) -> u32
     if 57 < b {
         return r;
     }
-    (r * 10 + (b - 48) as u32) % 97
+    let v = r * 10 + (b - 48) as u64;
+    if v < 100000000000000000 {
+        return v;
+    }
+    v % 97
 }
 
 // The remainder over 97 of the number whose digits are those of `before` and then those of the text.
 pub fn remainder97(before: u32, s: &[u8]) -> u32
     ensures { λ r. ⌜ r ≡ valueFrom before (digitsOf (now (s .entry))) % 97 ⌝ }
 {
-    let mut r = before % 97;
+    let mut r = before as u64;
     let mut i = 0;
     while i < s.len() {
         r = read97(r, s[i]);
         i += 1;
     }
-    r
+    (r % 97) as u32
 }
 
 // Checks digits that end in their check digit: 1 for a length that is not 1 to 22, then 3 for a byte that is no

@@ -1,2 +1,3 @@
 -- What is promised of models.
 pub mod Theorems
+pub mod ByteWithin

@@ -4,9 +4,13 @@ use mathlib.Core.Bool.{true, false, cond, _&&_}
 use mathlib.Core.List.{List, [], _∷_}
 use lib.Dec.{eqb}
 use lib.ListN.{length, getD}
+use Rattle.refusal.specs.Refusal.{none}
+use Rattle.refusal.specs.declared.Answer.{Answer}
+use Rattle.refusal.specs.declared.Answer.the-variants.{Accepted, Refused}
+use Rattle.refusal.specs.declared.Refusal.the-variants.{Form, Model as Unhandled}
 use Rattle.text.specs.Digits.{twoDigits}
 use Rattle.text.specs.declared.Found.{Found}
-use Rattle.text.specs.declared.Found.the-variants.{Nothing}
+use Rattle.text.specs.declared.Found.the-variants.{At, Nothing}
 use Rattle.check_digits.specs.declared.Rule.{Rule}
 use Rattle.check_digits.specs.declared.Rule.the-variants.{Ini, Mod1110}
 use Rattle.models.specs.declared.Group.{Group}
@@ -81,3 +85,13 @@ modelOf n =
     (cond (eqb n 10) (plain (ini 1 1) (ini 2 3) noGroup)
     (cond (eqb n 11) (plain (ini 1 1) (ini 2 2) noGroup)
     (specialOf n)))))))))))
+
+-- ---------------------------------------------------------------------------
+-- What judging a model's text answers: "`HR` and two digits, else 5 (never 3 or 4); then 7"
+
+abbrev pub modelFrom : Found → Answer
+modelFrom (At n) = cond (modelOf n .handled) Accepted (Refused (Unhandled none))
+modelFrom Nothing = Refused (Form none)
+
+abbrev pub modelAnswer : List ℕ → Answer
+modelAnswer s = modelFrom (modelNumber s)

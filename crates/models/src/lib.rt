@@ -4,8 +4,10 @@
 // whoever judges a reference goes by the value that it gives.
 ghost use mathlib.Core.Path.{_≡_};
 ghost use Prim.Native.Nat.{_≤_, _<_, _+_};
-ghost use Rattle.models.specs.Models.{model, plain, over, modelNumber, modelOf, specialOf};
+ghost use Rattle.models.specs.Models.{model, plain, over, modelNumber, modelOf, specialOf, modelAnswer};
 use check_digits::Rule;
+use refusal::Answer;
+use refusal::Refusal;
 use text::Found;
 
 // A check group: how many parts stand before it, how many it joins, and the rule that its last digit obeys.
@@ -125,5 +127,21 @@ fn special(n: usize) -> Model
             lengths: [1, 12, 1, 12, 1, 12, 1, 12],
             groups: [none, none, none, none],
         },
+    }
+}
+
+// A model's text: 5, then 7 where it is not handled.
+pub fn judge(s: &[u8]) -> Answer
+    ensures { λ r. ⌜ r ≡ modelAnswer (now (s .entry)) ⌝ }
+{
+    match number(s) {
+        Found::At(n) => {
+            let m = rules(n);
+            if m.handled {
+                return Answer::Accepted;
+            }
+            Answer::Refused(Refusal::Model(refusal::nowhere()))
+        }
+        Found::Nothing => Answer::Refused(Refusal::Form(refusal::nowhere())),
     }
 }

@@ -2,3 +2,4 @@
 pub mod Laws
 pub mod Shape
 pub mod Theorems
+pub mod ByteWithin

@@ -16,22 +16,20 @@ use Rattle.refusal.specs.declared.Answer.{Answer}
 use Rattle.refusal.specs.declared.Answer.the-variants.{Accepted, Refused}
 use Rattle.refusal.specs.declared.Refusal.{Refusal}
 use Rattle.refusal.specs.declared.Refusal.the-variants.{Size, Ends}
-use Rattle.text.specs.Bytes.{permits, later, firstBad}
+use Rattle.text.specs.Bytes.{permits, later, firstBad, same}
 use Rattle.text.specs.declared.Class.{Class}
-use Rattle.text.specs.declared.Class.the-variants.{Digits, Account, Reference, Line, Letters}
+use Rattle.text.specs.declared.Class.the-variants.{Digits, Line, Letters}
 use Rattle.text.specs.declared.Found.{Found}
 use Rattle.text.specs.declared.Found.the-variants.{At, Nothing}
 use Rattle.text.specs.Split.{longer, split}
+use Rattle.text.proofs.ByteWithin.{Below, below-later, bad-below, Within, within-one, found-within}
 use Rattle.text.proofs.Laws.{to-the-end, left, entered, and-first, and-second}
 use Rattle.characters.specs.Characters.{isSingle, isPair, firstWrong, characters}
 use Rattle.characters.specs.Answers.{textFrom}
-use Rattle.account.specs.Account.{ibanFormed, ibanPasses}
-use Rattle.account.specs.Answers.{ibanFrom}
-use Rattle.models.specs.declared.Model.{Model}
-use Rattle.models.specs.Models.{modelNumber, modelOf}
-use Rattle.reference.specs.Parts.{formed, groupsRight, partsOf}
-use Rattle.reference.specs.Answers.{obeyAnswer, numberAnswer, textAnswer as judgedText}
-use Rattle.slip_fields.specs.Fields.{fieldAnswer, same, hrvhub30, eur, amountFrom, modelFrom, purposeFrom, mostOf}
+use Rattle.account.proofs.ByteWithin.{iban-within}
+use Rattle.models.proofs.ByteWithin.{model-within}
+use Rattle.reference.proofs.ByteWithin.{reference-within}
+use Rattle.slip_fields.specs.Fields.{fieldAnswer, hrvhub30, eur, amountFrom, purposeFrom, mostOf}
 use Rattle.slip.specs.Slip.{countOf, slipEnds, judged, fieldsAnswer, slipAnswer, isAccepted, pieceOf, fieldOf}
 
 -- ---------------------------------------------------------------------------
@@ -166,26 +164,6 @@ piece-found s r at k left h e f =
 -- ---------------------------------------------------------------------------
 -- The byte of a field's refusal
 
--- a scan's place is below a number
-abbrev Below : ℕ → Found → Type 0
-Below n (At i) = i < n
-Below n Nothing = Unit
-
--- one place further on, in a text of a byte more
-below-later : (n : ℕ) (f : Found) → Below n f → Below (suc n) (later f)
-below-later n (At i) h = omega arith
-below-later n Nothing h = tt
-
--- what the scan for a class finds
-bad-below : (k : Class) (s : List ℕ) → Below (length s) (firstBad k s)
-unfolding firstBad
-bad-below k [] = tt
-bad-below k (b ∷ s) = go (permits k b) (bad-below k s)
-  where
-    go : (t : Bool) → Below (length s) (firstBad k s) → Below (suc (length s)) (cond t (later (firstBad k s)) (At 0))
-    go true h = below-later (length s) (firstBad k s) h
-    go false h = omega arith
-
 -- what the scan for characters finds
 wrong-below : (s : List ℕ) → Below (length s) (firstWrong s)
 unfolding firstWrong
@@ -202,21 +180,6 @@ wrong-below (b ∷ (c ∷ s)) = go (isSingle b) (isPair b c) (wrong-below (c ∷
     go true u f g = below-later (suc (length s)) (firstWrong (c ∷ s)) f
     go false true f g = below-later (suc (length s)) (later (firstWrong s)) (below-later (length s) (firstWrong s) g)
     go false false f g = omega arith
-
--- a refusal's byte is at most a number
-abbrev Within : ℕ → Answer → Type 0
-Within n Accepted = Unit
-Within n (Refused r) = placeOf r .byte ≤ n
-
--- a choice of two answers
-within-one : (n : ℕ) (b : Bool) (x y : Answer) → Within n x → Within n y → Within n (cond b x y)
-within-one n true x y f g = f
-within-one n false x y f g = g
-
--- an answer by a place that a scan found
-found-within : (n : ℕ) (g : Found → Answer) → ((i : ℕ) → i < n → Within n (g (At i))) → Within n (g Nothing) → (f : Found) → Below n f → Within n (g f)
-found-within n g a z (At i) h = a i h
-found-within n g a z Nothing h = z
 
 -- each kind of field refuses at a byte that a scan found, or at 0
 module _ (s : List ℕ) where
@@ -236,34 +199,6 @@ module _ (s : List ℕ) where
   text-within : (most : ℕ) → Within (length s) (textFrom most s (firstWrong s))
   text-within most = found-within (length s) (textFrom most s) (λ i h. omega arith) (within-one (length s) (leb (characters s) most) _ _ tt nowhere-within) (firstWrong s) (wrong-below s)
 
-  -- field 10
-  iban-within : Within (length s) (ibanFrom s (firstBad Account s))
-  iban-within =
-      found-within (length s) (ibanFrom s) (λ i h. omega arith)
-      (within-one (length s) (eqb (length s) 21) _ _ (within-one (length s) (ibanFormed s) _ _ (within-one (length s) (ibanPasses s) _ _ tt nowhere-within) nowhere-within) nowhere-within)
-      (firstBad Account s) (bad-below Account s)
-
-  -- field 11
-  model-within : (f : Found) → Within (length s) (modelFrom f)
-  model-within (At i) = within-one (length s) (modelOf i .handled) _ _ tt nowhere-within
-  model-within Nothing = nowhere-within
-
-  -- field 12, its parts and check groups
-  obey-within : (model : Model) → Within (length s) (obeyAnswer model s)
-  unfolding obeyAnswer
-  obey-within model =
-      within-one (length s) (formed model s) _ _
-      (within-one (length s) (groupsRight (model .groups) (partsOf s)) _ _ tt nowhere-within)
-      nowhere-within
-
-  -- field 12
-  reference-within : (f : Found) → Within (length s) (numberAnswer s f)
-  reference-within Nothing = nowhere-within
-  reference-within (At i) =
-      within-one (length s) (modelOf i .handled) _ _
-      (found-within (length s) (judgedText (modelOf i) s) (λ j h. omega arith) (within-one (length s) (leb (length s) 22) _ _ (obey-within (modelOf i)) nowhere-within) (firstBad Reference s) (bad-below Reference s))
-      nowhere-within
-
   -- so every field does
   field-within : (n : ℕ) (m : List ℕ) → Within (length s) (fieldAnswer n m s)
   unfolding fieldAnswer
@@ -271,9 +206,9 @@ module _ (s : List ℕ) where
       within-one (length s) (eqb n 1) _ _ (within-one (length s) (same hrvhub30 s) _ _ tt nowhere-within)
       (within-one (length s) (eqb n 2) _ _ (within-one (length s) (same eur s) _ _ tt nowhere-within)
       (within-one (length s) (eqb n 3) _ _ amount-within
-      (within-one (length s) (eqb n 10) _ _ iban-within
-      (within-one (length s) (eqb n 11) _ _ (model-within (modelNumber s))
-      (within-one (length s) (eqb n 12) _ _ (reference-within (modelNumber m))
+      (within-one (length s) (eqb n 10) _ _ (iban-within s)
+      (within-one (length s) (eqb n 11) _ _ (model-within (length s) s)
+      (within-one (length s) (eqb n 12) _ _ (reference-within s m)
       (within-one (length s) (eqb n 13) _ _ purpose-within (text-within (mostOf n))))))))
 
 -- the byte of a field's refusal is at most the field's length

@@ -3,11 +3,10 @@
 // Document 01, "The slip's fourteen fields", with source 000. Every field is judged by one name,
 // `slip_fields::judge_field`; reading goes from line feed to line feed and stops at the first refusal.
 ghost use mathlib.Core.Path.{_≡_};
-ghost use mathlib.Core.List.{[], _∷_};
-ghost use Prim.Native.Nat.{_+_, _≤_, _<_, _^_};
+ghost use mathlib.Core.List.{[]};
+ghost use Prim.Native.Nat.{_+_, _<_, _^_};
 ghost use lib.ListN.{length};
 ghost use Rattle.refusal.specs.Refusal.{placeOf};
-ghost use Rattle.text.specs.Digits.{digitsOf, valueFrom, valueOf};
 ghost use Rattle.text.specs.Split.{split};
 ghost use Rattle.slip_fields.specs.Fields.{fieldAnswer};
 ghost use Rattle.slip.specs.Slip.{countOf, slipEnds, told, judged, fieldsAnswer, slipAnswer, isAccepted, pieceOf, fieldOf, centsOf};
@@ -191,40 +190,12 @@ pub enum Amount {
     Refused(Refusal),
 }
 
-// A number with one digit more after it; what is no digit is passed over.
-fn with_digit(v: u64, b: u8) -> u64
-    requires { ⌜ v < 10 ^ 15 ⌝ }
-    ensures { λ r. ⌜ r ≡ valueFrom v (digitsOf (b ∷ [])) ⌝ }
-{
-    if b < 48 {
-        return v;
-    }
-    if 57 < b {
-        return v;
-    }
-    v * 10 + (b - 48) as u64
-}
-
-// The number that at most fifteen digits write.
-fn value(s: &[u8]) -> u64
-    requires { ⌜ length (now s) ≤ 15 ⌝ }
-    ensures { λ r. ⌜ r ≡ valueOf (digitsOf (now (s .entry))) ⌝ }
-{
-    let mut v: u64 = 0;
-    let mut i = 0;
-    while i < s.len() {
-        v = with_digit(v, s[i]);
-        i += 1;
-    }
-    v
-}
-
 // The amount of a slip in cents.
 pub fn cents(s: &[u8]) -> Amount
     ensures { λ r. ⌜ r ≡ centsOf (now (s .entry)) ⌝ }
 {
     match read(s) {
-        Answer::Accepted => Amount::Cents(value(piece(s, 2))),
+        Answer::Accepted => Amount::Cents(sums::number(piece(s, 2))),
         Answer::Refused(r) => Amount::Refused(r),
     }
 }

@@ -11,7 +11,7 @@ use borrow.Author.Tests.{eqb-true, eq-eqb, ne-eqb, leb-true}
 use Rattle.refusal.specs.declared.Answer.{Answer}
 use Rattle.refusal.specs.declared.Answer.the-variants.{Accepted, Refused}
 use Rattle.refusal.specs.declared.Refusal.{Refusal}
-use Rattle.text.specs.Bytes.{isDigit, permits, firstBad, allOf}
+use Rattle.text.specs.Bytes.{isDigit, permits, firstBad, allOf, same}
 use Rattle.text.specs.Digits.{twoDigits}
 use Rattle.text.specs.declared.Class.{Class}
 use Rattle.text.specs.declared.Class.the-variants.{Digits, Account, Reference, Line, Letters}
@@ -21,12 +21,12 @@ use Rattle.text.proofs.Laws.{both-true, and-second, digit-bounds, isNothing, al
 use Rattle.characters.specs.Answers.{textAnswer}
 use Rattle.characters.proofs.Theorems as texts
 use Rattle.account.specs.Answers.{ibanFrom, ibanAnswer, ibanCheckAnswer}
-use Rattle.models.specs.Models.{modelNumber, modelOf}
+use Rattle.models.specs.Models.{modelNumber, modelOf, modelFrom, modelAnswer}
 use Rattle.models.specs.declared.Model.{Model}
 use Rattle.reference.specs.Answers.{numberAnswer, obeyAnswer, referenceAnswer}
 use Rattle.reference.specs.Answers as reference
-use Rattle.slip_fields.specs.Fields.{same, wordAnswer, amountFrom, amountAnswer, modelFrom, modelAnswer, purposeFrom, purposeAnswer}
-use Rattle.slip_fields.proofs.Laws.{same-equal}
+use Rattle.slip_fields.specs.Fields.{wordAnswer, amountFrom, amountAnswer, purposeFrom, purposeAnswer}
+use Rattle.text.proofs.Same.{same-equal}
 
 -- ---------------------------------------------------------------------------
 -- Choices that accept, and scans that find nothing

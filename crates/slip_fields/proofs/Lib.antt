@@ -1,4 +1,3 @@
 -- What the proofs of `slip_fields` share, and what its definitions promise.
-pub mod Laws
 pub mod Accepted
 pub mod Theorems

@@ -13,7 +13,7 @@ use Rattle.refusal.specs.declared.Answer.{Answer}
 use Rattle.refusal.specs.declared.Answer.the-variants.{Accepted}
 use Rattle.text.specs.Bytes.{allOf}
 use Rattle.text.specs.declared.Class.the-variants.{Digits, Line}
-use Rattle.slip_fields.specs.Fields.{hrvhub30, eur, mostOf, amountAnswer, modelAnswer, purposeAnswer, fieldAnswer}
+use Rattle.slip_fields.specs.Fields.{hrvhub30, eur, mostOf, amountAnswer, purposeAnswer, fieldAnswer}
 use Rattle.slip_fields.specs.Sizes.{sizeOf}
 use Rattle.slip_fields.proofs.Accepted as accepted
 
@@ -119,10 +119,6 @@ judge-field-only n m s = defined-only (fieldAnswer n m s)
 -- of an amount
 pub judge-amount-only : (s : List ℕ) → Only (λ (r : Answer). r ≡ amountAnswer s)
 judge-amount-only s = defined-only (amountAnswer s)
-
--- of a model
-pub judge-model-only : (s : List ℕ) → Only (λ (r : Answer). r ≡ modelAnswer s)
-judge-model-only s = defined-only (modelAnswer s)
 
 -- of a purpose
 pub judge-purpose-only : (s : List ℕ) → Only (λ (r : Answer). r ≡ purposeAnswer s)

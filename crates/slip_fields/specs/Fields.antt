@@ -1,31 +1,24 @@
 -- Document 01, "The slip's fourteen fields": what each field must be. Within a field 3 with its byte, 4, 5, then 6 to 9.
 use Prim.Native.Nat.{ℕ}
-use mathlib.Core.Bool.{Bool, true, false, cond, _&&_, _||_}
+use mathlib.Core.Bool.{cond, _||_}
 use mathlib.Core.List.{List, [], _∷_}
 use lib.Dec.{eqb}
 use lib.ListN.{length}
 use Rattle.refusal.specs.Refusal.{none, byteAt}
 use Rattle.refusal.specs.declared.Answer.{Answer}
 use Rattle.refusal.specs.declared.Answer.the-variants.{Accepted, Refused}
-use Rattle.refusal.specs.declared.Refusal.the-variants.{Length, Form, Model}
-use Rattle.text.specs.Bytes.{firstBad}
+use Rattle.refusal.specs.declared.Refusal.the-variants.{Length, Form}
+use Rattle.text.specs.Bytes.{firstBad, same}
 use Rattle.text.specs.declared.Class.the-variants.{Digits, Letters}
 use Rattle.text.specs.declared.Found.{Found}
 use Rattle.text.specs.declared.Found.the-variants.{At, Nothing}
 use Rattle.characters.specs.Answers.{textAnswer}
 use Rattle.account.specs.Answers.{ibanAnswer}
-use Rattle.models.specs.Models.{modelNumber, modelOf}
+use Rattle.models.specs.Models.{modelAnswer}
 use Rattle.reference.specs.Answers.{referenceAnswer}
 
 -- ---------------------------------------------------------------------------
 -- 1 and 2: words, "only 5 applies to them"
-
--- the same bytes
-unfoldable pub same : List ℕ → List ℕ → Bool
-same [] [] = true
-same [] (b ∷ t) = false
-same (a ∷ s) [] = false
-same (a ∷ s) (b ∷ t) = eqb a b && same s t
 
 abbrev pub wordAnswer : List ℕ → List ℕ → Answer
 wordAnswer w s = cond (same w s) Accepted (Refused (Form none))
@@ -59,16 +52,6 @@ mostOf n =
     (cond (eqb n 7) 25
     (cond (eqb n 8) 25
     (cond (eqb n 9) 27 35)))))
-
--- ---------------------------------------------------------------------------
--- 11: "`HR` and two digits, else 5 (never 3 or 4); then 7"
-
-abbrev pub modelFrom : Found → Answer
-modelFrom (At n) = cond (modelOf n .handled) Accepted (Refused (Model none))
-modelFrom Nothing = Refused (Form none)
-
-abbrev pub modelAnswer : List ℕ → Answer
-modelAnswer s = modelFrom (modelNumber s)
 
 -- ---------------------------------------------------------------------------
 -- 13: "empty (here) or four letters; a byte not A to Z is 3, another length 4"

@@ -3,35 +3,18 @@
 // Document 01, "The slip's fourteen fields". Within a field 3 with its byte, 4, 5, then 6 to 9; the byte is counted
 // within the field, and whoever knows where the field stands says so.
 ghost use mathlib.Core.Path.{_≡_};
-ghost use Rattle.slip_fields.specs.Fields.{same, wordAnswer, amountAnswer, mostOf, modelAnswer, purposeAnswer, fieldAnswer};
+ghost use Rattle.slip_fields.specs.Fields.{wordAnswer, amountAnswer, mostOf, purposeAnswer, fieldAnswer};
 use refusal::Answer;
 use refusal::Place;
 use refusal::Refusal;
 use text::Class;
 use text::Found;
 
-// Whether two texts are the same bytes.
-fn is_same(a: &[u8], b: &[u8]) -> bool
-    ensures { λ r. ⌜ r ≡ same (now (a .entry)) (now (b .entry)) ⌝ }
-{
-    if a.len() != b.len() {
-        return false;
-    }
-    let mut i = 0;
-    while i < a.len() {
-        if a[i] != b[i] {
-            return false;
-        }
-        i += 1;
-    }
-    true
-}
-
 // A required word: 5.
 fn judge_word(word: &[u8], s: &[u8]) -> Answer
     ensures { λ r. ⌜ r ≡ wordAnswer (now (word .entry)) (now (s .entry)) ⌝ }
 {
-    if is_same(word, s) {
+    if text::is_same(word, s) {
         return Answer::Accepted;
     }
     Answer::Refused(Refusal::Form(refusal::nowhere()))
@@ -53,22 +36,6 @@ pub fn judge_amount(s: &[u8]) -> Answer
             }
             Answer::Refused(Refusal::Length(refusal::nowhere()))
         }
-    }
-}
-
-// A model: 5, 7.
-pub fn judge_model(s: &[u8]) -> Answer
-    ensures { λ r. ⌜ r ≡ modelAnswer (now (s .entry)) ⌝ }
-{
-    match models::number(s) {
-        Found::At(n) => {
-            let m = models::rules(n);
-            if m.handled {
-                return Answer::Accepted;
-            }
-            Answer::Refused(Refusal::Model(refusal::nowhere()))
-        }
-        Found::Nothing => Answer::Refused(Refusal::Form(refusal::nowhere())),
     }
 }
 
@@ -118,7 +85,7 @@ pub fn judge_field(n: usize, before: &[u8], s: &[u8]) -> Answer
         2 => judge_word(b"EUR", s),
         3 => judge_amount(s),
         10 => account::iban(s),
-        11 => judge_model(s),
+        11 => models::judge(s),
         12 => reference::reference(before, s),
         13 => judge_purpose(s),
         _ => characters::judge(most_of(n), s),

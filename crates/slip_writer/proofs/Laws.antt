@@ -1,12 +1,10 @@
 -- Laws of texts written one behind another, of fields judged one after another, and of what the writer answers. Assumes nothing.
-use mathlib.Core.Path.{_≡_, refl, sym, ap, _∙_}
+use mathlib.Core.Path.{_≡_, refl, sym, _∙_}
 use mathlib.Core.List.{List, [], _∷_, _++_, append-assoc}
-use Prim.Native.Nat.{ℕ, zero, suc, _+_, _-_, _/_, _%_, _^_, _≤_, _<_}
-use native.Mathlib.Numerals.{add-one}
+use Prim.Native.Nat.{ℕ, suc, _+_, _≤_, _<_}
 use native.Mathlib.Omega.{arith}
-use native.Mathlib.Nat.{zero-add, add-zero, pow-suc, one-le-pow}
-use lib.ListN.{length, getD, drop, set, length-append}
-use lib.Seq.{sets, drop-cons, drop-length}
+use native.Mathlib.Nat.{zero-add, add-zero}
+use lib.ListN.{length, set, length-append}
 use borrow.Author.Tests.{lt-ltb, le-ltb}
 use Rattle.refusal.specs.declared.Place.{Place}
 use Rattle.refusal.specs.declared.Refusal.{Refusal}
@@ -20,55 +18,8 @@ use Rattle.text.specs.Digits.{digitsText}
 use Rattle.slip_writer.specs.Writer.{joinLines, slipText, givenAnswer, roomAnswer, writeAnswer}
 use Rattle.text.specs.Stands.{Stands}
 use Rattle.text.proofs.Stands.{stands-append, stands-length}
+use Rattle.room.proofs.Digits.{digits-length}
 use Rattle.slip_writer.specs.Steps.{firstOf, three, WritesSlip, WritesAccepted}
-
--- ---------------------------------------------------------------------------
--- Loops that write: what is left to be written makes up the whole
-
--- one byte more of a text
-pub copied-more :
-    (s out whole : List ℕ) (at i : ℕ) → i < length s → sets out (at + i) (drop i s) ≡ whole
-    → sets (set out (at + i) (getD s i 0)) (at + (i + 1)) (drop (i + 1) s) ≡ whole
-copied-more s out whole at i h e =
-    let z : at + (i + 1) ≡ suc (at + i) = omega arith in
-    rw (z, add-one i) (rw (drop-cons s i 0 h) at e)
-
--- nothing left of a text
-pub copied-all : (s out whole : List ℕ) (at i : ℕ) → i ≡ length s → sets out (at + i) (drop i s) ≡ whole → out ≡ whole
-copied-all s out whole at i z e = rw (z, drop-length) at e
-
--- a tenth of a power of ten
-pub tenth : (n unit : ℕ) → 0 < n → unit ≡ 10 ^ n → unit / 10 ≡ 10 ^ (n - 1)
-tenth zero unit h e = absurd (omega arith)
-tenth (suc n) unit h e = let z : suc n - 1 ≡ n = omega arith in rw (e, z, pow-suc) (omega arith)
-
--- and it is no zero
-pub tenth-some : (n unit : ℕ) → 0 < n → unit ≡ 10 ^ n → 0 < unit / 10
-tenth-some n unit h e = rw (tenth n unit h e) (one-le-pow (n - 1) 10 (omega arith))
-
--- one digit more of an amount
-pub digit-more :
-    (cents unit left next : ℕ) (out whole : List ℕ) → 0 < left → unit ≡ 10 ^ left → sets out next (digitsText left cents) ≡ whole
-    → sets (set out next (48 + (cents / (unit / 10)) % 10)) (next + 1) (digitsText (left - 1) cents) ≡ whole
-unfolding digitsText
-digit-more cents unit zero next out whole h z e = absurd (omega arith)
-digit-more cents unit (suc left) next out whole h z e =
-    let y : suc left - 1 ≡ left = omega arith in
-    rw (tenth (suc left) unit h z, y, add-one next) e
-
--- no digit left
-pub digits-all : (cents left next : ℕ) (out whole : List ℕ) → left ≡ 0 → sets out next (digitsText left cents) ≡ whole → out ≡ whole
-unfolding digitsText
-digits-all cents left next out whole z e = rw z at e
-
--- as many digits as asked
-pub digits-length : (n a : ℕ) → length (digitsText n a) ≡ n
-unfolding digitsText
-digits-length zero a = refl
-digits-length (suc n) a = ap suc (digits-length n a)
-
--- ---------------------------------------------------------------------------
--- Texts one behind another
 
 -- ---------------------------------------------------------------------------
 -- Lines

@@ -2,5 +2,4 @@
 pub mod Laws
 pub mod Sizes
 pub mod Lines
-pub mod Digits
 pub mod Theorems

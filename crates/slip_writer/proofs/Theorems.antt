@@ -16,22 +16,21 @@ use Rattle.refusal.specs.declared.Answer.the-variants.{Accepted, Refused}
 use Rattle.refusal.specs.Refusal.{none}
 use Rattle.refusal.specs.declared.Refusal.{Refusal}
 use Rattle.text.proofs.Laws.{both-true}
-use Rattle.text.specs.Digits.{digitsOf, valueOf}
+use Rattle.text.specs.Digits.{digitsOf, valueOf, digitsText}
 use Rattle.text.specs.Split.{split}
+use Rattle.room.proofs.Digits.{digits-length, text-digits, number-back, value-below, digits-again}
 use Rattle.slip_fields.specs.Fields.{hrvhub30, eur, fieldAnswer}
 use Rattle.slip_fields.proofs.Theorems.{no-line-feed, first-is-hrvhub30, second-is-eur, third-is-digits, hrvhub30-accepted, eur-accepted, digits-accepted, before-matters-to-12-alone}
 use Rattle.slip.specs.Slip.{countOf, slipEnds, fieldsAnswer, slipAnswer, pieceOf, fieldOf}
 use Rattle.slip_writer.specs.declared.Written.{Written}
 use Rattle.slip_writer.specs.declared.Written.the-variants.{Bytes}
-use Rattle.text.specs.Digits.{digitsText}
 use Rattle.slip_writer.specs.Writer.{joinLines, slipText, givenAnswer, afterFields, writeAnswer, leftBy}
 use Rattle.slip_writer.specs.Steps.{WritesSlip}
 use Rattle.slip.specs.Slip.{amountOf}
 use Rattle.slip_writer.specs.Claims.{EachLine, none as no-line, more, linesOf, fieldsOf, ReadsBack, WritesBack}
-use Rattle.slip_writer.proofs.Laws.{digits-length, slip-length}
+use Rattle.slip_writer.proofs.Laws.{slip-length}
 use Rattle.slip_writer.proofs.Sizes.{judged-accepted, given-first, given-size, sizes, sizes-eleven}
 use Rattle.slip_writer.proofs.Lines.{split-joined, count-joined, last-joined, joined-split, lines-of-text, line-at}
-use Rattle.slip_writer.proofs.Digits.{text-digits, amount-back, amount-again, amount-below}
 
 -- ---------------------------------------------------------------------------
 -- Fields accepted by the writer and by the reader
@@ -156,7 +155,7 @@ written-is-accepted cents fields room n all e =
       accepted = slip-accepted cents fields (w .given) all;
       size = w .size;
       digits = slip-digits cents fields (w .given) all;
-      amount = rw (slip-digits cents fields (w .given) all) (amount-back cents (w .small));
+      amount = rw (slip-digits cents fields (w .given) all) (number-back 15 cents (w .small));
       texts = slip-texts cents fields (w .given) all;
     }
 
@@ -241,8 +240,8 @@ lines-again s a (p ∷ (q ∷ (r ∷ fields))) l n g w =
     listed-ext (fieldOf s) (λ (i : ℕ). getD fields i []) 4 0 11 (λ i h. field-line s a (p ∷ (q ∷ (r ∷ fields))) l n i h ∙ rw zero-add)
     ∙ listed-drop fields 0 11 (omega arith) in
     record {
-      same = rw (amount, texts) (slip-lines p q r s (valueOf (digitsOf r)) fields (first-is-hrvhub30 [] p (h₁ .0)) (second-is-eur p q (h₂ .0)) (amount-again r (d .0) (d .1)) w);
-      small = rw amount (amount-below r (d .0) (d .1));
+      same = rw (amount, texts) (slip-lines p q r s (valueOf (digitsOf r)) fields (first-is-hrvhub30 [] p (h₁ .0)) (second-is-eur p q (h₂ .0)) (rw (d .1) at (digits-again r (d .0))) w);
+      small = rw amount (value-below 15 r (d .0) (d .1));
       given = rw texts (given-four [] r fields ∙ h₃ .1);
     }
 

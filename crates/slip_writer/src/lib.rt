@@ -28,12 +28,8 @@ fn put(out: &mut [u8], at: usize, s: &[u8]) -> usize
     requires { ⌜ at + length (now s) ≤ length (now out) ⌝ }
     ensures { λ r. ⌜ Stands (now (out .entry)) at (now (s .entry)) r (now (out .exit)) ⌝ }
 {
-    let mut i = 0;
-    while i < s.len() {
-        out[at + i] = s[i];
-        i += 1;
-    }
-    at + i
+    room::put(out, at, s);
+    at + s.len()
 }
 
 // A text, and a line feed.
@@ -51,16 +47,8 @@ fn put_amount(out: &mut [u8], at: usize, cents: u64) -> usize
     requires { ⌜ at + 15 ≤ length (now out) ⌝ }
     ensures { λ r. ⌜ Stands (now (out .entry)) at (digitsText 15 cents) r (now (out .exit)) ⌝ }
 {
-    let mut next = at;
-    let mut left: usize = 15;
-    let mut unit: u64 = 1000000000000000;
-    while left > 0 {
-        left -= 1;
-        unit /= 10;
-        out[next] = 48 + (cents / unit % 10) as u8;
-        next += 1;
-    }
-    next
+    room::put_digits(out, at, 15, cents);
+    at + 15
 }
 
 // Fifteen digits of an amount, and a line feed.

@@ -2,3 +2,6 @@
 pub mod Laws
 pub mod Theorems
 pub mod Stands
+pub mod Same
+pub mod ByteWithin
+pub mod Values

@@ -7,7 +7,7 @@ use Prim.Native.Nat.{ℕ}
 use Rattle.refusal.specs.Only.{Only, defined-only}
 use Rattle.text.specs.declared.Class.{Class}
 use Rattle.text.specs.declared.Found.{Found}
-use Rattle.text.specs.Bytes.{isDigit, permits, firstBad, allOf, marks}
+use Rattle.text.specs.Bytes.{isDigit, permits, firstBad, allOf, marks, same}
 use Rattle.text.specs.Digits.{twoDigits}
 
 -- ---------------------------------------------------------------------------
@@ -31,3 +31,6 @@ module _ (k : Class) where
 
 pub count-marks-only : (s : List ℕ) → Only (λ (r : ℕ). r ≡ marks s)
 count-marks-only s = defined-only (marks s)
+
+pub is-same-only : (s t : List ℕ) → Only (λ (r : Bool). r ≡ same s t)
+is-same-only s t = defined-only (same s t)

@@ -3,8 +3,10 @@
 // One scan serves every field: it finds the first byte that a class does not permit. Document 01 names the
 // classes; specs/Bytes.antt says them once.
 ghost use mathlib.Core.Path.{_≡_};
+ghost use mathlib.Core.Bool.{_&&_, _||_};
+ghost use lib.Dec.{eqb, leb};
 ghost use Rattle.text.specs.Digits.{twoDigits};
-ghost use Rattle.text.specs.Bytes.{permits, isDigit, isLetter, firstBad, allOf, marks};
+ghost use Rattle.text.specs.Bytes.{permits, isDigit, isLetter, firstBad, allOf, marks, isPlain, isCroatian, same};
 
 // The classes of bytes that document 01 names.
 pub enum Class {
@@ -26,6 +28,14 @@ pub enum Class {
     Line,
     // A to Z: a purpose.
     Letters,
+    // A blank alone: a place of a wage line that holds nothing.
+    Blanks,
+    // `0` alone: a number of a wage line that is absent.
+    Zeros,
+    // A to Z, digits and blanks: an IBAN's place in a wage line.
+    Place,
+    // The description of a wage order, in WIN-1250.
+    Description,
 }
 
 // Where a scan stopped.
@@ -71,6 +81,10 @@ pub fn permitted(class: Class, b: u8) -> bool
         Class::Part => b != 45,
         Class::Line => b != 10,
         Class::Letters => is_letter(b),
+        Class::Blanks => b == 32,
+        Class::Zeros => b == 48,
+        Class::Place => is_place_byte(b),
+        Class::Description => is_description_byte(b),
     }
 }
 
@@ -119,6 +133,80 @@ fn is_wet_reference_byte(b: u8) -> bool
     b == 63
 }
 
+fn is_place_byte(b: u8) -> bool
+    ensures { λ r. ⌜ r ≡ permits Class.Place b ⌝ }
+{
+    if is_account_byte(b) {
+        return true;
+    }
+    b == 32
+}
+
+// A letter a to z.
+fn is_small(b: u8) -> bool
+    ensures { λ r. ⌜ r ≡ (leb 97 b && leb b 122) ⌝ }
+{
+    if b < 97 {
+        return false;
+    }
+    b <= 122
+}
+
+// A blank, or one of `, - . /`.
+fn is_stop(b: u8) -> bool
+    ensures { λ r. ⌜ r ≡ (eqb b 32 || leb 44 b && leb b 47) ⌝ }
+{
+    if b == 32 {
+        return true;
+    }
+    if b < 44 {
+        return false;
+    }
+    b <= 47
+}
+
+fn is_plain(b: u8) -> bool
+    ensures { λ r. ⌜ r ≡ isPlain b ⌝ }
+{
+    if is_digit(b) {
+        return true;
+    }
+    if is_letter(b) {
+        return true;
+    }
+    if is_small(b) {
+        return true;
+    }
+    is_stop(b)
+}
+
+// One of the ten letters of WIN-1250.
+fn is_croatian(b: u8) -> bool
+    ensures { λ r. ⌜ r ≡ isCroatian b ⌝ }
+{
+    match b {
+        138 => true,
+        154 => true,
+        142 => true,
+        158 => true,
+        198 => true,
+        230 => true,
+        200 => true,
+        232 => true,
+        208 => true,
+        _ => b == 240,
+    }
+}
+
+fn is_description_byte(b: u8) -> bool
+    ensures { λ r. ⌜ r ≡ permits Class.Description b ⌝ }
+{
+    if is_plain(b) {
+        return true;
+    }
+    is_croatian(b)
+}
+
 // The place of the first byte that the class does not permit.
 pub fn first_bad(class: Class, s: &[u8]) -> Found
     ensures { λ r. ⌜ r ≡ firstBad class (now (s .entry)) ⌝ }
@@ -158,4 +246,21 @@ pub fn count_marks(s: &[u8]) -> usize
         }
     }
     n
+}
+
+// Whether two texts are the same bytes.
+pub fn is_same(a: &[u8], b: &[u8]) -> bool
+    ensures { λ r. ⌜ r ≡ same (now (a .entry)) (now (b .entry)) ⌝ }
+{
+    if a.len() != b.len() {
+        return false;
+    }
+    let mut i = 0;
+    while i < a.len() {
+        if a[i] != b[i] {
+            return false;
+        }
+        i += 1;
+    }
+    true
 }

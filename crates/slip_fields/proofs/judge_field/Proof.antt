@@ -24,8 +24,8 @@ judge-amount-requires c κs = search needs
 iban-requires : tie.Need-iban-requires
 iban-requires c κs = search needs
 
-judge-model-requires : tie.Need-judge-model-requires
-judge-model-requires c κs = search needs
+judge-requires : tie.Need-judge-requires
+judge-requires c κs = search needs
 
 reference-requires : tie.Need-reference-requires
 reference-requires c κs = search needs
@@ -36,8 +36,8 @@ judge-purpose-requires c κs = search needs
 most-of-requires : tie.Need-most-of-requires
 most-of-requires c κs = search needs
 
-judge-requires : tie.Need-judge-requires
-judge-requires c κs = search needs
+judge-requires-2 : tie.Need-judge-requires-2
+judge-requires-2 c κs = search needs
 
 returns : tie.Need-returns
 unfolding fieldAnswer
@@ -57,7 +57,7 @@ returns-4 c = rw (c .before .match .keys4) (c .iban .ensures)
 
 returns-5 : tie.Need-returns-5
 unfolding fieldAnswer
-returns-5 c = rw (c .before .match .keys5) (c .judge-model .ensures)
+returns-5 c = rw (c .before .match .keys5) (c .judge .ensures)
 
 returns-6 : tie.Need-returns-6
 unfolding fieldAnswer
@@ -72,7 +72,7 @@ unfolding fieldAnswer
 returns-8 c =
     let n = c .before .before .before .before .before .args .n in
     let r = c .before .before .match .rest in
-    rw (ne-eqb n 1 (r .0 .0 .0 .0 .0 .0 .1), ne-eqb n 2 (r .0 .0 .0 .0 .0 .1), ne-eqb n 3 (r .0 .0 .0 .0 .1), ne-eqb n 10 (r .0 .0 .0 .1), ne-eqb n 11 (r .0 .0 .1), ne-eqb n 12 (r .0 .1), ne-eqb n 13 (r .1), ← c .before .most-of .ensures) (c .judge .ensures)
+    rw (ne-eqb n 1 (r .0 .0 .0 .0 .0 .0 .1), ne-eqb n 2 (r .0 .0 .0 .0 .0 .1), ne-eqb n 3 (r .0 .0 .0 .0 .1), ne-eqb n 10 (r .0 .0 .0 .1), ne-eqb n 11 (r .0 .0 .1), ne-eqb n 12 (r .0 .1), ne-eqb n 13 (r .1), ← c .before .most-of .ensures) (c .judge2 .ensures)
 
 pub judge-field-spec : {M : Type 1} → statement M
 judge-field-spec =
@@ -84,11 +84,11 @@ judge-field-spec =
     judge-word-requires-2
     judge-amount-requires
     iban-requires
-    judge-model-requires
+    judge-requires
     reference-requires
     judge-purpose-requires
     most-of-requires
-    judge-requires
+    judge-requires-2
     returns
     returns-2
     returns-3

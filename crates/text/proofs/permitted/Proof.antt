@@ -48,6 +48,24 @@ enum-told-9 c = search needs
 is-letter-requires : tie.Need-is-letter-requires
 is-letter-requires c κs = search needs
 
+enum-told-10 : tie.Need-enum-told-10
+enum-told-10 c = search needs
+
+enum-told-11 : tie.Need-enum-told-11
+enum-told-11 c = search needs
+
+enum-told-12 : tie.Need-enum-told-12
+enum-told-12 c = search needs
+
+is-place-byte-requires : tie.Need-is-place-byte-requires
+is-place-byte-requires c κs = search needs
+
+enum-told-13 : tie.Need-enum-told-13
+enum-told-13 c = search needs
+
+is-description-byte-requires : tie.Need-is-description-byte-requires
+is-description-byte-requires c κs = search needs
+
 returns : tie.Need-returns
 returns c = rw (c .before .enum-told .given .1) (c .is-digit .ensures)
 
@@ -75,6 +93,18 @@ returns-8 c = rw (c .enum-told8 .given .1)
 returns-9 : tie.Need-returns-9
 returns-9 c = rw (c .before .enum-told9 .given .1) (c .is-letter .ensures)
 
+returns-10 : tie.Need-returns-10
+returns-10 c = rw (c .enum-told10 .given .1)
+
+returns-11 : tie.Need-returns-11
+returns-11 c = rw (c .enum-told11 .given .1)
+
+returns-12 : tie.Need-returns-12
+returns-12 c = rw (c .before .enum-told12 .given .1) (c .is-place-byte .ensures)
+
+returns-13 : tie.Need-returns-13
+returns-13 c = rw (c .before .enum-told13 .given .1) (c .is-description-byte .ensures)
+
 pub permitted-spec : {M : Type 1} → statement M
 permitted-spec =
     tie.close
@@ -94,6 +124,12 @@ permitted-spec =
     enum-told-8
     enum-told-9
     is-letter-requires
+    enum-told-10
+    enum-told-11
+    enum-told-12
+    is-place-byte-requires
+    enum-told-13
+    is-description-byte-requires
     returns
     returns-2
     returns-3
@@ -102,4 +138,8 @@ permitted-spec =
     returns-6
     returns-7
     returns-8
-    returns-9)
+    returns-9
+    returns-10
+    returns-11
+    returns-12
+    returns-13)

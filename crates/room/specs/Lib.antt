@@ -1,0 +1,1 @@
+-- The definitions of the crate `room` are those of `text`: digits, and lists written at a place.
