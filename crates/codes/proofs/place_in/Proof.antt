@@ -1,0 +1,64 @@
+-- `codes::place_in` meets its contract. The loop's invariant: the answer is that of what is left from `i` on. Assumes nothing.
+use Prim.Native.Nat.{_≤_, _-_}
+use mathlib.Core.Path.{_≡_, sym, _∙_}
+use native.Mathlib.Omega.{arith}
+use lib.ListN.{length, drop}
+use Rattle.text.proofs.Laws.{shifted, shifted-zero}
+use Rattle.codes.specs.Codes.{placeIn}
+use Rattle.codes.proofs.Laws.{search-on, search-stops, search-ends}
+use Rattle.codes.proofs.place_in.Statement.{statement}
+use Rattle.codes.proofs.place_in.Tie as tie
+
+abbrev Inv-loop : tie.InvT-loop
+Inv-loop list code i₀ i = (i ≤ length list) × (placeIn code list ≡ shifted i (placeIn code (drop i list)))
+
+abbrev μ-loop : tie.MeasureT-loop
+μ-loop list code i₀ i = length list - i
+
+loop-holds : tie.Need-loop-holds Inv-loop μ-loop
+loop-holds c = (omega arith, shifted-zero (placeIn (c .args .code) (c .args .list .now)))
+
+mul-if1 : tie.Need-mul-if1 Inv-loop μ-loop
+mul-if1 c = omega arith
+
+shared-slice-read-if1 : tie.Need-shared-slice-read-if1 Inv-loop μ-loop
+shared-slice-read-if1 c = omega arith
+
+returns : tie.Need-returns Inv-loop μ-loop
+returns c =
+    let a = c .before .before .before .before .args in
+    let l = c .before .before .before .loop in
+    search-stops (a .code) (a .list .now) (l .i) (omega arith) (c .if1 .taken) ∙ sym (l .inv .1)
+
+add-i : tie.Need-add-i Inv-loop μ-loop
+add-i c = omega arith
+
+loop-less : tie.Need-loop-less Inv-loop μ-loop
+loop-less c = omega arith
+
+loop-again : tie.Need-loop-again Inv-loop μ-loop
+loop-again c =
+    let a = c .before .before .before .before .args in
+    let l = c .before .before .before .loop in
+    (omega arith, l .inv .1 ∙ search-on (a .code) (a .list .now) (l .i) (omega arith) (c .if1 .left))
+
+returns-2 : tie.Need-returns-2 Inv-loop μ-loop
+returns-2 c =
+    let a = c .before .before .args in
+    let l = c .before .loop in
+    search-ends (a .code) (a .list .now) (l .i) (omega arith) (omega arith) ∙ sym (l .inv .1)
+
+pub place-in-spec : {M : Type 1} → statement M
+place-in-spec =
+    tie.close
+    (tie.spec
+    Inv-loop
+    μ-loop
+    loop-holds
+    mul-if1
+    shared-slice-read-if1
+    returns
+    add-i
+    loop-less
+    loop-again
+    returns-2)

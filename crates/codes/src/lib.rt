@@ -1,0 +1,87 @@
+// The codes of kinds of personal income.
+//
+// Source 004's list, "ŠIFARNIK VRSTA OSOBNIH PRIMANJA": 55 codes, ascending. Requests W4, W6 and W14 go by it too.
+ghost use mathlib.Core.Path.{_≡_};
+ghost use Rattle.codes.specs.Codes.{placeIn, codePlace};
+use text::Found;
+
+// The codes, in the order of the list.
+const CODES: [u64; 55] = [
+    100,
+    110,
+    120,
+    130,
+    140,
+    150,
+    160,
+    170,
+    180,
+    190,
+    191,
+    200,
+    210,
+    220,
+    230,
+    240,
+    250,
+    260,
+    270,
+    280,
+    290,
+    300,
+    310,
+    320,
+    330,
+    340,
+    350,
+    360,
+    361,
+    370,
+    380,
+    390,
+    400,
+    410,
+    420,
+    430,
+    431,
+    432,
+    433,
+    440,
+    441,
+    450,
+    451,
+    500,
+    510,
+    600,
+    610,
+    620,
+    621,
+    630,
+    640,
+    650,
+    660,
+    690,
+    699,
+];
+
+// Where a number first stands in a list, counted from 0.
+fn place_in(list: &[u64], code: u64) -> Found
+    ensures { λ r. ⌜ r ≡ placeIn code (now (list .entry)) ⌝ }
+{
+    let mut i = 0;
+    while i < list.len() {
+        if code == list[i] {
+            return Found::At(i);
+        }
+        i += 1;
+    }
+    Found::Nothing
+}
+
+// Where a code stands in the list of the codes.
+pub fn place(code: u64) -> Found
+    ensures { λ r. ⌜ r ≡ codePlace code ⌝ }
+{
+    let list = CODES;
+    place_in(&list, code)
+}

@@ -1,0 +1,2 @@
+-- What is promised of dates.
+pub mod Theorems

@@ -1,0 +1,4 @@
+-- What is promised of `wage_line`.
+pub mod Laws
+pub mod PieceLaws
+pub mod Theorems

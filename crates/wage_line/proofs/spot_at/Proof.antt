@@ -1,0 +1,62 @@
+-- `wage_line::spot_at` meets its contract: the arm says the type, and its table is asked. Assumes nothing.
+use Rattle.wage_line.specs.Places.{spots}
+use borrow.Author.Needs.{needs}
+use Rattle.wage_line.proofs.spot_at.Statement.{statement}
+use Rattle.wage_line.proofs.spot_at.Tie as tie
+
+enum-told : tie.Need-enum-told
+enum-told c = search needs
+
+label-spot-requires : tie.Need-label-spot-requires
+label-spot-requires c κs = search needs
+
+enum-told-2 : tie.Need-enum-told-2
+enum-told-2 c = search needs
+
+group-spot-requires : tie.Need-group-spot-requires
+group-spot-requires c κs = search needs
+
+enum-told-3 : tie.Need-enum-told-3
+enum-told-3 c = search needs
+
+order-spot-requires : tie.Need-order-spot-requires
+order-spot-requires c κs = search needs
+
+enum-told-4 : tie.Need-enum-told-4
+enum-told-4 c = search needs
+
+at-requires : tie.Need-at-requires
+at-requires c κs = search needs
+
+returns : tie.Need-returns
+unfolding spots
+returns c = rw (c .before .enum-told .given .1) (c .label-spot .ensures)
+
+returns-2 : tie.Need-returns-2
+unfolding spots
+returns-2 c = rw (c .before .enum-told2 .given .1) (c .group-spot .ensures)
+
+returns-3 : tie.Need-returns-3
+unfolding spots
+returns-3 c = rw (c .before .enum-told3 .given .1) (c .order-spot .ensures)
+
+returns-4 : tie.Need-returns-4
+unfolding spots
+returns-4 c = rw (c .before .enum-told4 .given .1) (c .at .ensures)
+
+pub spot-at-spec : {M : Type 1} → statement M
+spot-at-spec =
+    tie.close
+    (tie.spec
+    enum-told
+    label-spot-requires
+    enum-told-2
+    group-spot-requires
+    enum-told-3
+    order-spot-requires
+    enum-told-4
+    at-requires
+    returns
+    returns-2
+    returns-3
+    returns-4)

@@ -1,0 +1,10 @@
+-- `wage_line::wrong_type` meets its contract: its answer is the definition. Assumes nothing.
+use mathlib.Core.Path.{refl}
+use Rattle.wage_line.proofs.wrong_type.Statement.{statement}
+use Rattle.wage_line.proofs.wrong_type.Tie as tie
+
+returns : tie.Need-returns
+returns c = refl
+
+pub wrong-type-spec : {M : Type 1} → statement M
+wrong-type-spec = tie.close (tie.spec returns)

@@ -1,0 +1,72 @@
+-- Document 01, "The wage file": a line's size, ends and type, and its parts.
+use Prim.Native.Nat.{ℕ}
+use mathlib.Core.Bool.{Bool, cond, _&&_}
+use mathlib.Core.List.{List, [], _∷_}
+use lib.Dec.{eqb}
+use lib.ListN.{length, take, drop, getD}
+use Rattle.refusal.specs.Refusal.{none}
+use Rattle.refusal.specs.declared.Refusal.the-variants.{Size, Ends, Form}
+use Rattle.wage_line.specs.declared.LineType.{LineType}
+use Rattle.wage_line.specs.declared.LineType.the-variants.{Label, Group, Order, Closing}
+use Rattle.wage_line.specs.declared.Spot.{Spot}
+use Rattle.wage_line.specs.declared.Typed.{Typed}
+use Rattle.wage_line.specs.declared.Typed.the-variants.{Line, Refused}
+use Rattle.wage_line.specs.Places.{spotOf}
+
+-- ---------------------------------------------------------------------------
+-- Size, ends, type
+
+-- "Lines of 1,000 bytes, WIN-1250, then CR LF": 13 and 10
+abbrev pub endsRight : List ℕ → Bool
+endsRight s = eqb (getD s 1000 0) 13 && eqb (getD s 1001 0) 10
+
+-- "A wrong line type (5) has field 0, byte 997"
+abbrev pub wrongType : Typed
+wrongType = Refused (Form (record { line = 0; field = 0; byte = 997 }))
+
+-- `300`, `301`, `309` or `399`: `0` is 48, `1` is 49, `3` is 51, `9` is 57
+unfoldable pub typeFrom : ℕ → ℕ → ℕ → Typed
+typeFrom a b c =
+    cond (eqb a 51)
+    (cond (eqb b 48)
+    (cond (eqb c 48) (Line Label) (cond (eqb c 49) (Line Group) (cond (eqb c 57) (Line Order) wrongType)))
+    (cond (eqb b 57) (cond (eqb c 57) (Line Closing) wrongType) wrongType))
+    wrongType
+
+-- the three digits of each type
+unfoldable pub typeText : LineType → List ℕ
+typeText Label = 51 ∷ (48 ∷ (48 ∷ []))
+typeText Group = 51 ∷ (48 ∷ (49 ∷ []))
+typeText Order = 51 ∷ (48 ∷ (57 ∷ []))
+typeText Closing = 51 ∷ (57 ∷ (57 ∷ []))
+
+-- "Type at 998 to 1000"
+abbrev pub typeOf : List ℕ → Typed
+typeOf s = typeFrom (getD s 997 0) (getD s 998 0) (getD s 999 0)
+
+-- 1, 2, 5 (type)
+unfoldable pub typedOf : List ℕ → Typed
+typedOf s =
+    cond (eqb (length s) 1002)
+    (cond (endsRight s) (typeOf s) (Refused (Ends none)))
+    (Refused (Size none))
+
+-- ---------------------------------------------------------------------------
+-- A line's parts
+
+-- the bytes of a place
+abbrev pub partAt : Spot → List ℕ → List ℕ
+partAt p s = take (p .size) (drop (p .start) s)
+
+-- the bytes of field n in a line of a type
+abbrev pub partOf : LineType → ℕ → List ℕ → List ℕ
+partOf t n s = partAt (spotOf t n) s
+
+abbrev pub queried : ℕ → List ℕ → Typed → List ℕ
+queried n s (Line t) = partOf t n s
+queried n s (Refused r) = []
+
+-- "Each place named below, and field 2, is handed back by field number as a part of its 1,002-byte line, empty if 1, 2 or 5 (type) refuses
+-- the line; no other rule is asked"
+unfoldable pub placeOf : List ℕ → ℕ → List ℕ
+placeOf s n = queried n s (typedOf s)
