@@ -1,0 +1,3 @@
+-- What is promised of `judge`.
+pub mod Laws
+pub mod Theorems

@@ -1,0 +1,42 @@
+-- `judge::label_step` meets its contract: each return is the definition's choice on the test. Assumes nothing.
+use mathlib.Core.Path.{sym, _∙_}
+use Rattle.text.proofs.Laws.{entered, left}
+use Rattle.judge.specs.Judge.{labelStep}
+use borrow.Author.Needs.{needs}
+use Rattle.judge.proofs.label_step.Statement.{statement}
+use Rattle.judge.proofs.label_step.Tie as tie
+
+is-fresh-requires : tie.Need-is-fresh-requires
+is-fresh-requires c κs = search needs
+
+judge-places-requires : tie.Need-judge-places-requires
+judge-places-requires c κs = search needs
+
+after-label-requires : tie.Need-after-label-requires
+after-label-requires c κs = search needs
+
+after-places-requires : tie.Need-after-places-requires
+after-places-requires c κs = search needs
+
+returns : tie.Need-returns
+unfolding labelStep
+returns c = entered _ _ _ _ (sym (c .before .before .before .before .is-fresh .ensures) ∙ c .before .before .before .if1 .taken) (rw (← (c .before .after-label .ensures), ← (c .before .before .judge-places .ensures)) (c .after-places .ensures))
+
+out-of-place-requires : tie.Need-out-of-place-requires
+out-of-place-requires c κs = search needs
+
+returns-2 : tie.Need-returns-2
+unfolding labelStep
+returns-2 c = left _ _ _ _ (sym (c .before .before .is-fresh .ensures) ∙ c .before .if1 .left) (c .out-of-place .ensures)
+
+pub label-step-spec : {M : Type 1} → statement M
+label-step-spec =
+    tie.close
+    (tie.spec
+    is-fresh-requires
+    judge-places-requires
+    after-label-requires
+    after-places-requires
+    returns
+    out-of-place-requires
+    returns-2)

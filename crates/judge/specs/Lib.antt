@@ -1,0 +1,2 @@
+-- The definitions of the crate `judge`.
+pub mod Judge

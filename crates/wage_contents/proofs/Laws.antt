@@ -1,0 +1,134 @@
+-- Laws that this crate's proofs share: of answers joined, of one of three numbers, of an IBAN's place, and of the blanks at a text's end.
+-- Assumes nothing.
+use mathlib.Core.Path.{_≡_, refl, sym, ap, _∙_}
+use mathlib.Core.Bool.{Bool, true, false, cond, _&&_, _||_}
+use mathlib.Core.List.{List, [], _∷_, _++_}
+use Prim.Native.Nat.{ℕ, suc, _-_, _≤_, _<_}
+use native.Mathlib.Omega.{arith}
+use lib.Dec.{eqb}
+use lib.ListN.{length, take, getD}
+use lib.Seq.{take-all, take-suc}
+use borrow.Author.Tests.{eq-eqb, ne-eqb}
+use Rattle.refusal.specs.Refusal.{none}
+use Rattle.refusal.specs.declared.Answer.{Answer}
+use Rattle.refusal.specs.declared.Answer.the-variants.{Accepted, Refused}
+use Rattle.refusal.specs.declared.Refusal.{Refusal}
+use Rattle.refusal.specs.declared.Refusal.the-variants.{Form}
+use Rattle.text.specs.Bytes.{allOf}
+use Rattle.text.specs.declared.Class.the-variants.{Blanks}
+use Rattle.account.specs.Account.{ibanFormed, ibanPasses}
+use Rattle.account.specs.Answers.{ibanCheckAnswer}
+use Rattle.text.proofs.Laws.{taken, left, or-first, or-second, and-first}
+use Rattle.wage_contents.specs.Contents.{andThen, onlyIf, trimmed}
+
+-- ---------------------------------------------------------------------------
+-- Answers joined: j is what the call answered, x what it is defined to answer
+
+module _ (j x y : Answer) (made : j ≡ x) where
+  -- refused there
+  pub refused : (r : Refusal) → j ≡ Refused r → Refused r ≡ andThen x y
+  refused r e = rw (sym made ∙ e)
+
+  -- accepted there: the rest answers
+  pub passed : (r : Answer) → j ≡ Accepted → r ≡ y → r ≡ andThen x y
+  passed r e h = rw (sym made ∙ e) h
+
+-- ---------------------------------------------------------------------------
+-- One of three numbers: v is the number that was read, w what it is defined to be
+
+module _ (v w a b c : ℕ) (made : v ≡ w) (r : Refusal) where
+  -- it is the first
+  pub first-of : v ≡ a → Accepted ≡ onlyIf (eqb w a || (eqb w b || eqb w c)) r
+  first-of e = rw (← made) (taken (eqb v a || (eqb v b || eqb v c)) Accepted (Refused r) (sym (or-first (eqb v a) _ (eq-eqb v a e))))
+
+  -- the second
+  pub second-of : (v ≡ a → ⊥) → v ≡ b → Accepted ≡ onlyIf (eqb w a || (eqb w b || eqb w c)) r
+  second-of f e =
+      rw (← made) (taken (eqb v a || (eqb v b || eqb v c)) Accepted (Refused r) (sym (or-second (eqb v a) (eqb v b || eqb v c) true (ne-eqb v a f) (or-first (eqb v b) (eqb v c) (eq-eqb v b e)))))
+
+  -- the third
+  pub third-of : (v ≡ a → ⊥) → (v ≡ b → ⊥) → v ≡ c → Accepted ≡ onlyIf (eqb w a || (eqb w b || eqb w c)) r
+  third-of f g e =
+      rw (← made) (taken (eqb v a || (eqb v b || eqb v c)) Accepted (Refused r) (sym (or-second (eqb v a) (eqb v b || eqb v c) true (ne-eqb v a f) (or-second (eqb v b) (eqb v c) true (ne-eqb v b g) (sym (eq-eqb v c e))))))
+
+  -- none of them
+  pub none-of : (v ≡ a → ⊥) → (v ≡ b → ⊥) → (v ≡ c → ⊥) → Refused r ≡ onlyIf (eqb w a || (eqb w b || eqb w c)) r
+  none-of f g h =
+      rw (← made) (left (eqb v a || (eqb v b || eqb v c)) Accepted (Refused r) (Refused r) (sym (or-second (eqb v a) (eqb v b || eqb v c) false (ne-eqb v a f) (or-second (eqb v b) (eqb v c) false (ne-eqb v b g) (sym (ne-eqb v c h))))) refl)
+
+-- the first byte of nothing
+pub first-of-none : (f : List ℕ) → length f ≡ 0 → 0 ≡ getD f 0 0
+first-of-none [] e = refl
+first-of-none (b ∷ f) e = absurd (omega arith)
+
+-- ---------------------------------------------------------------------------
+-- An IBAN's place
+
+-- a place too short for an IBAN
+pub short-account : (f : List ℕ) (b : Bool) → length f < 21 → Refused (Form none) ≡ cond b (ibanCheckAnswer (take 21 f)) (Refused (Form none))
+short-account f false h = refl
+short-account f true h =
+    rw (take-all 21 f (omega arith))
+    (left (ibanFormed f) (cond (ibanPasses f) _ _) _ _ (sym (and-first (eqb (length f) 21) _ (ne-eqb (length f) 21 (λ e. omega arith)))) refl)
+
+-- ---------------------------------------------------------------------------
+-- The blanks at a text's end
+
+-- all blank with one blank more, exactly when all blank without it
+blank-more : (s : List ℕ) → allOf Blanks (s ++ (32 ∷ [])) ≡ allOf Blanks s
+unfolding allOf
+blank-more [] = refl
+blank-more (b ∷ s) = ap (λ (t : Bool). eqb b 32 && t) (blank-more s)
+
+-- one blank more at the end is taken away
+trimmed-blank : (s : List ℕ) → trimmed (s ++ (32 ∷ [])) ≡ trimmed s
+unfolding trimmed allOf
+trimmed-blank [] = refl
+trimmed-blank (b ∷ s) = rw (blank-more s, trimmed-blank s)
+
+-- x is no blank
+module _ (x : ℕ) (h : eqb x 32 ≡ false) where
+  -- not all blank
+  not-blank : (s : List ℕ) → allOf Blanks (s ++ (x ∷ [])) ≡ false
+  unfolding allOf
+  not-blank [] = rw h
+  not-blank (b ∷ s) = go (eqb b 32) (not-blank s)
+    where
+      go : (t : Bool) → allOf Blanks (s ++ (x ∷ [])) ≡ false → (t && allOf Blanks (s ++ (x ∷ []))) ≡ false
+      go true e = e
+      go false e = refl
+
+  -- a text that ends in no blank stays as it is
+  trimmed-same : (s : List ℕ) → trimmed (s ++ (x ∷ [])) ≡ s ++ (x ∷ [])
+  unfolding trimmed allOf
+  trimmed-same [] = rw h
+  trimmed-same (b ∷ s) = sym (left (eqb b 32 && allOf Blanks (s ++ (x ∷ []))) [] (b ∷ trimmed (s ++ (x ∷ []))) (b ∷ (s ++ (x ∷ []))) (not-blank (b ∷ s)) (ap (λ (l : List ℕ). b ∷ l) (sym (trimmed-same s))))
+
+-- of the first n bytes, n above 0
+module _ (s : List ℕ) (n : ℕ) (some : 0 < n) (fits : n ≤ length s) where
+  -- the bytes before the last, and the last
+  one-less : take n s ≡ take (n - 1) s ++ (getD s (n - 1) 0 ∷ [])
+  one-less = let e : n ≡ suc (n - 1) = omega arith in ap (λ (k : ℕ). take k s) e ∙ take-suc s (n - 1) 0 (omega arith)
+
+  -- the last is blank
+  pub trimmed-back : getD s (n - 1) 0 ≡ 32 → trimmed (take n s) ≡ trimmed (take (n - 1) s)
+  trimmed-back e = rw (one-less, e) (trimmed-blank (take (n - 1) s))
+
+  -- the last is no blank
+  pub trimmed-ends : (getD s (n - 1) 0 ≡ 32 → ⊥) → trimmed (take n s) ≡ take n s
+  trimmed-ends e = rw one-less (trimmed-same (getD s (n - 1) 0) (ne-eqb _ 32 e) (take (n - 1) s))
+
+-- nothing is left of nothing
+pub trimmed-nothing : [] ≡ trimmed []
+unfolding trimmed
+trimmed-nothing = refl
+
+-- what is left is no longer than the whole
+pub trimmed-shorter : (s : List ℕ) → length (trimmed s) ≤ length s
+unfolding trimmed
+trimmed-shorter [] = omega arith
+trimmed-shorter (b ∷ s) = go (allOf Blanks (b ∷ s)) (trimmed-shorter s)
+  where
+    go : (t : Bool) → length (trimmed s) ≤ length s → length (cond t [] (b ∷ trimmed s)) ≤ suc (length s)
+    go true h = omega arith
+    go false h = omega arith

@@ -1,0 +1,172 @@
+-- What is promised of a line's places: accepted exactly when each is, what a refusal tells, and one answer.
+-- Assumes nothing.
+use mathlib.Core.Path.{_≡_, refl, ap, _∙_}
+use mathlib.Core.Logic.{_↔_}
+use mathlib.Core.Bool.{true}
+use mathlib.Core.List.{List, [], _∷_}
+use Prim.Native.Nat.{ℕ, zero, suc, _+_, _≤_, _<_}
+use native.Mathlib.Omega.{arith}
+use lib.Dec.{ltb}
+use lib.ListN.{length, getD}
+use borrow.Author.Tests.{ltb-true}
+use Rattle.refusal.specs.Only.{Only, defined-only}
+use Rattle.refusal.specs.Refusal.{placeOf}
+use Rattle.refusal.specs.declared.Answer.{Answer}
+use Rattle.refusal.specs.declared.Answer.the-variants.{Accepted, Refused}
+use Rattle.refusal.specs.declared.Place.{Place}
+use Rattle.refusal.specs.declared.Refusal.{Refusal}
+use Rattle.text.specs.declared.Class.the-variants.{Digits}
+use Rattle.wage_line.specs.declared.LineType.{LineType}
+use Rattle.wage_line.specs.declared.LineType.the-variants.{Label, Group, Order, Closing}
+use Rattle.wage_line.specs.declared.Spot.{Spot}
+use Rattle.wage_line.specs.Places.{spots, noSpot}
+use Rattle.wage_line.specs.Line.{partAt, partOf}
+use Rattle.wage_line.proofs.Laws.{each, each-at}
+use Rattle.wage_line.proofs.Theorems.{placeAt, found-spot, sizes-small}
+use Rattle.wage_contents.specs.Contents.{bytesAnswer, amongAnswer}
+use Rattle.wage_fields.specs.Rules.{labelRule, groupRule, orderRule, ruleAnswer, placeAnswer, placesFrom, placesAnswer}
+use Rattle.wage_fields.proofs.Laws.{both-accept, accept-both, answer-right, refused-at, told-place, byte-within, Stops, stops}
+
+-- ---------------------------------------------------------------------------
+-- Accepted exactly when
+
+module _ (day kind : ℕ) (t : LineType) (s : List ℕ) where
+  -- a place is accepted exactly when its field's rule accepts its bytes
+  pub place-right : (p : Spot) → (placeAnswer day kind t p s ≡ Accepted) ↔ (ruleAnswer day kind t (p .field) (partAt p s) s ≡ Accepted)
+  unfolding placeAnswer
+  place-right p = answer-right p (ruleAnswer day kind t (p .field) (partAt p s) s)
+
+  -- places that are accepted are so each
+  each-accepted : (ps : List Spot) → placesFrom day kind t ps s ≡ Accepted → (k : ℕ) → k < length ps → placeAnswer day kind t (getD ps k noSpot) s ≡ Accepted
+  unfolding placesFrom
+  each-accepted [] e k h = absurd (omega arith)
+  each-accepted (p ∷ ps) e zero h = both-accept (placeAnswer day kind t p s) (placesFrom day kind t ps s) e .0
+  each-accepted (p ∷ ps) e (suc k) h = each-accepted ps (both-accept (placeAnswer day kind t p s) (placesFrom day kind t ps s) e .1) k (omega arith)
+
+  -- and the other way round
+  all-accepted : (ps : List Spot) → ((k : ℕ) → k < length ps → placeAnswer day kind t (getD ps k noSpot) s ≡ Accepted) → placesFrom day kind t ps s ≡ Accepted
+  unfolding placesFrom
+  all-accepted [] f = refl
+  all-accepted (p ∷ ps) f = accept-both (placeAnswer day kind t p s) (placesFrom day kind t ps s) (f 0 (omega arith)) (all-accepted ps (λ k h. f (suc k) (omega arith)))
+
+  -- a line's places are accepted exactly when each place is
+  pub places-right : (placesAnswer day kind t s ≡ Accepted) ↔ ((k : ℕ) → k < length (spots t) → placeAnswer day kind t (placeAt t k) s ≡ Accepted)
+  unfolding placesAnswer
+  places-right = (each-accepted (spots t), all-accepted (spots t))
+
+  -- of an accepted line, the rule of each field that has a place accepts the field's bytes
+  pub field-right : placesAnswer day kind t s ≡ Accepted → (n k : ℕ) → k < length (spots t) → placeAt t k .field ≡ n → ruleAnswer day kind t n (partOf t n s) s ≡ Accepted
+  field-right e n k h f =
+      rw (← f, found-spot t k h) (place-right (placeAt t k) .0 (places-right .0 e k h))
+
+-- ---------------------------------------------------------------------------
+-- What later rules read
+
+module _ (day kind : ℕ) (s : List ℕ) where
+  -- an accepted 300 tells its kind, 4 or 5
+  pub label-kind : placesAnswer day kind Label s ≡ Accepted → amongAnswer 4 5 5 (partOf Label 2 s) ≡ Accepted
+  unfolding spots labelRule
+  label-kind e = field-right day kind Label s e 2 1 (omega arith) refl
+
+  -- an accepted 301 tells its number of orders in digits
+  pub group-number-digits : placesAnswer day kind Group s ≡ Accepted → bytesAnswer Digits (partOf Group 5 s) ≡ Accepted
+  unfolding spots groupRule
+  group-number-digits e = field-right day kind Group s e 5 4 (omega arith) refl
+
+  -- and its sum
+  pub group-sum-digits : placesAnswer day kind Group s ≡ Accepted → bytesAnswer Digits (partOf Group 6 s) ≡ Accepted
+  unfolding spots groupRule
+  group-sum-digits e = field-right day kind Group s e 6 5 (omega arith) refl
+
+  -- an accepted 309 tells its amount in digits
+  pub order-amount-digits : placesAnswer day kind Order s ≡ Accepted → bytesAnswer Digits (partOf Order 10 s) ≡ Accepted
+  unfolding spots orderRule
+  order-amount-digits e = field-right day kind Order s e 10 7 (omega arith) refl
+
+  -- a 399 has no places
+  pub closing-has-none : placesAnswer day kind Closing s ≡ Accepted
+  unfolding placesAnswer placesFrom spots
+  closing-has-none = refl
+
+-- ---------------------------------------------------------------------------
+-- The kind matters to a 309 alone
+
+module _ (day k k′ : ℕ) (s : List ℕ) where
+  -- where the rules are the same under two kinds, so are the answers
+  same-rules :
+      (t : LineType) → ((n : ℕ) (f : List ℕ) → ruleAnswer day k t n f s ≡ ruleAnswer day k′ t n f s) → (ps : List Spot) → placesFrom day k t ps s ≡ placesFrom day k′ t ps s
+  unfolding placesFrom placeAnswer
+  same-rules t f [] = refl
+  same-rules t f (p ∷ ps) = rw (f (p .field) (partAt p s), same-rules t f ps)
+
+  -- a 300 is judged alike under any kind
+  pub label-ignores-kind : placesAnswer day k Label s ≡ placesAnswer day k′ Label s
+  unfolding placesAnswer
+  label-ignores-kind = same-rules Label (λ n f. refl) (spots Label)
+
+  -- so is a 301
+  pub group-ignores-kind : placesAnswer day k Group s ≡ placesAnswer day k′ Group s
+  unfolding placesAnswer
+  group-ignores-kind = same-rules Group (λ n f. refl) (spots Group)
+
+-- ---------------------------------------------------------------------------
+-- What a refusal tells
+
+-- no line, a field of the type's places, and a byte of that place or the one behind it
+pub record Told (t : LineType) (r : Refusal) : Type 0 where
+  pub no-line : placeOf r .line ≡ 0
+  pub order : ℕ
+  pub known : order < length (spots t)
+  pub numbered : placeOf r .field ≡ placeAt t order .field
+  pub some-field : 0 < placeOf r .field
+  pub begins : placeAt t order .start ≤ placeOf r .byte
+  pub ends : placeOf r .byte ≤ placeAt t order .start + placeAt t order .size
+  pub small : placeOf r .byte ≤ 562
+
+-- every place has a number: a test, which each table passes
+all-numbered : (t : LineType) → each (λ p. ltb 0 (p .field)) (spots t) ≡ true
+unfolding spots
+all-numbered Label = refl
+all-numbered Group = refl
+all-numbered Order = refl
+all-numbered Closing = refl
+
+module _ (day kind : ℕ) (t : LineType) (s : List ℕ) (r : Refusal) where
+  -- a refusal is that of the first place that is not accepted
+  pub first-refused : placesAnswer day kind t s ≡ Refused r → Stops day kind t s (spots t) r
+  unfolding placesAnswer
+  first-refused e = stops day kind t s r (spots t) e
+
+  -- a refusal tells no line, a field that has a place, and a byte there
+  pub refusal-no-line : placesAnswer day kind t s ≡ Refused r → Told t r
+  unfolding placeAnswer
+  refusal-no-line e =
+      let w = first-refused e in
+      let p = placeAt t (w .order) in
+      let a = refused-at p (ruleAnswer day kind t (p .field) (partAt p s) s) r (w .here) in
+      let q : placeOf r ≡ record { line = 0; field = p .field; byte = p .start + placeOf (a .0) .byte } = ap placeOf (a .2) ∙ told-place p (a .0) in
+      let l : placeOf r .line ≡ 0 = ap (λ (x : Place). x .line) q in
+      let f : placeOf r .field ≡ p .field = ap (λ (x : Place). x .field) q in
+      let b : placeOf r .byte ≡ p .start + placeOf (a .0) .byte = ap (λ (x : Place). x .byte) q in
+      let h : placeOf (a .0) .byte ≤ p .size = byte-within day kind t p s (a .0) (a .1) in
+      let v = sizes-small t (w .order) (w .known) .within in
+      let g : 0 < p .field = ltb-true 0 (p .field) (each-at (λ x. ltb 0 (x .field)) (spots t) (all-numbered t) (w .order) (w .known)) in
+      record {
+        no-line = l;
+        order = w .order;
+        known = w .known;
+        numbered = f;
+        some-field = omega arith;
+        begins = omega arith;
+        ends = omega arith;
+        small = omega arith;
+      }
+
+-- ---------------------------------------------------------------------------
+-- Any two answers that a contract allows are equal
+
+pub judge-place-only : (day kind : ℕ) (t : LineType) (k : ℕ) (s : List ℕ) → Only (λ (r : Answer). r ≡ placeAnswer day kind t (getD (spots t) k noSpot) s)
+judge-place-only day kind t k s = defined-only (placeAnswer day kind t (getD (spots t) k noSpot) s)
+
+pub judge-places-only : (day kind : ℕ) (t : LineType) (s : List ℕ) → Only (λ (r : Answer). r ≡ placesAnswer day kind t s)
+judge-places-only day kind t s = defined-only (placesAnswer day kind t s)

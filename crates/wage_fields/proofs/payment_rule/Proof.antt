@@ -1,0 +1,82 @@
+-- `wage_fields::payment_rule` meets its contract: each arm says the number, and its answer is the definition's at that number.
+-- Assumes nothing.
+use borrow.Author.Tests.{ne-eqb}
+use Rattle.wage_fields.specs.Rules.{paymentRule}
+use borrow.Author.Needs.{needs}
+use Rattle.wage_fields.proofs.payment_rule.Statement.{statement}
+use Rattle.wage_fields.proofs.payment_rule.Tie as tie
+
+judge-among-requires : tie.Need-judge-among-requires
+judge-among-requires c κs = search needs
+
+judge-currency-requires : tie.Need-judge-currency-requires
+judge-currency-requires c κs = search needs
+
+judge-sign-requires : tie.Need-judge-sign-requires
+judge-sign-requires c κs = search needs
+
+judge-sign-requires-2 : tie.Need-judge-sign-requires-2
+judge-sign-requires-2 c κs = search needs
+
+find-requires : tie.Need-find-requires
+find-requires c κs = search needs
+
+part-requires : tie.Need-part-requires
+part-requires c κs = search needs
+
+judge-code-requires : tie.Need-judge-code-requires
+judge-code-requires c κs = search needs
+
+judge-oib-requires : tie.Need-judge-oib-requires
+judge-oib-requires c κs = search needs
+
+returns : tie.Need-returns
+unfolding paymentRule
+returns c = rw (c .before .match .keys1) (c .judge-among .ensures)
+
+returns-2 : tie.Need-returns-2
+unfolding paymentRule
+returns-2 c = rw (c .before .match .keys2) (c .judge-currency .ensures)
+
+returns-3 : tie.Need-returns-3
+unfolding paymentRule
+returns-3 c = rw (c .before .match .keys3) (c .judge-sign .ensures)
+
+returns-4 : tie.Need-returns-4
+unfolding paymentRule
+returns-4 c = rw (c .before .match .keys4) (c .judge-sign2 .ensures)
+
+returns-5 : tie.Need-returns-5
+unfolding paymentRule
+returns-5 c = rw (c .before .before .before .match .keys5, ← c .before .before .find .ensures, ← c .before .part .ensures) (c .judge-code .ensures)
+
+returns-6 : tie.Need-returns-6
+unfolding paymentRule
+returns-6 c = rw (c .before .match .keys6) (c .judge-oib .ensures)
+
+returns-7 : tie.Need-returns-7
+unfolding paymentRule
+returns-7 c =
+    let n = c .before .before .before .args .n in
+    let r = c .match .rest in
+    rw (ne-eqb n 18 (r .0 .0 .0 .0 .0 .1), ne-eqb n 19 (r .0 .0 .0 .0 .1), ne-eqb n 20 (r .0 .0 .0 .1), ne-eqb n 21 (r .0 .0 .1), ne-eqb n 22 (r .0 .1), ne-eqb n 23 (r .1))
+
+pub payment-rule-spec : {M : Type 1} → statement M
+payment-rule-spec =
+    tie.close
+    (tie.spec
+    judge-among-requires
+    judge-currency-requires
+    judge-sign-requires
+    judge-sign-requires-2
+    find-requires
+    part-requires
+    judge-code-requires
+    judge-oib-requires
+    returns
+    returns-2
+    returns-3
+    returns-4
+    returns-5
+    returns-6
+    returns-7)
