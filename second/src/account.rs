@@ -7,13 +7,16 @@ pub const IBAN_LENGTH: usize = 21;
 pub const OIB_LENGTH: usize = 11;
 
 /// `HR` moved behind the account and written as digits: H is 17, R is 27.
-const COUNTRY: u128 = 17_27;
+const COUNTRY: u64 = 17_27;
 
 pub fn iban(text: &[u8]) -> Result<(), Refusal> {
     only(text, |b| b.is_ascii_uppercase() || b.is_ascii_digit())?;
-    if text.len() != IBAN_LENGTH {
-        return Err(Reason::Length.into());
-    }
+    let text = text.try_into().map_err(|_| Reason::Length)?;
+    iban_formed(text)
+}
+
+/// 5 unless `HR` and nineteen digits, then 6.
+pub fn iban_formed(text: &[u8; IBAN_LENGTH]) -> Result<(), Refusal> {
     let digits = text
         .strip_prefix(b"HR")
         .filter(|rest| rest.iter().all(u8::is_ascii_digit))
@@ -28,17 +31,18 @@ pub fn iban(text: &[u8]) -> Result<(), Refusal> {
 }
 
 /// The check digits, 02 to 98, that make this account number an IBAN.
-pub fn iban_check(account: u128) -> u128 {
+pub fn iban_check(account: u64) -> u64 {
     98 - remainder(account, 0)
 }
 
-/// What the rearranged IBAN leaves on division by 97. Its 23 digits fit.
-fn remainder(account: u128, check: u128) -> u128 {
-    ((account * 10_000 + COUNTRY) * 100 + check) % 97
+/// What the rearranged IBAN leaves on division by 97. Its 23 digits would not
+/// fit, so the account's seventeen are divided first.
+fn remainder(account: u64, check: u64) -> u64 {
+    ((account % 97 * 10_000 + COUNTRY) * 100 + check) % 97
 }
 
-fn number(digits: &[u8]) -> u128 {
-    values(digits).fold(0, |n, d| n * 10 + u128::from(d))
+fn number(digits: &[u8]) -> u64 {
+    values(digits).fold(0, |n, d| n * 10 + u64::from(d))
 }
 
 pub fn oib(text: &[u8]) -> Result<(), Refusal> {
@@ -75,7 +79,7 @@ mod tests {
     fn the_twins_of_right_check_digits() {
         // 00, 01 and 99 leave the remainder of 97, 98 and 02.
         let mut met = [false; 3];
-        for account in 10010051863000000u128..10010051863000200 {
+        for account in 10010051863000000u64..10010051863000200 {
             let right = iban_check(account);
             assert!((2..=98).contains(&right));
             let twins = [(97, 0), (98, 1), (2, 99)];

@@ -11,7 +11,9 @@ use std::thread;
 use std::time::Duration;
 
 mod slips;
+mod wages;
 pub use slips::compare_slips;
+pub use wages::compare_wages;
 
 /// A program that says nothing for so long is stuck, and that is a difference.
 const PATIENCE: Duration = Duration::from_secs(20);

@@ -1,7 +1,7 @@
 //! Cases by dice: mostly right texts, then damaged, so that every refusal is
 //! met close to its boundary and not only far from it.
 
-use crate::account::iban_check;
+use crate::account::{iban, iban_check};
 use crate::checkdigit::{values, Rule};
 use crate::reference::{Model, LONGEST, MODELS};
 use crate::refusal::Reason;
@@ -9,7 +9,11 @@ use crate::wet::list;
 use std::io::{self, Write};
 
 mod slips;
+mod wagecases;
+mod wages;
 pub use slips::slip;
+pub use wagecases::wage_cases;
+pub use wages::{large_wage_file, long_wage_file, right_wage_file, wage_input, WageFile};
 
 /// splitmix64.
 pub struct Dice(u64);
@@ -128,7 +132,7 @@ fn account(dice: &mut Dice) -> Vec<u8> {
     let twin = dice.one_in(6);
     loop {
         let account = dice.digits(17);
-        let number = values(&account).fold(0u128, |n, d| n * 10 + u128::from(d));
+        let number = values(&account).fold(0u64, |n, d| n * 10 + u64::from(d));
         let right = iban_check(number);
         if twin && ![2, 97, 98].contains(&right) {
             continue;
@@ -143,6 +147,23 @@ fn account(dice: &mut Dice) -> Vec<u8> {
         text.extend(account);
         return text;
     }
+}
+
+fn right_account(dice: &mut Dice) -> Vec<u8> {
+    loop {
+        let text = account(dice);
+        if iban(&text).is_ok() {
+            return text;
+        }
+    }
+}
+
+/// Fifteen digits, often few of them before zeros.
+fn amount(dice: &mut Dice) -> Vec<u8> {
+    let long = dice.between(0, 15);
+    let mut digits = vec![b'0'; 15 - long];
+    digits.extend(dice.digits(long));
+    digits
 }
 
 fn oib(dice: &mut Dice) -> Vec<u8> {

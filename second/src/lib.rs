@@ -1,5 +1,6 @@
 //! The ground of document 01 written a second time: check digits, IBAN, OIB,
-//! the sixteen reference models, the listing of wet texts and the slip.
+//! the sixteen reference models, the listing of wet texts, the slip and the
+//! wage file.
 //!
 //! It shares only the formats with the first implementation, so that an answer
 //! both give is unlikely to be the same slip of the pen twice.
@@ -12,4 +13,5 @@ pub mod generate;
 pub mod reference;
 pub mod refusal;
 pub mod slip;
+pub mod wage;
 pub mod wet;

@@ -1,4 +1,4 @@
-use second::{cases, compare, generate, slip, wet};
+use second::{cases, compare, generate, slip, wage, wet};
 use std::env;
 use std::ffi::{OsStr, OsString};
 use std::io::{self, BufWriter, Read};
@@ -7,9 +7,14 @@ use std::process::ExitCode;
 const USAGE: &str = "usage: second cases < FILE
        second listing < LINE
        second slipfile < SLIP
+       second wagefile < DAY AND FILE
+       second wagecases < COMMANDS
        second gen SEED N
+       second genwage SEED LINES
+       second genwagecases SEED N
        second compare PROGRAM SEED COUNT
-       second compareslip PROGRAM SEED COUNT";
+       second compareslip PROGRAM SEED COUNT
+       second comparewage PROGRAM SEED COUNT";
 
 fn main() -> ExitCode {
     let arguments: Vec<OsString> = env::args_os().skip(1).collect();
@@ -33,8 +38,20 @@ fn run(arguments: &[OsString]) -> io::Result<ExitCode> {
         }
         ["listing"] => wet::program(io::stdin().lock(), output())?,
         ["slipfile"] => slip::program(io::stdin().lock(), output())?,
+        ["wagefile"] => wage::program(io::stdin().lock(), output())?,
+        ["wagecases"] => {
+            let mut input = Vec::new();
+            io::stdin().lock().read_to_end(&mut input)?;
+            wage::answer_all(&input, output())?;
+        }
         ["gen", seed, count] => {
             generate::cases(number(seed)?, number(count)? as usize, output())?;
+        }
+        ["genwage", seed, lines] => {
+            generate::long_wage_file(number(seed)?, number(lines)? as usize, output())?;
+        }
+        ["genwagecases", seed, count] => {
+            generate::wage_cases(number(seed)?, number(count)? as usize, output())?;
         }
         ["compare", _, seed, count] => {
             let program: &OsStr = &arguments[1];
@@ -56,6 +73,25 @@ fn run(arguments: &[OsString]) -> io::Result<ExitCode> {
             println!(
                 "compare-slip: {} inputs, {} differ, {written} written again",
                 outcome.inputs, outcome.differ
+            );
+            if outcome.differ > 0 {
+                return Ok(ExitCode::FAILURE);
+            }
+        }
+        ["comparewage", _, seed, count] => {
+            let program: &OsStr = &arguments[1];
+            let (seed, count) = (number(seed)?, number(count)? as usize);
+            let (outcome, answers) =
+                compare::compare_wages(program, &env::current_exe()?, seed, count)?;
+            let answers: Vec<String> = answers
+                .iter()
+                .map(|(number, times)| format!("{number}: {times}"))
+                .collect();
+            println!(
+                "compare-wage: {} inputs, {} differ; answers {}",
+                outcome.inputs,
+                outcome.differ,
+                answers.join(", ")
             );
             if outcome.differ > 0 {
                 return Ok(ExitCode::FAILURE);

@@ -15,6 +15,7 @@ pub struct Group {
 
 pub struct Model {
     pub number: u8,
+    /// How many parts there may be.
     pub parts: RangeInclusive<usize>,
     pub lengths: [RangeInclusive<usize>; MOST_PARTS],
     pub groups: &'static [Group],
@@ -105,53 +106,51 @@ impl Model {
         if text.len() > LONGEST {
             return Err(Reason::Length.into());
         }
-        let spans = self.spans(text).ok_or(Reason::Parts)?;
-        let present = self.groups.iter().filter_map(|g| {
-            let last = g.parts.end.min(spans.count);
-            (g.parts.start < last).then(|| (g.rule, spans.over(g.parts.start..last)))
-        });
-        for (rule, span) in present {
-            let digits = text[span].iter().filter(|&&b| b != b'-').map(|b| b - b'0');
-            if !rule.passes(digits) {
-                return Err(Reason::ReferenceCheck.into());
+        let parts = self.parts(text).ok_or(Reason::Parts)?;
+        for group in self.groups {
+            let last = group.parts.end.min(parts.count);
+            if group.parts.start < last {
+                let digits = &parts.digits[parts.ends[group.parts.start]..parts.ends[last]];
+                if !group.rule.passes(digits.iter().copied()) {
+                    return Err(Reason::ReferenceCheck.into());
+                }
             }
         }
         Ok(())
     }
 
-    /// Where the parts stand, if their number and lengths are right.
-    fn spans(&self, text: &[u8]) -> Option<Spans> {
-        let mut spans = Spans::default();
+    /// The parts of digits and hyphens, if their number and lengths are right.
+    fn parts(&self, text: &[u8]) -> Option<Parts> {
+        let mut parts = Parts::default();
         if !text.is_empty() {
-            let mut start = 0;
-            for part in text.split(|&b| b == b'-') {
-                let permitted = self.lengths.get(spans.count)?;
-                if !permitted.contains(&part.len()) {
-                    return None;
+            let mut length = 0;
+            // The end closes the last part as a hyphen would.
+            for &b in text.iter().chain(b"-") {
+                if b == b'-' {
+                    let permitted = self.lengths.get(parts.count)?;
+                    if !permitted.contains(&(length - parts.ends[parts.count])) {
+                        return None;
+                    }
+                    parts.count += 1;
+                    parts.ends[parts.count] = length;
+                } else {
+                    parts.digits[length] = b - b'0';
+                    length += 1;
                 }
-                spans.starts[spans.count] = start;
-                spans.ends[spans.count] = start + part.len();
-                spans.count += 1;
-                start += part.len() + 1;
             }
         }
-        self.parts.contains(&spans.count).then_some(spans)
+        self.parts.contains(&parts.count).then_some(parts)
     }
 }
 
-/// The places of up to three parts, kept off the heap: listings ask often.
+/// A reference without its hyphens, kept off the heap: listings ask often.
 #[derive(Default)]
-struct Spans {
+struct Parts {
     count: usize,
-    starts: [usize; MOST_PARTS],
-    ends: [usize; MOST_PARTS],
-}
-
-impl Spans {
-    /// The bytes from the first of these parts to the last, hyphens included.
-    fn over(&self, parts: Range<usize>) -> Range<usize> {
-        self.starts[parts.start]..self.ends[parts.end - 1]
-    }
+    /// The values of all digits, one part after another.
+    digits: [u8; LONGEST],
+    /// Where the parts end among the digits, and before them where they begin.
+    ends: [usize; 1 + MOST_PARTS],
 }
 
 #[cfg(test)]

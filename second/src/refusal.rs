@@ -15,14 +15,22 @@ pub enum Reason {
     Model = 7,
     Parts = 8,
     ReferenceCheck = 9,
+    Type = 10,
+    Date = 11,
+    Orders = 12,
+    Sum = 13,
+    Unfinished = 14,
     Room = 15,
     Marks = 16,
+    Lines = 17,
 }
 
 #[derive(Clone, Copy, Debug, PartialEq, Eq)]
 pub struct Refusal {
     pub reason: Reason,
-    /// The field of a slip; 0 for a text that stands alone.
+    /// The line of a wage file; 0 for a slip and for a line that stands alone.
+    pub line: usize,
+    /// The field of a slip or line; 0 for a text that stands alone.
     pub field: usize,
     /// The needed number for `Reason::Room`, otherwise a byte: the offending
     /// one for `Reason::Byte`, else the first of the field.
@@ -33,6 +41,7 @@ impl Refusal {
     pub const fn at(reason: Reason, detail: usize) -> Self {
         Refusal {
             reason,
+            line: 0,
             field: 0,
             detail,
         }
@@ -41,10 +50,15 @@ impl Refusal {
     /// What was refused alone, as a field that begins at this byte.
     pub const fn in_field(self, field: usize, start: usize) -> Self {
         Refusal {
-            reason: self.reason,
             field,
             detail: start + self.detail,
+            ..self
         }
+    }
+
+    /// What was refused in a line that stood alone, as the line of a file.
+    pub const fn in_line(self, line: usize) -> Self {
+        Refusal { line, ..self }
     }
 
     pub const fn number(&self) -> u8 {
@@ -64,8 +78,9 @@ impl fmt::Display for Refusal {
             Reason::Room => write!(f, "refused 15 needed {}", self.detail),
             _ => write!(
                 f,
-                "refused {} line 0 field {} byte {}",
+                "refused {} line {} field {} byte {}",
                 self.number(),
+                self.line,
                 self.field,
                 self.detail
             ),

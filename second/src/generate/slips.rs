@@ -1,7 +1,8 @@
 //! Slips by dice: right ones, ones with wrong fields, and damaged ones.
 
-use super::{account, at_the_limits, join, misshapen, noise, reference, spoilt, Dice};
-use crate::account::iban;
+use super::{
+    account, amount, at_the_limits, join, misshapen, noise, reference, right_account, spoilt, Dice,
+};
 use crate::cases::swapped;
 use crate::reference::MODELS;
 use crate::refusal::Reason;
@@ -127,7 +128,7 @@ fn right(dice: &mut Dice) -> Fields {
         .map(|number| match number {
             1 => b"HRVHUB30".to_vec(),
             2 => b"EUR".to_vec(),
-            3 => dice_amount(dice),
+            3 => amount(dice),
             10 => right_account(dice),
             11 => format!("HR{:02}", model.number).into_bytes(),
             12 => reference(dice, model),
@@ -135,22 +136,6 @@ fn right(dice: &mut Dice) -> Fields {
             _ => right_text(dice, limit(number).expect("text")),
         })
         .collect()
-}
-
-fn dice_amount(dice: &mut Dice) -> Vec<u8> {
-    let long = dice.between(0, 15);
-    let mut digits = vec![b'0'; 15 - long];
-    digits.extend(dice.digits(long));
-    digits
-}
-
-fn right_account(dice: &mut Dice) -> Vec<u8> {
-    loop {
-        let text = account(dice);
-        if iban(&text).is_ok() {
-            return text;
-        }
-    }
 }
 
 fn right_purpose(dice: &mut Dice) -> Vec<u8> {

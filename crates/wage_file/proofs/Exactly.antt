@@ -1,0 +1,246 @@
+-- What is promised of a whole wage file: accepted exactly when it is right, with its counts told, and its parts told by its lines.
+-- Assumes nothing.
+use mathlib.Core.Path.{_≡_, refl, sym, ap, _∙_}
+use mathlib.Core.Logic.{_↔_}
+use mathlib.Core.Bool.{Bool, true, false, cond}
+use mathlib.Core.List.{List, [], _∷_, _++_, append-assoc}
+use Prim.Native.Nat.{ℕ, suc, _≤_}
+use native.Mathlib.Omega.{arith}
+use lib.ListN.{length}
+use Rattle.refusal.specs.Refusal.{none}
+use Rattle.refusal.specs.declared.Refusal.the-variants.{Date}
+use Rattle.dates.specs.Dates.{isDate}
+use Rattle.sums.specs.Sums.{sumOf}
+use Rattle.sums.proofs.Theorems.{sum-fits}
+use Rattle.wage_line.specs.declared.LineType.{LineType}
+use Rattle.wage_line.specs.declared.LineType.the-variants.{Label, Group, Order, Closing}
+use Rattle.wage_line.specs.declared.Typed.{Typed}
+use Rattle.wage_line.specs.declared.Typed.the-variants as typed
+use Rattle.wage_line.specs.Line.{typedOf}
+use Rattle.wage_fields.specs.Rules.{placesAnswer}
+use Rattle.judge.specs.declared.Condition.{Condition}
+use Rattle.judge.specs.declared.Condition.the-variants.{Fresh, Labelled, Refused}
+use Rattle.judge.specs.declared.Counts.{Counts}
+use Rattle.judge.specs.declared.Ending.the-variants as ending
+use Rattle.judge.specs.declared.Judge.{Judge}
+use Rattle.judge.specs.Judge.{isSound, begunAs, begun, labelled, opened, labelStep, groupStep, orderStep, closingStep, typeStep, stepped, steps, ended}
+use Rattle.wage_file.specs.Right.{Payments, File, groupLines, linesOf, ordersIn, tally, RightLine, kindOf, RightGroup, RightFile}
+use Rattle.wage_file.proofs.RunLaws.{Each, each-more, Ends, never, no-place, placed, went, told, sound, goes, same-counts, noGroup, inGroup, Rest, right-group, rest-run, run-rest}
+
+-- ---------------------------------------------------------------------------
+-- The first two lines
+
+module _ (day : ℕ) where
+  -- the record before the first line
+  abbrev fresh : Judge
+  fresh = begunAs day Fresh
+
+  -- the record after the label
+  abbrev afterLabel : List ℕ → Judge
+  afterLabel label = labelled fresh label
+
+  -- a record before a group is sound
+  begun-sound : (c : Condition) (kind lines : ℕ) → lines ≤ 1000000 → isSound (record { condition = c; day = day; kind = kind; lines = lines; groups = 0; orders = 0; declared = 0; promised = sumOf 0; counted = 0; total = sumOf 0 }) ≡ true
+  begun-sound c kind lines h =
+      sound (record { condition = c; day = day; kind = kind; lines = lines; groups = 0; orders = 0; declared = 0; promised = sumOf 0; counted = 0; total = sumOf 0 })
+      h (omega arith) (omega arith) (omega arith) (omega arith) (sum-fits 0 (omega arith)) (sum-fits 0 (omega arith))
+
+  -- a day that is a date begins fresh
+  begun-made : isDate day ≡ true → begun day ≡ fresh
+  unfolding begun
+  begun-made e = rw e
+
+  -- a right label is taken
+  label-made : (label : List ℕ) → RightLine day 0 Label label → stepped fresh label ≡ afterLabel label
+  unfolding labelStep
+  label-made label w = goes fresh label Label refl (begun-sound Fresh 0 0 (omega arith)) (omega arith) (w .typed) ∙ rw (w .fields)
+
+  -- and a right 301 after it
+  head-made : (label head : List ℕ) → RightLine day (kindOf label) Group head → stepped (afterLabel label) head ≡ inGroup day (kindOf label) head 2 1 0 0 0
+  unfolding groupStep
+  head-made label head w = goes (afterLabel label) head Group refl (begun-sound Labelled (kindOf label) 1 (omega arith)) (omega arith) (w .typed) ∙ rw (w .fields)
+
+  module _ (n : Counts) where
+    -- only a date begins what ends accepted
+    begun-told : (ls : List (List ℕ)) → Ends n ls (begun day) → (isDate day ≡ true) × Ends n ls fresh
+    unfolding begun
+    begun-told ls e = go (isDate day) refl e
+      where
+        go : (b : Bool) → isDate day ≡ b → Ends n ls (begunAs day (cond b Fresh (Refused (Date none)))) → (isDate day ≡ true) × Ends n ls fresh
+        go true f g = (f, g)
+        go false f g = absurd (never n ls (Date none) fresh g)
+
+    -- only a right label is taken first
+    label-told : (s : List ℕ) (ss : List (List ℕ)) → Ends n (s ∷ ss) fresh → RightLine day 0 Label s × Ends n ss (afterLabel s)
+    unfolding labelStep groupStep orderStep closingStep
+    label-told s ss e = let w = went n ss fresh s refl e in go (w .0) (w .1) (w .2)
+      where
+        go : (t : LineType) → typedOf s ≡ typed.Line t → Ends n ss (typeStep fresh s t) → RightLine day 0 Label s × Ends n ss (afterLabel s)
+        go Label f g = let p = placed n ss fresh (afterLabel s) (placesAnswer day 0 Label s) g in (record { typed = f; fields = p .0 }, p .1)
+        go Group f g = absurd (no-place n ss fresh g)
+        go Order f g = absurd (no-place n ss fresh g)
+        go Closing f g = absurd (no-place n ss fresh g)
+
+    -- and only a right 301 after it
+    head-told : (label s : List ℕ) (ss : List (List ℕ)) → Ends n (s ∷ ss) (afterLabel label) → RightLine day (kindOf label) Group s × Ends n ss (inGroup day (kindOf label) s 2 1 0 0 0)
+    unfolding labelStep groupStep orderStep closingStep
+    head-told label s ss e = let w = went n ss (afterLabel label) s refl e in go (w .0) (w .1) (w .2)
+      where
+        go : (t : LineType) → typedOf s ≡ typed.Line t → Ends n ss (typeStep (afterLabel label) s t) → RightLine day (kindOf label) Group s × Ends n ss (inGroup day (kindOf label) s 2 1 0 0 0)
+        go Label f g = absurd (no-place n ss (afterLabel label) g)
+        go Group f g = let p = placed n ss (afterLabel label) (opened (afterLabel label) s) (placesAnswer day (kindOf label) Group s) g in (record { typed = f; fields = p .0 }, p .1)
+        go Order f g = absurd (no-place n ss (afterLabel label) g)
+        go Closing f g = absurd (no-place n ss (afterLabel label) g)
+
+-- ---------------------------------------------------------------------------
+-- Accepted exactly when
+
+-- lines are those of a right file, and these are its counts
+pub record RightLines (day : ℕ) (ls : List (List ℕ)) (n : Counts) : Type 0 where
+  pub file : File
+  pub lines : linesOf file ≡ ls
+  pub right : RightFile day file
+  pub counts : tally file ≡ n
+
+module _ (day : ℕ) where
+  -- a right label, a right 301 and what must follow are a right file
+  file-made :
+      (label head : List ℕ) (ss : List (List ℕ)) (n : Counts) → isDate day ≡ true → RightLine day 0 Label label → RightLine day (kindOf label) Group head →
+      Rest day (kindOf label) head 2 1 0 0 0 ss n → RightLines day (label ∷ (head ∷ ss)) n
+  unfolding groupLines ordersIn
+  file-made label head ss n a b c r =
+      let g : Payments = record { head = head; orders = r .payments } in
+      let f : File = record { label = label; groups = g ∷ r .following; closing = r .closing } in
+      let e : linesOf f ≡ label ∷ (head ∷ ss) =
+      ap (λ (ls : List (List ℕ)). label ∷ (head ∷ ls)) (append-assoc (r .payments) (groupLines (r .following)) (r .closing ∷ []) ∙ r .inOrder) in
+      record {
+        file = f;
+        lines = e;
+        right = record {
+          dated = a;
+          label = b;
+          some = omega arith;
+          each = each-more (RightGroup day (kindOf label)) noGroup g (r .following) (right-group day (kindOf label) head 2 1 0 ss n c r) (r .eachGroup);
+          closing = r .last;
+          limit = omega (arith, ap length e, r .limit);
+        };
+        counts = same-counts (tally f) n (omega (arith, ap length e, r .linesTold)) (omega (arith, r .groupsTold)) (omega (arith, r .ordersTold));
+      }
+
+  -- what is accepted is right
+  accepted-right : (ls : List (List ℕ)) (n : Counts) → ended (steps (begun day) ls) ≡ ending.Accepted n → RightLines day ls n
+  unfolding steps
+  accepted-right [] n e =
+      let t = told n (fresh day) (begun-told day n [] e .1) .last in
+      let z : _≡_ {A = ℕ} 0 1 = cc in
+      absurd (omega arith)
+  accepted-right (s ∷ []) n e =
+      let t = told n (afterLabel day s) (label-told day n s [] (begun-told day n (s ∷ []) e .1) .1) .last in
+      let z : _≡_ {A = ℕ} 0 1 = cc in
+      absurd (omega arith)
+  accepted-right (s ∷ (t ∷ ss)) n e =
+      let a = begun-told day n (s ∷ (t ∷ ss)) e in
+      let b = label-told day n s (t ∷ ss) (a .1) in
+      let c = head-told day n s t ss (b .1) in
+      file-made s t ss n (a .0) (b .0) (c .0) (run-rest day (kindOf s) n ss t 2 1 0 0 0 (c .1))
+
+  -- the lines of a right file end accepted, with its counts
+  right-run : (label : List ℕ) (gs : List Payments) (closing : List ℕ) → let f : File = record { label = label; groups = gs; closing = closing } in RightFile day f → Ends (tally f) (linesOf f) (begun day)
+  unfolding steps groupLines ordersIn
+  right-run label [] closing w = let h = w .some in absurd (omega arith)
+  right-run label (g ∷ gs) closing w =
+      let f : File = record { label = label; groups = g ∷ gs; closing = closing } in
+      let x : RightGroup day (kindOf label) g = w .each 0 (omega arith) in
+      let ss = (g .orders ++ groupLines gs) ++ (closing ∷ []) in
+      let limit = w .limit in
+      let r : Rest day (kindOf label) (g .head) 2 1 0 0 0 ss (tally f) =
+      record {
+        payments = g .orders;
+        following = gs;
+        closing = closing;
+        inOrder = sym (append-assoc (g .orders) (groupLines gs) (closing ∷ []));
+        each = x .each;
+        some = omega (arith, x .some);
+        number = omega (arith, x .number);
+        sum = omega (arith, x .sum);
+        eachGroup = λ k h. w .each (suc k) (omega arith);
+        last = w .closing;
+        limit = omega arith;
+        linesTold = omega arith;
+        groupsTold = omega arith;
+        ordersTold = omega arith;
+      } in
+      ap (λ (j : Judge). ended (steps j (linesOf f))) (begun-made day (w .dated)) ∙
+      (ap (λ (j : Judge). ended (steps j (g .head ∷ ss))) (label-made day label (w .label)) ∙
+      (ap (λ (j : Judge). ended (steps j ss)) (head-made day label (g .head) (x .head)) ∙
+      rest-run day (kindOf label) (g .head) 2 1 0 0 0 ss (tally f) (omega arith) (omega arith) r))
+
+  -- what is right is accepted
+  right-accepted : (ls : List (List ℕ)) (n : Counts) → RightLines day ls n → ended (steps (begun day) ls) ≡ ending.Accepted n
+  right-accepted ls n w =
+      let f = w .file in
+      ap (λ (ss : List (List ℕ)). ended (steps (begun day) ss)) (sym (w .lines)) ∙
+      (right-run (f .label) (f .groups) (f .closing) (w .right) ∙
+      ap ending.Accepted (w .counts))
+
+  -- a wage file is accepted, and these counts told, exactly when its lines are those of a right file with these counts
+  pub accepted-exactly : (ls : List (List ℕ)) (n : Counts) → (ended (steps (begun day) ls) ≡ ending.Accepted n) ↔ RightLines day ls n
+  accepted-exactly ls n = (accepted-right ls n, right-accepted ls n)
+
+-- ---------------------------------------------------------------------------
+-- A right file's parts are told by its lines
+
+-- lines taken apart: orders first, then groups, then the 399
+record Parts : Type 0 where
+  orders : List (List ℕ)
+  groups : List Payments
+  closing : List ℕ
+
+-- with one more line in front, by its type
+abbrev withLine : List ℕ → Parts → Typed → Parts
+withLine s p (typed.Line Label) = p
+withLine s p (typed.Line Group) = record { orders = []; groups = record { head = s; orders = p .orders } ∷ p .groups; closing = p .closing }
+withLine s p (typed.Line Order) = record { orders = s ∷ p .orders; groups = p .groups; closing = p .closing }
+withLine s p (typed.Line Closing) = record { orders = []; groups = []; closing = s }
+withLine s p (typed.Refused r) = p
+
+-- the parts of some lines
+partsOf : List (List ℕ) → Parts
+partsOf [] = record { orders = []; groups = []; closing = [] }
+partsOf (s ∷ ss) = withLine s (partsOf ss) (typedOf s)
+
+-- the file of some lines
+fileOf : List (List ℕ) → File
+fileOf [] = record { label = []; groups = []; closing = [] }
+fileOf (s ∷ ss) = record { label = s; groups = partsOf ss .groups; closing = partsOf ss .closing }
+
+module _ (day kind : ℕ) (closing : List ℕ) where
+  -- right orders are told apart from what follows them
+  orders-parts :
+      (gs : List Payments) (ss os : List (List ℕ)) → Each (RightLine day kind Order) [] os → partsOf ss ≡ record { orders = []; groups = gs; closing = closing } →
+      partsOf (os ++ ss) ≡ record { orders = os; groups = gs; closing = closing }
+  unfolding partsOf
+  orders-parts gs ss [] f e = e
+  orders-parts gs ss (s ∷ os) f e =
+      let w : RightLine day kind Order s = f 0 (omega arith) in
+      rw (w .typed, orders-parts gs ss os (λ k h. f (suc k) (omega arith)) e)
+
+  -- and right groups from one another
+  groups-parts :
+      typedOf closing ≡ typed.Line Closing → (gs : List Payments) → Each (RightGroup day kind) noGroup gs →
+      partsOf (groupLines gs ++ (closing ∷ [])) ≡ record { orders = []; groups = gs; closing = closing }
+  unfolding partsOf groupLines
+  groups-parts w [] f = rw w
+  groups-parts w (g ∷ gs) f =
+      let x : RightGroup day kind g = f 0 (omega arith) in
+      let more = groupLines gs ++ (closing ∷ []) in
+      rw (x .head .typed, append-assoc (g .orders) (groupLines gs) (closing ∷ []), orders-parts gs more (g .orders) (x .each) (groups-parts w gs (λ k h. f (suc k) (omega arith))))
+
+-- a right file is the file of its lines
+file-told : (day : ℕ) (f : File) → RightFile day f → fileOf (linesOf f) ≡ f
+unfolding fileOf
+file-told day f w = rw (groups-parts day (kindOf (f .label)) (f .closing) (w .closing) (f .groups) (w .each))
+
+-- two right files of the same lines are the same
+pub one-file : (day : ℕ) (f g : File) → linesOf f ≡ linesOf g → RightFile day f → RightFile day g → f ≡ g
+one-file day f g e v w = sym (file-told day f v) ∙ (ap fileOf e ∙ file-told day g w)

@@ -1,0 +1,55 @@
+-- What is promised of a whole wage file: accepted exactly when its pieces are the lines of a right file, the same answer when it is read in parts
+-- of whole lines, the answer of the lines that it is made of, 14 for an empty one, and one answer.
+-- Assumes nothing.
+use mathlib.Core.Path.{_≡_, ap, _∙_}
+use mathlib.Core.Logic.{_↔_}
+use mathlib.Core.Bool.{true}
+use mathlib.Core.List.{List, [], _++_}
+use Prim.Native.Nat.{ℕ, _%_, _<_}
+use lib.ListN.{length, getD}
+use Rattle.refusal.specs.Only.{Only, defined-only}
+use Rattle.refusal.specs.declared.Refusal.the-variants.{Unfinished}
+use Rattle.dates.specs.Dates.{isDate}
+use Rattle.sums.specs.Sums.{sumOf}
+use Rattle.wage_line.specs.Pieces.{piecesOf, pieces, joined}
+use Rattle.wage_line.proofs.PieceLaws.{pieces-of-lines}
+use Rattle.judge.specs.declared.Counts.{Counts}
+use Rattle.judge.specs.declared.Ending.{Ending}
+use Rattle.judge.specs.declared.Ending.the-variants.{Accepted, Refused}
+use Rattle.judge.specs.declared.Judge.{Judge}
+use Rattle.judge.specs.Judge.{lineAlone, isSound, begun, steps, ended}
+use Rattle.judge.proofs.Theorems.{steps-append}
+use Rattle.wage_file.proofs.Exactly.{RightLines, accepted-exactly}
+use Rattle.wage_file.specs.File.{fileAnswer}
+use Rattle.wage_file.proofs.Laws.{pieces-append}
+
+-- a whole file is accepted, and these counts told, exactly when its pieces are the lines of a right file with these counts
+pub file-accepted-exactly : (day : ℕ) (s : List ℕ) (n : Counts) → (fileAnswer day s ≡ Accepted n) ↔ RightLines day (pieces s) n
+unfolding fileAnswer
+file-accepted-exactly day s n = accepted-exactly day (pieces s) n
+
+-- a part of whole lines, then the rest, lead to the same record as both at once
+pub in-parts : (j : Judge) (a b : List ℕ) → length a % 1002 ≡ 0 → steps j (pieces (a ++ b)) ≡ steps (steps j (pieces a)) (pieces b)
+in-parts j a b e = ap (λ (ss : List (List ℕ)). steps j ss) (pieces-append a b e) ∙ steps-append j (pieces a) (pieces b)
+
+-- a file of whole lines gets the answer of these lines
+pub of-lines :
+    (day : ℕ) (ls : List (List ℕ)) → ((k : ℕ) → k < length ls → length (getD ls k []) ≡ 1002)
+    → fileAnswer day (joined ls) ≡ ended (steps (begun day) ls)
+unfolding fileAnswer
+of-lines day ls f = ap (λ (ss : List (List ℕ)). ended (steps (begun day) ss)) (pieces-of-lines ls f)
+
+-- an empty file is not finished: 14 at line 1
+pub empty-file : (day : ℕ) → isDate day ≡ true → fileAnswer day [] ≡ Refused (Unfinished (lineAlone 1))
+unfolding fileAnswer piecesOf begun steps ended isSound sumOf
+empty-file day e = rw e
+
+-- ---------------------------------------------------------------------------
+-- Any two answers that a contract allows are equal
+
+module _ (s : List ℕ) where
+  pub lines-only : (from : Judge) → Only (λ (r : Judge). r ≡ steps from (pieces s))
+  lines-only from = defined-only (steps from (pieces s))
+
+  pub whole-only : (day : ℕ) → Only (λ (r : Ending). r ≡ fileAnswer day s)
+  whole-only day = defined-only (fileAnswer day s)

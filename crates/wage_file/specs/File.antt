@@ -1,0 +1,10 @@
+-- Document 01, "The wage file": what a whole lent file is answered.
+use Prim.Native.Nat.{ℕ}
+use mathlib.Core.List.{List}
+use Rattle.wage_line.specs.Pieces.{pieces}
+use Rattle.judge.specs.Judge.{begun, steps, ended}
+use Rattle.judge.specs.declared.Ending.{Ending}
+
+-- "the answer of its 1,002-byte pieces, one by one"
+unfoldable pub fileAnswer : ℕ → List ℕ → Ending
+fileAnswer day s = ended (steps (begun day) (pieces s))

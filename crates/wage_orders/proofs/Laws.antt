@@ -1,0 +1,71 @@
+-- Laws of a group's orders: their answer and their sum from a place on. Assumes nothing.
+use mathlib.Core.Path.{_≡_, sym, ap, _∙_}
+use mathlib.Core.List.{List}
+use Prim.Native.Nat.{ℕ, _+_, _≤_, _<_}
+use native.Mathlib.Nat.{add-zero, zero-add}
+use native.Mathlib.Omega.{arith}
+use lib.ListN.{length, take, drop}
+use Rattle.refusal.specs.declared.Answer.the-variants.{Accepted, Refused}
+use Rattle.refusal.specs.declared.Refusal.{Refusal}
+use Rattle.sums.specs.Sums.{centsOf, sumOf, added}
+use Rattle.sums.specs.declared.Sum.{Sum}
+use Rattle.sums.proofs.Laws.{added-on}
+use Rattle.wage_line.specs.declared.LineType.the-variants.{Order}
+use Rattle.wage_line.specs.Line.{partOf}
+use Rattle.wage_line.specs.Pieces.{pieces, nextPiece}
+use Rattle.wage_line.proofs.PieceLaws.{pieces-more, pieces-end}
+use Rattle.wage_contents.specs.Contents.{numberIn}
+use Rattle.wage_file.specs.Right.{amounts}
+use Rattle.wage_orders.specs.Orders.{orderAnswer, ordersFrom}
+
+-- ---------------------------------------------------------------------------
+-- The orders from a place on, the line there being n
+
+module _ (day kind n : ℕ) (s : List ℕ) (at : ℕ) where
+  -- an accepted line: the answer is that of the lines from the next place on
+  pub orders-on :
+      at < length s → orderAnswer day kind n (take 1002 (drop at s)) ≡ Accepted →
+      ordersFrom day kind n (pieces (drop at s)) ≡ ordersFrom day kind (n + 1) (pieces (drop (nextPiece (length s) at) s))
+  unfolding ordersFrom
+  orders-on h e = rw (pieces-more s at h, e)
+
+  -- a refused one: its refusal
+  pub orders-stop :
+      (r : Refusal) → at < length s → orderAnswer day kind n (take 1002 (drop at s)) ≡ Refused r →
+      ordersFrom day kind n (pieces (drop at s)) ≡ Refused r
+  unfolding ordersFrom
+  orders-stop r h e = rw (pieces-more s at h, e)
+
+  -- at the end all were accepted
+  pub orders-end : length s ≤ at → ordersFrom day kind n (pieces (drop at s)) ≡ Accepted
+  unfolding ordersFrom
+  orders-end h = rw (pieces-end s at h)
+
+-- ---------------------------------------------------------------------------
+-- The sum from a place on
+
+-- the sum of a number is the sum of the number that it stands for
+pub kept : (m : ℕ) → sumOf (centsOf (sumOf m)) ≡ sumOf m
+kept m = rw (add-zero, add-zero) at (added-on m 0)
+
+-- before the first place: all amounts
+pub amounts-first : (n : ℕ) → sumOf n ≡ added (sumOf 0) n
+amounts-first n = sym (rw zero-add at (added-on 0 n))
+
+module _ (sum : Sum) (s : List ℕ) (at : ℕ) where
+  -- the amount there, and those from the next place on
+  pub amounts-on :
+      at < length s →
+      added sum (amounts (pieces (drop at s))) ≡
+      added (added sum (numberIn (partOf Order 10 (take 1002 (drop at s))))) (amounts (pieces (drop (nextPiece (length s) at) s)))
+  unfolding amounts
+  amounts-on h =
+      let x = numberIn (partOf Order 10 (take 1002 (drop at s))) in
+      let rest = amounts (pieces (drop (nextPiece (length s) at) s)) in
+      let e : centsOf sum + (x + rest) ≡ centsOf sum + x + rest = omega arith in
+      rw (pieces-more s at h) (ap sumOf e ∙ sym (added-on (centsOf sum + x) rest))
+
+  -- at the end there is nothing more
+  pub amounts-end : length s ≤ at → added sum (amounts (pieces (drop at s))) ≡ sumOf (centsOf sum)
+  unfolding amounts
+  amounts-end h = rw (pieces-end s at h) (ap sumOf (add-zero (centsOf sum)))

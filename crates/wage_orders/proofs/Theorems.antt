@@ -1,0 +1,148 @@
+-- What is promised of a group's lent orders: accepted exactly when they are whole, some, not too many and each right, their sum below 10^20 whatever
+-- their bytes are, and one answer.
+-- Assumes nothing.
+use mathlib.Core.Path.{_≡_, refl}
+use mathlib.Core.Logic.{_↔_}
+use mathlib.Core.Bool.{Bool, true, false, cond}
+use mathlib.Core.List.{List, [], _∷_}
+use Prim.Native.Nat.{ℕ, suc, _+_, _*_, _/_, _%_, _≤_, _<_}
+use native.Mathlib.Omega.{arith}
+use lib.Dec.{eqb, leb}
+use lib.ListN.{length, take, getD, length-take}
+use borrow.Author.Tests.{leb-true, eqb-true, eqb-false, le-leb, eq-eqb, ne-eqb}
+use Rattle.refusal.specs.Only.{Only, defined-only}
+use Rattle.refusal.specs.Refusal.{none}
+use Rattle.refusal.specs.declared.Answer.{Answer}
+use Rattle.refusal.specs.declared.Answer.the-variants as answer
+use Rattle.refusal.specs.declared.Refusal.the-variants.{Size, Misplaced, Orders}
+use Rattle.sums.specs.declared.Sum.{Sum}
+use Rattle.sums.specs.Sums.{sumOf}
+use Rattle.sums.proofs.Theorems.{text-small}
+use Rattle.wage_line.specs.declared.LineType.the-variants.{Label, Group, Order, Closing}
+use Rattle.wage_line.specs.declared.Typed.{Typed}
+use Rattle.wage_line.specs.declared.Typed.the-variants as typed
+use Rattle.wage_line.specs.Line.{typedOf, partOf}
+use Rattle.wage_line.specs.Places.{spots, spotIn}
+use Rattle.wage_line.specs.Pieces.{pieces}
+use Rattle.wage_line.proofs.PieceLaws.{whole-pieces}
+use Rattle.wage_contents.specs.Contents.{andThen, numberIn}
+use Rattle.wage_fields.specs.Rules.{placesAnswer}
+use Rattle.wage_file.specs.Right.{RightLine, amounts}
+use Rattle.wage_file.proofs.RunLaws.{Each, each-more}
+use Rattle.wage_orders.specs.Orders.{answerIn, orderFrom, orderAnswer, ordersFrom, groupOrders}
+
+-- ---------------------------------------------------------------------------
+-- Accepted exactly when
+
+module _ (day kind : ℕ) where
+  -- an accepted line is a right order
+  order-told : (n : ℕ) (s : List ℕ) → orderAnswer day kind n s ≡ answer.Accepted → RightLine day kind Order s
+  unfolding orderAnswer
+  order-told n s e = go (typedOf s) refl e
+    where
+      fields : (a : Answer) → answerIn n a ≡ answer.Accepted → a ≡ answer.Accepted
+      fields answer.Accepted g = refl
+      fields (answer.Refused r) g = let z : _≡_ {A = ℕ} 0 1 = cc in absurd (omega arith)
+
+      go : (t : Typed) → typedOf s ≡ t → orderFrom day kind n s t ≡ answer.Accepted → RightLine day kind Order s
+      go (typed.Line Label) f g = let z : _≡_ {A = ℕ} 0 1 = cc in absurd (omega arith)
+      go (typed.Line Group) f g = let z : _≡_ {A = ℕ} 0 1 = cc in absurd (omega arith)
+      go (typed.Line Order) f g = record { typed = f; fields = fields (placesAnswer day kind Order s) g }
+      go (typed.Line Closing) f g = let z : _≡_ {A = ℕ} 0 1 = cc in absurd (omega arith)
+      go (typed.Refused r) f g = let z : _≡_ {A = ℕ} 0 1 = cc in absurd (omega arith)
+
+  -- a right order is accepted
+  order-made : (n : ℕ) (s : List ℕ) → RightLine day kind Order s → orderAnswer day kind n s ≡ answer.Accepted
+  unfolding orderAnswer
+  order-made n s w = rw (w .typed, w .fields)
+
+  -- each line of some is a right order
+  abbrev EachRight : List (List ℕ) → Type 0
+  EachRight ss = Each (RightLine day kind Order) [] ss
+
+  -- accepted lines are right orders
+  orders-told : (n : ℕ) (ss : List (List ℕ)) → ordersFrom day kind n ss ≡ answer.Accepted → EachRight ss
+  unfolding ordersFrom
+  orders-told n [] e = λ k h. absurd (omega arith)
+  orders-told n (s ∷ ss) e = go (orderAnswer day kind n s) refl e (orders-told (n + 1) ss)
+    where
+      go : (a : Answer) → orderAnswer day kind n s ≡ a → andThen a (ordersFrom day kind (n + 1) ss) ≡ answer.Accepted → (ordersFrom day kind (n + 1) ss ≡ answer.Accepted → EachRight ss) → EachRight (s ∷ ss)
+      go answer.Accepted f g rest = each-more (RightLine day kind Order) [] s ss (order-told n s f) (rest g)
+      go (answer.Refused r) f g rest = let z : _≡_ {A = ℕ} 0 1 = cc in absurd (omega arith)
+
+  -- right orders are accepted
+  orders-made : (n : ℕ) (ss : List (List ℕ)) → EachRight ss → ordersFrom day kind n ss ≡ answer.Accepted
+  unfolding ordersFrom
+  orders-made n [] f = refl
+  orders-made n (s ∷ ss) f = rw (order-made n s (f 0 (omega arith))) (orders-made (n + 1) ss (λ k h. f (suc k) (omega arith)))
+
+  module _ (s : List ℕ) where
+    -- what is accepted
+    group-told :
+        groupOrders day kind s ≡ answer.Accepted →
+        (length s % 1002 ≡ 0) × (0 < length s) × (length s / 1002 ≤ 99999) × EachRight (pieces s)
+    unfolding groupOrders
+    group-told e = go (eqb (length s % 1002) 0) (eqb (length s) 0) (leb (length s / 1002) 99999) refl refl refl e
+      where
+        go :
+            (a b c : Bool) → eqb (length s % 1002) 0 ≡ a → eqb (length s) 0 ≡ b → leb (length s / 1002) 99999 ≡ c →
+            cond a (cond b (answer.Refused (Misplaced none)) (cond c (ordersFrom day kind 1 (pieces s)) (answer.Refused (Orders none)))) (answer.Refused (Size none)) ≡ answer.Accepted →
+            (length s % 1002 ≡ 0) × (0 < length s) × (length s / 1002 ≤ 99999) × EachRight (pieces s)
+        go true false true p q r g =
+            let n = eqb-false (length s) 0 q in
+            (eqb-true (length s % 1002) 0 p, omega arith, leb-true (length s / 1002) 99999 r, orders-told 1 (pieces s) g)
+        go true false false p q r g = let z : _≡_ {A = ℕ} 0 1 = cc in absurd (omega arith)
+        go true true c p q r g = let z : _≡_ {A = ℕ} 0 1 = cc in absurd (omega arith)
+        go false b c p q r g = let z : _≡_ {A = ℕ} 0 1 = cc in absurd (omega arith)
+
+    -- what is right
+    group-made :
+        (length s % 1002 ≡ 0) × (0 < length s) × (length s / 1002 ≤ 99999) × EachRight (pieces s) →
+        groupOrders day kind s ≡ answer.Accepted
+    unfolding groupOrders
+    group-made w =
+        let p : length s % 1002 ≡ 0 = w .0 in
+        let q : 0 < length s = w .1 in
+        let r : length s / 1002 ≤ 99999 = w .2 in
+        let n : length s ≡ 0 → ⊥ = λ e. omega arith in
+        rw (eq-eqb (length s % 1002) 0 p, ne-eqb (length s) 0 n, le-leb (length s / 1002) 99999 r) (orders-made 1 (pieces s) (w .3))
+
+    -- lent orders are accepted exactly when they are whole lines, at least one and at most 99,999, and each is a right order
+    pub orders-right :
+        (groupOrders day kind s ≡ answer.Accepted)
+        ↔ ((length s % 1002 ≡ 0) × (0 < length s) × (length s / 1002 ≤ 99999) × ((k : ℕ) → k < length (pieces s) → RightLine day kind Order (getD (pieces s) k [])))
+    orders-right = (group-told, group-made)
+
+-- ---------------------------------------------------------------------------
+-- The sum of at most 99,999 orders, whatever their bytes are
+
+-- fifteen bytes write less than 10^15
+amount-small : (s : List ℕ) → numberIn (partOf Order 10 s) < 1000000000000000
+unfolding spots spotIn
+amount-small s = text-small 15 (take 18 (partOf Order 10 s)) (simp length-take (omega arith))
+
+amounts-at-most : (ss : List (List ℕ)) → amounts ss ≤ length ss * 1000000000000000
+unfolding amounts
+amounts-at-most [] = omega arith
+amounts-at-most (s ∷ ss) = omega (arith, amount-small s, amounts-at-most ss)
+
+-- twenty digits write it
+pub amounts-small : (s : List ℕ) → length s / 1002 ≤ 99999 → length s % 1002 ≡ 0 → amounts (pieces s) < 100000000000000000000
+amounts-small s h e = omega (arith, amounts-at-most (pieces s), whole-pieces s e .0)
+
+-- so the sum of accepted orders has at most twenty digits
+pub accepted-small : (day kind : ℕ) (s : List ℕ) → groupOrders day kind s ≡ answer.Accepted → amounts (pieces s) < 100000000000000000000
+accepted-small day kind s e = let h = orders-right day kind s .0 e in amounts-small s (h .2) (h .0)
+
+-- ---------------------------------------------------------------------------
+-- Any two answers that a contract allows are equal
+
+module _ (s : List ℕ) where
+  pub judge-only : (day kind : ℕ) → Only (λ (r : Answer). r ≡ groupOrders day kind s)
+  judge-only day kind = defined-only (groupOrders day kind s)
+
+  pub number-only : Only (λ (r : ℕ). r ≡ length s / 1002)
+  number-only = defined-only (length s / 1002)
+
+  pub total-only : Only (λ (r : Sum). r ≡ sumOf (amounts (pieces s)))
+  total-only = defined-only (sumOf (amounts (pieces s)))

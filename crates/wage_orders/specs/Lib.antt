@@ -1,0 +1,2 @@
+-- The definitions of the crate `wage_orders`.
+pub mod Orders
