@@ -5,10 +5,6 @@ use lib.Seq.{length-take-le}
 use borrow.Author.Needs.{needs}
 use Rattle.wagefile.proofs.day.Statement.{statement}
 use Rattle.wagefile.proofs.day.Tie as tie
-use Rattle.wagefile.proofs.day.Reads as reads
-use Rattle.wagefile.proofs.day.Lts as lts
-use Rattle.sums.proofs.number.Reads as number-reads
-use Rattle.text.proofs.all_of.Reads as all-of-reads
 
 returns : tie.Need-returns
 returns c = search needs

@@ -5,9 +5,6 @@ use native.Mathlib.Omega.{arith}
 use lib.ListN.{length}
 use Rattle.wagefile.proofs.read_lines.Statement.{statement}
 use Rattle.wagefile.proofs.read_lines.Tie as tie
-use Rattle.wagefile.proofs.read_lines.Reads as reads
-use Rattle.wagefile.proofs.read_lines.Lts as lts
-use Rattle.wagefile.proofs.read_some.Reads as read-some-reads
 
 abbrev Inv-loop : tie.InvT-loop
 Inv-loop buffer₀ j₀ turns₀ buffer j turns = length buffer ≡ length buffer₀

@@ -1,0 +1,3 @@
+-- The definitions of the crate `wage_draft`.
+pub mod Fields
+pub mod Draft

@@ -1,0 +1,26 @@
+-- `wage_writer::draft_line` meets its contract: the blanks are dressed, and all places drafted. Assumes nothing.
+use Rattle.wage_writer.proofs.Laws.{bare, all-places}
+use borrow.Author.Needs.{needs}
+use Rattle.wage_writer.proofs.draft_line.Statement.{statement}
+use Rattle.wage_writer.proofs.draft_line.Tie as tie
+
+dress-requires : tie.Need-dress-requires
+dress-requires c κs = search needs
+
+count-requires : tie.Need-count-requires
+count-requires c κs = search needs
+
+draft-requires : tie.Need-draft-requires
+draft-requires c κs = search needs
+
+same-length : tie.Need-same-length
+same-length c = search needs
+
+returns : tie.Need-returns
+returns c =
+    let z = c .before .before .before .before .before .before .before .before .before .before .before .before in
+    all-places (z .args .day) (z .args .kind) (z .args .t) _ _ _ _ _ (c .before .before .before .before .count .ensures) (bare (z .args .t) _ _ (z .pre) (c .before .before .before .before .before .before .before .dress .ensures)) (c .before .before .draft .ensures)
+
+pub draft-line-spec : {M : Type 1} → statement M
+draft-line-spec =
+    tie.close (tie.spec dress-requires count-requires draft-requires same-length returns)
