@@ -11,9 +11,12 @@ use std::io::{self, Write};
 mod slips;
 mod wagecases;
 mod wages;
-pub use slips::slip;
-pub use wagecases::wage_cases;
-pub use wages::{large_wage_file, long_wage_file, right_wage_file, wage_input, WageFile};
+pub use slips::{right_slip, slip, spoil_slip};
+pub use wagecases::{spoilt_line, wage_cases};
+pub use wages::{
+    large_wage_file, long_wage_file, right_day, right_group, right_label, right_order,
+    right_wage_file, slices, spoil, wage_input, Fields, WageFile,
+};
 
 /// splitmix64.
 pub struct Dice(u64);
@@ -23,7 +26,7 @@ impl Dice {
         Dice(seed)
     }
 
-    fn next(&mut self) -> u64 {
+    pub fn roll(&mut self) -> u64 {
         self.0 = self.0.wrapping_add(0x9E37_79B9_7F4A_7C15);
         let mut z = self.0;
         z = (z ^ (z >> 30)).wrapping_mul(0xBF58_476D_1CE4_E5B9);
@@ -32,32 +35,32 @@ impl Dice {
     }
 
     /// 0 to n - 1; the bias of the remainder is no harm here.
-    fn below(&mut self, n: usize) -> usize {
-        (self.next() % n as u64) as usize
+    pub fn below(&mut self, n: usize) -> usize {
+        (self.roll() % n as u64) as usize
     }
 
-    fn between(&mut self, low: usize, high: usize) -> usize {
+    pub fn between(&mut self, low: usize, high: usize) -> usize {
         low + self.below(high - low + 1)
     }
 
-    fn one_in(&mut self, n: usize) -> bool {
+    pub fn one_in(&mut self, n: usize) -> bool {
         self.below(n) == 0
     }
 
-    fn pick<'a, T>(&mut self, from: &'a [T]) -> &'a T {
+    pub fn pick<'a, T>(&mut self, from: &'a [T]) -> &'a T {
         &from[self.below(from.len())]
     }
 
-    fn digit(&mut self) -> u8 {
+    pub fn digit(&mut self) -> u8 {
         b'0' + self.below(10) as u8
     }
 
-    fn digits(&mut self, n: usize) -> Vec<u8> {
+    pub fn digits(&mut self, n: usize) -> Vec<u8> {
         (0..n).map(|_| self.digit()).collect()
     }
 
     /// Any byte that does not end the line.
-    fn byte(&mut self) -> u8 {
+    pub fn byte(&mut self) -> u8 {
         match self.below(256) as u8 {
             b'\n' => 0,
             b => b,
@@ -127,7 +130,9 @@ fn join(words: &[&[u8]]) -> Vec<u8> {
 
 // Right texts.
 
-fn account(dice: &mut Dice) -> Vec<u8> {
+/// An account number with its check digits, which now and then are a forbidden
+/// twin of the right ones.
+pub fn account(dice: &mut Dice) -> Vec<u8> {
     // Now and then the three check digits that have a forbidden twin.
     let twin = dice.one_in(6);
     loop {
@@ -149,7 +154,8 @@ fn account(dice: &mut Dice) -> Vec<u8> {
     }
 }
 
-fn right_account(dice: &mut Dice) -> Vec<u8> {
+/// An IBAN that passes.
+pub fn right_account(dice: &mut Dice) -> Vec<u8> {
     loop {
         let text = account(dice);
         if iban(&text).is_ok() {
@@ -166,7 +172,8 @@ fn amount(dice: &mut Dice) -> Vec<u8> {
     digits
 }
 
-fn oib(dice: &mut Dice) -> Vec<u8> {
+/// An OIB that passes.
+pub fn oib(dice: &mut Dice) -> Vec<u8> {
     let body = dice.digits(10);
     completed(Rule::Iso, body)
 }
@@ -178,7 +185,7 @@ fn completed(rule: Rule, mut body: Vec<u8>) -> Vec<u8> {
 }
 
 /// A reference that passes.
-fn reference(dice: &mut Dice, model: &Model) -> Vec<u8> {
+pub fn reference(dice: &mut Dice, model: &Model) -> Vec<u8> {
     let shape = shape(dice, model);
     filled(dice, model, &shape)
 }
@@ -220,7 +227,8 @@ fn filled(dice: &mut Dice, model: &Model, lengths: &[usize]) -> Vec<u8> {
 
 // Texts that are right, nearly right, or wrong.
 
-fn spoilt(dice: &mut Dice, text: Vec<u8>) -> Vec<u8> {
+/// The text as it is, with damage, or something else altogether.
+pub fn spoilt(dice: &mut Dice, text: Vec<u8>) -> Vec<u8> {
     match dice.below(20) {
         0..=6 => text,
         7..=10 if !text.is_empty() => {
@@ -242,7 +250,7 @@ fn spoilt(dice: &mut Dice, text: Vec<u8>) -> Vec<u8> {
 
 /// Right check digits in a shape that is one off: a wrong shape must be
 /// noticed even where nothing else is wrong.
-fn misshapen(dice: &mut Dice, model: &Model) -> Vec<u8> {
+pub fn misshapen(dice: &mut Dice, model: &Model) -> Vec<u8> {
     let mut lengths = shape(dice, model);
     let place = dice.below(lengths.len().max(1));
     match dice.below(4) {
@@ -299,7 +307,7 @@ fn double_hyphen(text: &mut Vec<u8>) {
 }
 
 /// Up to `longest` bytes, of the text's own alphabet or of any.
-fn noise(dice: &mut Dice, longest: usize) -> Vec<u8> {
+pub fn noise(dice: &mut Dice, longest: usize) -> Vec<u8> {
     let length = dice.between(0, longest);
     let alphabet: &[u8] = match dice.below(3) {
         0 => b"0123456789-",
@@ -318,7 +326,7 @@ fn noise(dice: &mut Dice, longest: usize) -> Vec<u8> {
 }
 
 /// Parts in number and lengths about the limits, of no particular model.
-fn at_the_limits(dice: &mut Dice) -> Vec<u8> {
+pub fn at_the_limits(dice: &mut Dice) -> Vec<u8> {
     const SHAPES: [&[usize]; 22] = [
         &[12],
         &[13],
@@ -357,7 +365,8 @@ fn at_the_limits(dice: &mut Dice) -> Vec<u8> {
     parts.join(&b'-')
 }
 
-fn model_and_text(dice: &mut Dice) -> (Vec<u8>, Vec<u8>) {
+/// A model, mostly one that is handled, and a reference for it.
+pub fn model_and_text(dice: &mut Dice) -> (Vec<u8>, Vec<u8>) {
     let model = dice.pick(&MODELS);
     let name = match dice.below(50) {
         0 => format!("HR{:02}", dice.below(100)).into_bytes(),
@@ -439,7 +448,8 @@ fn wet_line(dice: &mut Dice) -> Vec<u8> {
     }
 }
 
-fn wet(dice: &mut Dice, text: &mut [u8], marks: usize) {
+/// Makes so many of the digits unreadable.
+pub fn wet(dice: &mut Dice, text: &mut [u8], marks: usize) {
     let mut dry: Vec<usize> = (0..text.len())
         .filter(|&k| text[k].is_ascii_digit())
         .collect();

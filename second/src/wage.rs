@@ -10,12 +10,13 @@ mod fields;
 mod judge;
 mod layout;
 mod program;
+pub mod record;
 mod writer;
 
 pub use cases::answer_all;
 pub use date::is_date;
-pub use fields::{Kind, CODES};
-pub use judge::{whole, Accepted, Judge, MOST_LINES};
+pub use fields::{Declared, Kind, CODES};
+pub use judge::{whole, Accepted, Condition, Judge, Open, MOST_LINES};
 pub use layout::{place, places, Line, Place, Type, GROUP, LABEL, LINE, ORDER, TYPE};
 pub use program::program;
 pub use writer::{write_close, write_group, write_label, write_order, MOST_ORDERS};

@@ -29,6 +29,14 @@ impl Listing {
         self.marks.len().max(1)
     }
 
+    /// 15 where there are more numbers than room for them.
+    pub fn within(self, room: usize) -> Result<Listing, Refusal> {
+        if self.numbers.len() > room {
+            return Err(Refusal::at(Reason::Room, self.numbers.len()));
+        }
+        Ok(self)
+    }
+
     fn texts(&self) -> impl Iterator<Item = Vec<u8>> + '_ {
         self.numbers.iter().map(|&n| {
             let mut text = self.text.clone();
@@ -47,29 +55,43 @@ pub fn divide(line: &[u8]) -> Option<(&[u8], &[u8])> {
 /// Lists what a line of the listing program asks for: an IBAN, or a model, a
 /// space and a reference.
 pub fn list(line: &[u8], room: usize) -> Result<Listing, Refusal> {
-    let listing = match divide(line) {
-        None => {
-            if line.len() != IBAN_LENGTH {
-                return Err(Reason::Size.into());
-            }
-            let rest = line.strip_prefix(b"HR").ok_or(Reason::Byte)?;
-            let marks = marks(rest, |b| b.is_ascii_digit())?;
-            let marks = marks.into_iter().map(|m| m + 2).collect();
-            try_all(line, marks, |text| iban(text).is_ok())
-        }
-        Some((model, text)) => {
-            if text.len() > LONGEST {
-                return Err(Reason::Size.into());
-            }
-            let marks = marks(text, |b| b == b'-' || b.is_ascii_digit())?;
-            let model = Model::named(model)?;
-            try_all(text, marks, |text| model.judge(text).is_ok())
-        }
-    };
-    if listing.numbers.len() > room {
-        return Err(Refusal::at(Reason::Room, listing.numbers.len()));
+    match divide(line) {
+        None => list_iban(line, room),
+        Some((model, text)) => list_reference(model, text, room),
     }
-    Ok(listing)
+}
+
+/// Lists the fillings of an IBAN: 1, 3, 16, 15.
+pub fn list_iban(text: &[u8], room: usize) -> Result<Listing, Refusal> {
+    if text.len() != IBAN_LENGTH {
+        return Err(Reason::Size.into());
+    }
+    let rest = text.strip_prefix(b"HR").ok_or(Reason::Byte)?;
+    let marks = marks(rest, |b| b.is_ascii_digit())?;
+    let marks = marks.into_iter().map(|m| m + 2).collect();
+    try_all(text, marks, |text| iban(text).is_ok()).within(room)
+}
+
+/// Lists the fillings of a reference: 1, 3, 16, 5, 7, 15.
+pub fn list_reference(model: &[u8], text: &[u8], room: usize) -> Result<Listing, Refusal> {
+    if text.len() > LONGEST {
+        return Err(Reason::Size.into());
+    }
+    let marks = marks(text, |b| b == b'-' || b.is_ascii_digit())?;
+    let model = Model::named(model)?;
+    try_all(text, marks, |text| model.judge(text).is_ok()).within(room)
+}
+
+/// The text with its marks filled by the digits of a number, the last digit in
+/// the last mark and zeros where the number has no more.
+pub fn filled(text: &[u8], number: u16, room: usize) -> Result<Vec<u8>, Refusal> {
+    if text.len() > room {
+        return Err(Refusal::at(Reason::Room, text.len()));
+    }
+    let marks: Vec<usize> = (0..text.len()).filter(|&k| text[k] == MARK).collect();
+    let mut text = text.to_vec();
+    fill(&mut text, &marks, number);
+    Ok(text)
 }
 
 /// The places of the marks: 3, without its place, for a byte that is neither

@@ -1,18 +1,26 @@
--- An IBAN's number over 97, taken in three pieces as the code takes it.
+-- An IBAN's number over 97, taken in three pieces as the code takes it; what an IBAN's form decides.
 -- Assumes nothing.
-use mathlib.Core.Path.{_≡_, sym, ap, _∙_}
-use mathlib.Core.Bool.{false, and-false}
-use mathlib.Core.List.{List, _∷_}
+use mathlib.Core.Path.{_≡_, refl, sym, ap, _∙_}
+use mathlib.Core.Bool.{true, false, cond, _&&_, and-false}
+use mathlib.Core.List.{List, [], _∷_}
 use Prim.Native.Nat.{ℕ, _+_, _*_, _/_, _%_, _<_}
 use native.Mathlib.Nat.{div-add-mod, add-mul-mod-self-left}
 use native.Mathlib.Omega.{arith}
 use lib.Dec.{eqb}
 use lib.ListN.{length, take, drop, getD, List·getD-eq-default}
-use Rattle.text.specs.Bytes.{isDigit}
+use borrow.Author.Tests.{eqb-true, eq-eqb}
+use Rattle.refusal.specs.Refusal.{none}
+use Rattle.refusal.specs.declared.Answer.{Answer}
+use Rattle.refusal.specs.declared.Answer.the-variants.{Accepted, Refused}
+use Rattle.refusal.specs.declared.Refusal.the-variants.{Check}
+use Rattle.text.specs.Bytes.{isDigit, firstBad, allOf}
+use Rattle.text.specs.declared.Class.the-variants.{Digits, Account}
+use Rattle.text.specs.declared.Found.the-variants.{Nothing}
 use Rattle.text.specs.Digits.{digitsOf, valueFrom, valueOf, twoDigits}
-use Rattle.text.proofs.Laws.{value-append, and-first}
+use Rattle.text.proofs.Laws.{value-append, and-first, both-true, entered}
 use Rattle.check_digits.proofs.Laws.{value-over-97}
-use Rattle.account.specs.Account.{inRange, rearranged, ibanPasses}
+use Rattle.account.specs.Account.{inRange, rearranged, ibanFormed, ibanPasses}
+use Rattle.account.specs.Answers.{ibanAnswer}
 
 -- ---------------------------------------------------------------------------
 -- The number
@@ -44,7 +52,34 @@ in-three-pieces s a r e f =
 
 pub short-fails : (s : List ℕ) → length s < 4 → false ≡ ibanPasses s
 unfolding ibanPasses
-short-fails s h = and-first (inRange (twoDigits (getD s 2 0) (getD s 3 0))) (eqb (valueOf (rearranged s) % 97) 1) none
+short-fails s h = and-first (inRange (twoDigits (getD s 2 0) (getD s 3 0))) (eqb (valueOf (rearranged s) % 97) 1) no-digits
   where
-    none : inRange (twoDigits (getD s 2 0) (getD s 3 0)) ≡ false
-    none = rw (List·getD-eq-default s 0 {n = 3} (omega arith), and-false (isDigit (getD s 2 0)))
+    no-digits : inRange (twoDigits (getD s 2 0) (getD s 3 0)) ≡ false
+    no-digits = rw (List·getD-eq-default s 0 {n = 3} (omega arith), and-false (isDigit (getD s 2 0)))
+
+-- ---------------------------------------------------------------------------
+-- Texts of an IBAN's form
+
+-- a digit may stand in an account
+digits-permitted : (s : List ℕ) → allOf Digits s ≡ true → firstBad Account s ≡ Nothing
+unfolding firstBad allOf
+digits-permitted [] e = refl
+digits-permitted (b ∷ s) e = let t = both-true (isDigit b) (allOf Digits s) e in rw (t .0, digits-permitted s (t .1))
+
+-- `HR` and nineteen digits: 21 bytes, none of them bad
+pub formed-permitted : (s : List ℕ) → ibanFormed s ≡ true → (length s ≡ 21) × (firstBad Account s ≡ Nothing)
+formed-permitted s e = let t = both-true (eqb (length s) 21) _ e in let n = eqb-true (length s) 21 (t .0) in (n, go s n (t .1))
+  where
+    go : (s : List ℕ) → length s ≡ 21 → (eqb (getD s 0 0) 72 && (eqb (getD s 1 0) 82 && allOf Digits (drop 2 s))) ≡ true → firstBad Account s ≡ Nothing
+    go [] n e = absurd (omega arith)
+    go (a ∷ []) n e = absurd (omega arith)
+    go (a ∷ (b ∷ s)) n e =
+        let t = both-true (eqb a 72) _ e in
+        let u = both-true (eqb b 82) (allOf Digits s) (t .1) in
+        unfold firstBad in rw (eqb-true a 72 (t .0), eqb-true b 82 (u .0), digits-permitted s (u .1))
+
+-- so the check alone decides
+pub formed-decides : (s : List ℕ) (r : Answer) → ibanFormed s ≡ true → r ≡ cond (ibanPasses s) Accepted (Refused (Check none)) → r ≡ ibanAnswer s
+formed-decides s r e h =
+    let f = formed-permitted s e in
+    rw (f .1) (entered _ _ _ _ (eq-eqb (length s) 21 (f .0)) (entered _ _ _ _ e h))

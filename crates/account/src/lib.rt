@@ -70,10 +70,16 @@ pub fn iban_check(s: &[u8]) -> Answer
     Answer::Refused(Refusal::Check(refusal::nowhere()))
 }
 
-// An IBAN: 3 with its byte, 4, 5, 6.
+// An IBAN: 3 with its byte, 4, 5, 6. Where a text has an IBAN's form, its check alone decides.
 pub fn iban(s: &[u8]) -> Answer
     ensures { λ r. ⌜ r ≡ ibanAnswer (now (s .entry)) ⌝ }
 {
+    if is_iban_formed(s) {
+        if iban_passes(s) {
+            return Answer::Accepted;
+        }
+        return Answer::Refused(Refusal::Check(refusal::nowhere()));
+    }
     match text::first_bad(Class::Account, s) {
         Found::At(i) => Answer::Refused(Refusal::Byte(Place {
             line: 0,

@@ -29,12 +29,12 @@ pub enum Made {
 // What has been read of the digits so far: for INI the sum of the digits and the sum of those sums, both over 11;
 // for MOD 11,10 the number p.
 pub struct Run {
-    pub sum: u32,
-    pub sums: u32,
+    pub sum: u64,
+    pub sums: u64,
 }
 
 // The remainder of a number below twice the modulus, with no division.
-fn folded(x: u32, m: u32) -> u32
+fn folded(x: u64, m: u64) -> u64
     requires { ⌜ (x < m + m) × (m < 100) ⌝ }
     ensures { λ r. ⌜ r ≡ x % m ⌝ }
 {
@@ -42,7 +42,7 @@ fn folded(x: u32, m: u32) -> u32
 }
 
 // MOD 11,10: the number p after one more digit.
-fn carried(p: u32, d: u32) -> u32
+fn carried(p: u64, d: u64) -> u64
     requires { ⌜ (p < 11) × (d < 10) ⌝ }
     ensures { λ r. ⌜ r ≡ carry p d ⌝ }
 {
@@ -64,7 +64,7 @@ fn started(rule: Rule) -> Run
 }
 
 // INI: one more digit.
-fn summed(run: Run, d: u32) -> Run
+fn summed(run: Run, d: u64) -> Run
     requires { ⌜ Small run × (d < 10) ⌝ }
     ensures { λ r. ⌜ r ≡ stepOf Rule.Ini run d ⌝ }
 {
@@ -76,7 +76,7 @@ fn summed(run: Run, d: u32) -> Run
 }
 
 // One more digit.
-fn step(rule: Rule, run: Run, d: u32) -> Run
+fn step(rule: Rule, run: Run, d: u64) -> Run
     requires { ⌜ Small run × (d < 10) ⌝ }
     ensures { λ r. ⌜ r ≡ stepOf rule run d ⌝ }
 {
@@ -101,11 +101,11 @@ fn read(rule: Rule, run: Run, b: u8) -> Run
     if 57 < b {
         return run;
     }
-    step(rule, run, (b - 48) as u32)
+    step(rule, run, (b - 48) as u64)
 }
 
 // INI: the digit for a remainder over 11.
-fn ini_digit(r: u32) -> u8
+fn ini_digit(r: u64) -> u8
     requires { ⌜ r < 11 ⌝ }
     ensures { λ d. ⌜ d ≡ digitFor Rule.Ini r ⌝ }
 {

@@ -6,7 +6,7 @@ ghost use Rattle.codes.specs.Codes.{placeIn, codePlace};
 use text::Found;
 
 // The codes, in the order of the list.
-const CODES: [u64; 55] = [
+const CODES: [u16; 55] = [
     100,
     110,
     120,
@@ -64,13 +64,20 @@ const CODES: [u64; 55] = [
     699,
 ];
 
+// A code of the list as a number.
+fn wide(n: u16) -> u64
+    ensures { λ r. ⌜ r ≡ n ⌝ }
+{
+    n as u64
+}
+
 // Where a number first stands in a list, counted from 0.
-fn place_in(list: &[u64], code: u64) -> Found
+fn place_in(list: &[u16], code: u64) -> Found
     ensures { λ r. ⌜ r ≡ placeIn code (now (list .entry)) ⌝ }
 {
     let mut i = 0;
     while i < list.len() {
-        if code == list[i] {
+        if code == wide(list[i]) {
             return Found::At(i);
         }
         i += 1;

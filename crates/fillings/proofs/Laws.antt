@@ -23,7 +23,7 @@ use Rattle.fillings.specs.declared.Listed.the-variants.{Count, Refused}
 use Rattle.fillings.specs.Fillings.{fill, among, fillings}
 use Rattle.fillings.specs.Answers.{roomAnswer, filledAnswer}
 use Rattle.text.specs.Stands.{Stands}
-use Rattle.text.proofs.Stands.{stands-none, stands-append}
+use Rattle.text.proofs.Stands.{stands-none, stands-append, front-stands}
 use Rattle.fillings.specs.ByMark.{between, block}
 
 -- ---------------------------------------------------------------------------
@@ -254,6 +254,13 @@ digits-none p s left number b at = rw zero-mul (stands-none b at)
 pub whole-fits : (m : ℕ) → m ≤ 4 → suc 0 * 10 ^ m ≤ 10000
 whole-fits m h = rw one-mul (pow-le-pow-right {n = 10} (omega arith) h)
 
+-- so four marks have at most ten thousand fillings
+pub fillings-fit : (p : List ℕ → Bool) (s : List ℕ) → marks s ≤ 4 → length (fillings p s) ≤ 10000
+unfolding fillings
+fillings-fit p s h =
+    let u : 10 ^ marks s ≤ 10000 = rw one-mul at (whole-fits (marks s) h) in
+    omega (arith, among-length (λ (k : ℕ). p (fill s k)) 0 (10 ^ marks s))
+
 -- with no digit before it, the listing is that of all fillings
 pub written-all : (p : List ℕ → Bool) (s u : List ℕ) {b after : List ℕ} {at next : ℕ} → u ≡ s → Stands b at (block p u 0) next after → Stands b at (fillings p s) next after
 unfolding between fillings
@@ -263,9 +270,10 @@ written-all p s u e w = rw (e, zero-mul) at w
 pub room-refused : (xs : List ℕ) (room n : ℕ) (place : Place) → n ≡ 0 + length xs → room < n → place ≡ none → Refused (Room place n) ≡ roomAnswer xs room
 room-refused xs room n place e h g = let z : n ≡ length xs = omega arith in rw (lt-ltb room (length xs) (omega arith), z, g)
 
--- there is room: counted
-pub room-counted : (xs : List ℕ) (room n : ℕ) → n ≡ 0 + length xs → n ≤ room → Count n ≡ roomAnswer xs room
-room-counted xs room n e h = let z : n ≡ length xs = omega arith in rw (le-ltb room (length xs) (omega arith), z)
+-- there is room: counted, and written at the front
+pub room-counted :
+    (xs b after : List ℕ) (n m : ℕ) → n ≡ 0 + length xs → Stands b 0 xs m after → length xs ≤ length b → (Count n ≡ roomAnswer xs (length b)) × (after ≡ xs ++ drop (length xs) b)
+room-counted xs b after n m e w h = let z : n ≡ length xs = omega arith in (rw (le-ltb (length b) (length xs) h, z), front-stands b after xs m w h)
 
 -- ---------------------------------------------------------------------------
 -- A filled text, written from the last byte to the first

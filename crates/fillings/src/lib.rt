@@ -107,8 +107,8 @@ fn list(
     next
 }
 
-// Lists the fillings of a text of at most 22 bytes and four marks. They are counted first, so that a refusal
-// leaves `out` as it was.
+// Lists the fillings of a text of at most 22 bytes and four marks. Ten thousand are all that there can be; where `out`
+// has room for fewer they are counted first, so that a refusal leaves it as it was.
 fn list_into(aim: Aim, s: &[u8], out: &mut [u16]) -> Listed
     requires { ⌜ (length (now s) ≤ 22) × (marks (now s) ≤ 4) ⌝ }
     ensures { λ r. ⌜ (r ≡ roomAnswer (fillings (accepts aim) (now (s .entry))) (length (now (out .entry)))) × (now (out .exit) ≡ leftBy r (fillings (accepts aim) (now (s .entry))) (now (out .entry))) ⌝ }
@@ -116,6 +116,9 @@ fn list_into(aim: Aim, s: &[u8], out: &mut [u16]) -> Listed
     let t = held(s);
     let n = s.len();
     let left = text::count_marks(s);
+    if 10000 <= out.len() {
+        return Listed::Count(list(aim, t, n, left, 0, out, 0));
+    }
     let mut scratch: [u16; 1] = [0];
     let count = list(aim, t, n, left, 0, &mut scratch, 0);
     if count > out.len() {

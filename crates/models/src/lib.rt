@@ -12,16 +12,16 @@ use text::Found;
 
 // A check group: how many parts stand before it, how many it joins, and the rule that its last digit obeys.
 pub struct Group {
-    pub skipped: usize,
-    pub joins: usize,
+    pub skipped: u8,
+    pub joins: u8,
     pub rule: Rule,
 }
 
 // A model's rules: how many parts, the least and most digits of each of four, and its check groups.
 pub struct Model {
     pub handled: bool,
-    pub fewest: usize,
-    pub most: usize,
+    pub fewest: u8,
+    pub most: u8,
     pub lengths: [u8; 8],
     pub groups: [Group; 4],
 }
@@ -43,7 +43,7 @@ pub fn number(s: &[u8]) -> Found
 }
 
 // The group of the parts from `first` to `last`, counted from 1; `last` below `first` is no group.
-fn joined(rule: Rule, first: usize, last: usize) -> Group
+fn joined(rule: Rule, first: u8, last: u8) -> Group
     requires { ⌜ (0 < first) × ((first ≤ last + 1) × (last < 5)) ⌝ }
     ensures { λ r. ⌜ r ≡ over rule first last ⌝ }
 {
@@ -55,7 +55,7 @@ fn joined(rule: Rule, first: usize, last: usize) -> Group
 }
 
 // A model of its parts, lengths and three groups.
-fn ruled(fewest: usize, most: usize, lengths: [u8; 8], g: Group, h: Group, k: Group) -> Model
+fn ruled(fewest: u8, most: u8, lengths: [u8; 8], g: Group, h: Group, k: Group) -> Model
     ensures { λ r. ⌜ r ≡ model fewest most lengths g h k ⌝ }
 {
     let none = joined(Rule::Ini, 1, 0);

@@ -12,9 +12,9 @@ use lib.Dec.{eqb, leb, ltb, eqb·suc-zero, leb·suc-zero}
 use lib.ListN.{length, take, drop, getD, drop-of-length-le}
 use lib.Seq.{drop-cons, drop-length, drop-nil, take-nil}
 use borrow.Author.Tests.{eq-eqb, ne-eqb, eqb-true, lt-ltb, le-leb, ltb-true}
-use Rattle.text.specs.Bytes.{isDigit, allOf, later}
+use Rattle.text.specs.Bytes.{isDigit, allOf, later, firstBad}
 use Rattle.text.specs.Digits.{digitsOf}
-use Rattle.text.specs.declared.Class.the-variants.{Digits}
+use Rattle.text.specs.declared.Class.the-variants.{Digits, Reference}
 use Rattle.text.specs.declared.Found.{Found}
 use Rattle.text.specs.declared.Found.the-variants.{At, Nothing}
 use Rattle.text.proofs.Laws.{to-the-end, taken, left, entered, both-true, shifted, shifted-later}
@@ -23,11 +23,13 @@ use Rattle.check_digits.specs.CheckDigit.{checkDigit, passes}
 use Rattle.check_digits.proofs.Theorems.{passes-snoc}
 use Rattle.models.specs.declared.Group.{Group}
 use Rattle.models.specs.declared.Model.{Model}
-use Rattle.reference.specs.declared.Read.{Read}
-use Rattle.reference.specs.declared.Read.the-variants.{Parts, Broken}
+use Rattle.refusal.specs.Refusal.{none}
+use Rattle.refusal.specs.declared.Answer.the-variants.{Accepted, Refused}
+use Rattle.refusal.specs.declared.Refusal.the-variants.{Parts as WrongParts, Digit}
 use Rattle.text.specs.Split.{longer, split}
 use Rattle.reference.specs.Parts.{partsOf, partsFit, formed, joined, present, groupRight, groupsRight}
 use Rattle.reference.specs.Readers.{fitsNext, begun, digitRead, partRead}
+use Rattle.reference.specs.Answers.{groupsAnswer, obeyAnswer, textAnswer}
 use Rattle.reference.specs.Groups.{afterHyphens, stretchHolds, before, headHolds, heldFrom, groupHolds, groupsHold}
 
 -- ---------------------------------------------------------------------------
@@ -37,36 +39,35 @@ use Rattle.reference.specs.Groups.{afterHyphens, stretchHolds, before, h
 pub fits-lengths : (lengths : List ℕ) (n : ℕ) → fitsNext lengths n ≡ true → 1 < length lengths
 fits-lengths lengths n e = ltb-true 1 (length lengths) (both-true _ _ e .0)
 
-module _ (lengths : List ℕ) (n count : ℕ) where
-  pub last-fits : (s : List ℕ) → length s ≡ 0 → fitsNext lengths n ≡ true → Parts (count + 1) ≡ digitRead lengths n count s
-  unfolding digitRead
-  last-fits [] h e = taken _ _ _ e
-  last-fits (b ∷ s) h e = absurd (omega arith)
+-- after n digits of a part
+module _ (lengths : List ℕ) (n count : ℕ) (s : List ℕ) where
+  -- the text is at its end
+  module _ (h : length s ≤ n) where
+    pub last-fits : fitsNext lengths n ≡ true → count + 1 ≡ digitRead lengths n count (drop n s)
+    unfolding digitRead
+    last-fits e = rw (drop-of-length-le s h) (taken _ _ _ e)
 
-  pub last-breaks : (s : List ℕ) → length s ≡ 0 → fitsNext lengths n ≡ false → Broken ≡ digitRead lengths n count s
-  unfolding digitRead
-  last-breaks [] h e = left _ _ _ _ e refl
-  last-breaks (b ∷ s) h e = absurd (omega arith)
+    pub last-breaks : fitsNext lengths n ≡ false → 0 ≡ digitRead lengths n count (drop n s)
+    unfolding digitRead
+    last-breaks e = rw (drop-of-length-le s h) (left _ _ _ _ e refl)
 
-  pub hyphen-fits : (s : List ℕ) (r : Read) → (length s ≡ 0 → ⊥) → getD s 0 0 ≡ 45 → fitsNext lengths n ≡ true → r ≡ partRead (take (length lengths - 2) (drop 2 lengths)) (count + 1) (take (length s - 1) (drop 1 s)) → r ≡ digitRead lengths n count s
-  unfolding digitRead
-  hyphen-fits [] r some h e f = absurd (some refl)
-  hyphen-fits (b ∷ s) r some h e f = entered _ _ _ _ (eq-eqb b 45 h) (entered _ _ _ _ e (rw (to-the-end 2 lengths, to-the-end 1 (b ∷ s)) at f))
+  -- a byte more
+  module _ (h : n < length s) where
+    pub hyphen-fits : (r : ℕ) → getD s n 0 ≡ 45 → fitsNext lengths n ≡ true → r ≡ partRead (take (length lengths - 2) (drop 2 lengths)) (count + 1) (take (length s - (n + 1)) (drop (n + 1) s)) → r ≡ digitRead lengths n count (drop n s)
+    unfolding digitRead
+    hyphen-fits r g e f = rw (drop-cons s n 0 h) (entered _ _ _ _ (eq-eqb (getD s n 0) 45 g) (entered _ _ _ _ e (rw (to-the-end 2 lengths, to-the-end (n + 1) s, add-one n) at f)))
 
-  pub hyphen-breaks : (s : List ℕ) → (length s ≡ 0 → ⊥) → getD s 0 0 ≡ 45 → fitsNext lengths n ≡ false → Broken ≡ digitRead lengths n count s
-  unfolding digitRead
-  hyphen-breaks [] some h e = absurd (some refl)
-  hyphen-breaks (b ∷ s) some h e = entered _ _ _ _ (eq-eqb b 45 h) (left _ _ _ _ e refl)
+    pub hyphen-breaks : getD s n 0 ≡ 45 → fitsNext lengths n ≡ false → 0 ≡ digitRead lengths n count (drop n s)
+    unfolding digitRead
+    hyphen-breaks g e = rw (drop-cons s n 0 h) (entered _ _ _ _ (eq-eqb (getD s n 0) 45 g) (left _ _ _ _ e refl))
 
-  pub digit-reads : (s : List ℕ) (r : Read) → (length s ≡ 0 → ⊥) → (getD s 0 0 ≡ 45 → ⊥) → isDigit (getD s 0 0) ≡ true → r ≡ digitRead lengths (n + 1) count (take (length s - 1) (drop 1 s)) → r ≡ digitRead lengths n count s
-  unfolding digitRead
-  digit-reads [] r some h e f = absurd (some refl)
-  digit-reads (b ∷ s) r some h e f = left _ _ _ _ (ne-eqb b 45 h) (entered _ _ _ _ e (rw (to-the-end 1 (b ∷ s)) at f))
+    pub digit-reads : (getD s n 0 ≡ 45 → ⊥) → isDigit (getD s n 0) ≡ true → digitRead lengths n count (drop n s) ≡ digitRead lengths (n + 1) count (drop (n + 1) s)
+    unfolding digitRead
+    digit-reads g e = rw (drop-cons s n 0 h, ne-eqb (getD s n 0) 45 g, e, add-one n)
 
-  pub other-breaks : (s : List ℕ) → (length s ≡ 0 → ⊥) → (getD s 0 0 ≡ 45 → ⊥) → isDigit (getD s 0 0) ≡ false → Broken ≡ digitRead lengths n count s
-  unfolding digitRead
-  other-breaks [] some h e = absurd (some refl)
-  other-breaks (b ∷ s) some h e = left _ _ _ _ (ne-eqb b 45 h) (left _ _ _ _ e refl)
+    pub other-breaks : (getD s n 0 ≡ 45 → ⊥) → isDigit (getD s n 0) ≡ false → 0 ≡ digitRead lengths n count (drop n s)
+    unfolding digitRead
+    other-breaks g e = rw (drop-cons s n 0 h) (left _ _ _ _ (ne-eqb (getD s n 0) 45 g) (left _ _ _ _ e refl))
 
 -- ---------------------------------------------------------------------------
 -- What the readers read are the parts
@@ -92,16 +93,16 @@ four true y z w = and-assoc y z w
 four false y z w = refl
 
 -- reading a part asks for its lengths
-part-begins : (lengths p : List ℕ) (ps : List (List ℕ)) (r : Read) → begun lengths (cond (restFits lengths 0 (p ∷ ps)) r Broken) ≡ cond (partsFit lengths (p ∷ ps)) r Broken
+part-begins : (lengths p : List ℕ) (ps : List (List ℕ)) (r : ℕ) → begun lengths (cond (restFits lengths 0 (p ∷ ps)) r 0) ≡ cond (partsFit lengths (p ∷ ps)) r 0
 unfolding restFits partsFit
 part-begins [] p ps r = refl
 part-begins (l ∷ []) p ps r = refl
 part-begins (l ∷ (m ∷ ls)) p ps r =
     rw (lt-ltb 1 (suc (suc (length ls))) (omega arith), zero-add (length p))
-    (ap (λ (t : Bool). cond t r Broken) (ap (λ (t : Bool). allOf Digits p && t) (four (ltb 0 (length p)) (leb l (length p)) (leb (length p) m) (partsFit ls ps))))
+    (ap (λ (t : Bool). cond t r 0) (ap (λ (t : Bool). allOf Digits p && t) (four (ltb 0 (length p)) (leb l (length p)) (leb (length p) m) (partsFit ls ps))))
 
 -- one test after the other is both
-both : (t u : Bool) (x y z : Read) → x ≡ y → cond t (cond u x z) z ≡ cond (t && u) y z
+both : (t u : Bool) (x y z : ℕ) → x ≡ y → cond t (cond u x z) z ≡ cond (t && u) y z
 both true true x y z e = e
 both true false x y z e = refl
 both false u x y z e = refl
@@ -109,43 +110,42 @@ both false u x y z e = refl
 module _ (lengths : List ℕ) (n count : ℕ) (b : ℕ) (s p : List ℕ) (ps : List (List ℕ)) (e : split 45 s ≡ p ∷ ps) where
   -- a hyphen hands over to the next part
   read-hyphen :
-      digitRead (drop 2 lengths) 0 (count + 1) s ≡ cond (restFits (drop 2 lengths) 0 (split 45 s)) (Parts (count + 1 + length (split 45 s))) Broken →
-      cond (fitsNext lengths n) (partRead (drop 2 lengths) (count + 1) s) Broken ≡ cond (restFits lengths n ([] ∷ split 45 s)) (Parts (count + suc (length (split 45 s)))) Broken
+      digitRead (drop 2 lengths) 0 (count + 1) s ≡ cond (restFits (drop 2 lengths) 0 (split 45 s)) ((count + 1 + length (split 45 s))) 0 →
+      cond (fitsNext lengths n) (partRead (drop 2 lengths) (count + 1) s) 0 ≡ cond (restFits lengths n ([] ∷ split 45 s)) ((count + suc (length (split 45 s)))) 0
   unfolding restFits allOf
   read-hyphen h =
       let m : count + 1 + suc (length ps) ≡ count + suc (suc (length ps)) = omega arith in
-      rw (h, e, part-begins (drop 2 lengths) p ps, add-zero n) (both (fitsNext lengths n) (partsFit (drop 2 lengths) (p ∷ ps)) _ _ _ (ap Parts m))
+      rw (h, e, part-begins (drop 2 lengths) p ps, add-zero n) (both (fitsNext lengths n) (partsFit (drop 2 lengths) (p ∷ ps)) _ _ _ m)
 
   -- a digit is one more
   read-digit :
-      digitRead lengths (n + 1) count s ≡ cond (restFits lengths (n + 1) (split 45 s)) (Parts (count + length (split 45 s))) Broken →
-      cond (isDigit b) (digitRead lengths (n + 1) count s) Broken ≡ cond (restFits lengths n (longer b (split 45 s))) (Parts (count + length (longer b (split 45 s)))) Broken
+      digitRead lengths (n + 1) count s ≡ cond (restFits lengths (n + 1) (split 45 s)) ((count + length (split 45 s))) 0 →
+      cond (isDigit b) (digitRead lengths (n + 1) count s) 0 ≡ cond (restFits lengths n (longer b (split 45 s))) ((count + length (longer b (split 45 s)))) 0
   unfolding restFits allOf
   read-digit h =
       let m : n + 1 + length p ≡ n + suc (length p) = omega arith in
       rw (h, e, m, and-assoc (isDigit b)) (both (isDigit b) (allOf Digits p && (fitsNext lengths (n + suc (length p)) && partsFit (drop 2 lengths) ps)) _ _ _ refl)
 
 -- the digit reader counts the parts where they fit, with the digits that were read before
-read-parts : (lengths : List ℕ) (n count : ℕ) (s : List ℕ) → digitRead lengths n count s ≡ cond (restFits lengths n (split 45 s)) (Parts (count + length (split 45 s))) Broken
+read-parts : (lengths : List ℕ) (n count : ℕ) (s : List ℕ) → digitRead lengths n count s ≡ cond (restFits lengths n (split 45 s)) ((count + length (split 45 s))) 0
 unfolding digitRead restFits split partsFit allOf
 read-parts lengths n count [] = rw (add-zero n, and-true)
 read-parts lengths n count (b ∷ s) = go (eqb b 45) (first-part s) (read-parts (drop 2 lengths) 0 (count + 1) s) (read-parts lengths (n + 1) count s)
   where
     go : (h : Bool) → (p : List ℕ) × (ps : List (List ℕ)) × (split 45 s ≡ p ∷ ps) →
-        digitRead (drop 2 lengths) 0 (count + 1) s ≡ cond (restFits (drop 2 lengths) 0 (split 45 s)) (Parts (count + 1 + length (split 45 s))) Broken →
-        digitRead lengths (n + 1) count s ≡ cond (restFits lengths (n + 1) (split 45 s)) (Parts (count + length (split 45 s))) Broken →
-        cond h (cond (fitsNext lengths n) (partRead (drop 2 lengths) (count + 1) s) Broken) (cond (isDigit b) (digitRead lengths (n + 1) count s) Broken) ≡ cond (restFits lengths n (cond h ([] ∷ split 45 s) (longer b (split 45 s)))) (Parts (count + length (cond h ([] ∷ split 45 s) (longer b (split 45 s))))) Broken
+        digitRead (drop 2 lengths) 0 (count + 1) s ≡ cond (restFits (drop 2 lengths) 0 (split 45 s)) ((count + 1 + length (split 45 s))) 0 →
+        digitRead lengths (n + 1) count s ≡ cond (restFits lengths (n + 1) (split 45 s)) ((count + length (split 45 s))) 0 →
+        cond h (cond (fitsNext lengths n) (partRead (drop 2 lengths) (count + 1) s) 0) (cond (isDigit b) (digitRead lengths (n + 1) count s) 0) ≡ cond (restFits lengths n (cond h ([] ∷ split 45 s) (longer b (split 45 s)))) ((count + length (cond h ([] ∷ split 45 s) (longer b (split 45 s))))) 0
     go true w f g = read-hyphen lengths n count b s (w .0) (w .1) (w .2) f
     go false w f g = read-digit lengths n count b s (w .0) (w .1) (w .2) g
 
 -- the part reader counts them where they fit
-read-part : (lengths : List ℕ) (s : List ℕ) → partRead lengths 0 s ≡ cond (partsFit lengths (split 45 s)) (Parts (length (split 45 s))) Broken
-read-part lengths s = let w = first-part s in rw (read-parts lengths 0 0 s, w .2, zero-add) (part-begins lengths (w .0) (w .1) (Parts (suc (length (w .1)))))
+read-part : (lengths : List ℕ) (s : List ℕ) → partRead lengths 0 s ≡ cond (partsFit lengths (split 45 s)) ((length (split 45 s))) 0
+read-part lengths s = let w = first-part s in rw (read-parts lengths 0 0 s, w .2, zero-add) (part-begins lengths (w .0) (w .1) ((suc (length (w .1)))))
 
 -- what is read says whether a text is formed
-abbrev pub readFormed : Model → Read → Bool
-readFormed model (Parts n) = leb (model .fewest) n && leb n (model .most)
-readFormed model Broken = false
+abbrev pub readFormed : Model → ℕ → Bool
+readFormed model n = cond (eqb n 0) false (leb (model .fewest) n && leb n (model .most))
 
 -- no byte is no part
 pub formed-none : (model : Model) (s : List ℕ) → length s ≡ 0 → eqb (model .fewest) 0 ≡ formed model s
@@ -163,25 +163,28 @@ unfolding formed partsOf
 formed-read model [] h = absurd (h refl)
 formed-read model (b ∷ s) h = rw (read-part (model .lengths) (b ∷ s)) (go (partsFit (model .lengths) (split 45 (b ∷ s))))
   where
-    go : (t : Bool) → readFormed model (cond t (Parts (length (split 45 (b ∷ s)))) Broken) ≡ (leb (model .fewest) (length (split 45 (b ∷ s))) && (leb (length (split 45 (b ∷ s))) (model .most) && t))
-    go true = rw and-true
+    some : eqb (length (split 45 (b ∷ s))) 0 ≡ false
+    some = rw (first-part (b ∷ s) .2) (eqb·suc-zero (length (first-part (b ∷ s) .1)))
+
+    go : (t : Bool) → readFormed model (cond t ((length (split 45 (b ∷ s)))) 0) ≡ (leb (model .fewest) (length (split 45 (b ∷ s))) && (leb (length (split 45 (b ∷ s))) (model .most) && t))
+    go true = rw (some, and-true)
     go false = rw (and-false, and-false)
 
 -- ---------------------------------------------------------------------------
 -- The place after hyphens, from place i on
 
 -- one byte more, a hyphen
-turn-hyphen : (b : ℕ) (s : List ℕ) (i n : ℕ) → (n ≡ 0 → ⊥) → b ≡ 45 → shifted i (afterHyphens n (b ∷ s)) ≡ shifted (i + 1) (afterHyphens (n - 1) s)
+turn-hyphen : (b : ℕ) (s : List ℕ) (i n : ℕ) → 0 < n → b ≡ 45 → shifted i (afterHyphens n (b ∷ s)) ≡ shifted (i + 1) (afterHyphens (n - 1) s)
 unfolding afterHyphens
-turn-hyphen b s i zero h e = absurd (h refl)
+turn-hyphen b s i zero h e = absurd (omega arith)
 turn-hyphen b s i (suc n) h e =
     let m : n ≡ suc n - 1 = omega arith in
     rw (eq-eqb b 45 e) (shifted-later i (afterHyphens n s) ∙ ap (λ (k : ℕ). shifted (i + 1) (afterHyphens k s)) m)
 
 -- one byte more, no hyphen
-turn-other : (b : ℕ) (s : List ℕ) (i n : ℕ) → (n ≡ 0 → ⊥) → (b ≡ 45 → ⊥) → shifted i (afterHyphens n (b ∷ s)) ≡ shifted (i + 1) (afterHyphens n s)
+turn-other : (b : ℕ) (s : List ℕ) (i n : ℕ) → 0 < n → (b ≡ 45 → ⊥) → shifted i (afterHyphens n (b ∷ s)) ≡ shifted (i + 1) (afterHyphens n s)
 unfolding afterHyphens
-turn-other b s i zero h e = absurd (h refl)
+turn-other b s i zero h e = absurd (omega arith)
 turn-other b s i (suc n) h e = rw (ne-eqb b 45 e) (shifted-later i (afterHyphens (suc n) s))
 
 module _ (s : List ℕ) (i n : ℕ) where
@@ -189,16 +192,16 @@ module _ (s : List ℕ) (i n : ℕ) where
   unfolding afterHyphens shifted
   after-none e = rw e (ap At (sym (add-zero i)))
 
-  pub after-hyphen : i < length s → (n ≡ 0 → ⊥) → getD s i 0 ≡ 45 → shifted i (afterHyphens n (drop i s)) ≡ shifted (i + 1) (afterHyphens (n - 1) (drop (i + 1) s))
+  pub after-hyphen : i < length s → 0 < n → getD s i 0 ≡ 45 → shifted i (afterHyphens n (drop i s)) ≡ shifted (i + 1) (afterHyphens (n - 1) (drop (i + 1) s))
   after-hyphen h g e = rw (drop-cons s i 0 h, add-one i) (turn-hyphen (getD s i 0) (drop (suc i) s) i n g e ∙ rw add-one)
 
-  pub after-other : i < length s → (n ≡ 0 → ⊥) → (getD s i 0 ≡ 45 → ⊥) → shifted i (afterHyphens n (drop i s)) ≡ shifted (i + 1) (afterHyphens n (drop (i + 1) s))
+  pub after-other : i < length s → 0 < n → (getD s i 0 ≡ 45 → ⊥) → shifted i (afterHyphens n (drop i s)) ≡ shifted (i + 1) (afterHyphens n (drop (i + 1) s))
   after-other h g e = rw (drop-cons s i 0 h, add-one i) (turn-other (getD s i 0) (drop (suc i) s) i n g e ∙ rw add-one)
 
 -- the text is at its end
-pub after-end : (s : List ℕ) (i n : ℕ) → length s ≤ i → i ≤ length s → (n ≡ 0 → ⊥) → Nothing ≡ shifted i (afterHyphens n (drop i s))
+pub after-end : (s : List ℕ) (i n : ℕ) → length s ≤ i → i ≤ length s → 0 < n → Nothing ≡ shifted i (afterHyphens n (drop i s))
 unfolding afterHyphens shifted
-after-end s i zero f g h = absurd (h refl)
+after-end s i zero f g h = absurd (omega arith)
 after-end s i (suc n) f g h = let e : i ≡ length s = omega arith in rw (e, drop-length)
 
 -- a place lies in a text of n bytes
@@ -264,18 +267,23 @@ solid-take zero ps h = tt
 solid-take (suc k) [] h = h
 solid-take (suc k) (p ∷ ps) h = (h .0, solid-take k ps (h .1))
 
+-- a part that fits is digits, not empty, and those after it fit
+fit-first : (l m : ℕ) (ls p : List ℕ) (ps : List (List ℕ)) → partsFit (l ∷ (m ∷ ls)) (p ∷ ps) ≡ true → (allOf Digits p ≡ true) × (0 < length p) × (partsFit ls ps ≡ true)
+unfolding partsFit
+fit-first l m ls p ps e =
+    let d = both-true (leb (length p) m) (partsFit ls ps) in
+    let c = both-true (leb l (length p)) (leb (length p) m && partsFit ls ps) in
+    let b = both-true (ltb 0 (length p)) (leb l (length p) && (leb (length p) m && partsFit ls ps)) in
+    let a = both-true (allOf Digits p) (ltb 0 (length p) && (leb l (length p) && (leb (length p) m && partsFit ls ps))) e in
+    (a .0, ltb-true 0 (length p) (b (a .1) .0), d (c (b (a .1) .1) .1) .1)
+
 -- parts that fit are not empty
 fit-solid : (lengths : List ℕ) (ps : List (List ℕ)) → partsFit lengths ps ≡ true → Solid ps
 unfolding partsFit
 fit-solid lengths [] e = tt
 fit-solid [] (p ∷ ps) e = absurd (false≢true e)
 fit-solid (l ∷ []) (p ∷ ps) e = absurd (false≢true e)
-fit-solid (l ∷ (m ∷ ls)) (p ∷ ps) e =
-    let d = both-true (leb (length p) m) (partsFit ls ps) in
-    let c = both-true (leb l (length p)) (leb (length p) m && partsFit ls ps) in
-    let b = both-true (ltb 0 (length p)) (leb l (length p) && (leb (length p) m && partsFit ls ps)) in
-    let a = both-true (allOf Digits p) (ltb 0 (length p) && (leb l (length p) && (leb (length p) m && partsFit ls ps))) e .1 in
-    (ltb-true 0 (length p) (b a .0), fit-solid ls ps (d (c (b a .1) .1) .1))
+fit-solid (l ∷ (m ∷ ls)) (p ∷ ps) e = let w = fit-first l m ls p ps e in (w .1, fit-solid ls ps (w .2))
 
 -- a byte more at the front of the first part leaves those after it
 drop-longer : (b k : ℕ) (ps : List (List ℕ)) → drop (suc k) (longer b ps) ≡ drop (suc k) ps
@@ -455,14 +463,68 @@ unfolding groupsHold groupsRight
 groups-right [] s h = refl
 groups-right (g ∷ gs) s h = rw (group-right g s h, groups-right gs s h)
 
--- the parts of a formed text are solid
-pub formed-solid : (model : Model) (s : List ℕ) → formed model s ≡ true → Solid (partsOf s)
+-- the parts of a formed text fit
+formed-fit : (model : Model) (s : List ℕ) → formed model s ≡ true → partsFit (model .lengths) (partsOf s) ≡ true
 unfolding formed
-formed-solid model s e =
+formed-fit model s e =
     let n = length (partsOf s) in
     let f = both-true (leb (model .fewest) n) (leb n (model .most) && partsFit (model .lengths) (partsOf s)) e .1 in
-    fit-solid (model .lengths) (partsOf s) (both-true (leb n (model .most)) (partsFit (model .lengths) (partsOf s)) f .1)
+    both-true (leb n (model .most)) (partsFit (model .lengths) (partsOf s)) f .1
 
 -- so the groups of a formed text hold where its parts pass
 pub formed-groups : (model : Model) (s : List ℕ) → formed model s ≡ true → groupsHold (model .groups) s ≡ groupsRight (model .groups) (partsOf s)
-formed-groups model s e = groups-right (model .groups) s (formed-solid model s e)
+formed-groups model s e = groups-right (model .groups) s (fit-solid (model .lengths) (partsOf s) (formed-fit model s e))
+
+-- ---------------------------------------------------------------------------
+-- A formed text has no byte but digits and hyphens
+
+-- every part is digits
+abbrev Digital : List (List ℕ) → Type 0
+Digital [] = Unit
+Digital (p ∷ ps) = (allOf Digits p ≡ true) × Digital ps
+
+fit-digital : (lengths : List ℕ) (ps : List (List ℕ)) → partsFit lengths ps ≡ true → Digital ps
+unfolding partsFit
+fit-digital lengths [] e = tt
+fit-digital [] (p ∷ ps) e = absurd (false≢true e)
+fit-digital (l ∷ []) (p ∷ ps) e = absurd (false≢true e)
+fit-digital (l ∷ (m ∷ ls)) (p ∷ ps) e = let w = fit-first l m ls p ps e in (w .0, fit-digital ls ps (w .2))
+
+-- the byte at the front of the first part is a digit
+digital-longer : (b : ℕ) (ps : List (List ℕ)) → Digital (longer b ps) → (isDigit b ≡ true) × Digital ps
+unfolding allOf
+digital-longer b [] h = (both-true (isDigit b) true (h .0) .0, tt)
+digital-longer b (p ∷ ps) h = let w = both-true (isDigit b) (allOf Digits p) (h .0) in (w .0, (w .1, h .1))
+
+digital-bytes : (s : List ℕ) → Digital (split 45 s) → firstBad Reference s ≡ Nothing
+unfolding split firstBad
+digital-bytes [] h = refl
+digital-bytes (b ∷ s) h = go (eqb b 45) refl h (digital-bytes s)
+  where
+    go : (t : Bool) → eqb b 45 ≡ t → Digital (cond t ([] ∷ split 45 s) (longer b (split 45 s))) → (Digital (split 45 s) → firstBad Reference s ≡ Nothing) → firstBad Reference (b ∷ s) ≡ Nothing
+    go true e g f = rw (eqb-true b 45 e, f (g .1))
+    go false e g f = let w = digital-longer b (split 45 s) g in rw (w .0, f (w .1))
+
+formed-bytes : (model : Model) (s : List ℕ) → formed model s ≡ true → firstBad Reference s ≡ Nothing
+unfolding partsOf firstBad
+formed-bytes model [] e = refl
+formed-bytes model (b ∷ s) e = digital-bytes (b ∷ s) (fit-digital (model .lengths) (split 45 (b ∷ s)) (formed-fit model (b ∷ s) e))
+
+-- ---------------------------------------------------------------------------
+-- Answers, by whether the text is formed
+
+module _ (model : Model) (s : List ℕ) where
+  -- not formed: 8
+  pub misformed-answer : formed model s ≡ false → Refused (WrongParts none) ≡ obeyAnswer model s
+  unfolding obeyAnswer
+  misformed-answer e = left _ _ _ _ e refl
+
+  module _ (e : formed model s ≡ true) where
+    -- formed: what its groups say
+    pub formed-answer : groupsAnswer (model .groups) s ≡ obeyAnswer model s
+    unfolding obeyAnswer
+    formed-answer = entered _ _ _ _ e (ap (λ (t : Bool). cond t Accepted (Refused (Digit none))) (formed-groups model s e))
+
+    -- and it has no byte for 3
+    pub formed-text : textAnswer model s Nothing ≡ textAnswer model s (firstBad Reference s)
+    formed-text = ap (textAnswer model s) (sym (formed-bytes model s e))

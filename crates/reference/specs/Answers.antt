@@ -13,9 +13,15 @@ use Rattle.text.specs.Bytes.{firstBad}
 use Rattle.text.specs.declared.Class.the-variants.{Reference}
 use Rattle.text.specs.declared.Found.{Found}
 use Rattle.text.specs.declared.Found.the-variants.{At, Nothing}
+use Rattle.models.specs.declared.Group.{Group}
 use Rattle.models.specs.declared.Model as declared
 use Rattle.reference.specs.Parts.{partsOf, formed, groupsRight}
+use Rattle.reference.specs.Groups.{groupsHold}
 use Rattle.models.specs.Models.{modelNumber, modelOf}
+
+-- 9 by the groups as stretches of the text, as src/ goes; where the text is formed, it is what `obeyAnswer` says
+abbrev pub groupsAnswer : List Group → List ℕ → Answer
+groupsAnswer groups s = cond (groupsHold groups s) Accepted (Refused (Digit none))
 
 -- 8, then 9
 unfoldable pub obeyAnswer : declared.Model → List ℕ → Answer

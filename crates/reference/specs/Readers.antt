@@ -1,13 +1,11 @@
 -- How the digit reader and the part reader go through a reference: it mirrors src/, and proofs/Laws.antt leads from it to `formed`
--- of Parts.antt. No contract of a public call cites it.
+-- of Parts.antt. What is read is the number of parts, 0 where one does not fit. No contract of a public call cites it.
 use Prim.Native.Nat.{ℕ, _+_}
 use mathlib.Core.Bool.{Bool, cond, _&&_}
 use mathlib.Core.List.{List, [], _∷_}
 use lib.Dec.{eqb, leb, ltb}
 use lib.ListN.{length, drop, getD}
 use Rattle.text.specs.Bytes.{isDigit}
-use Rattle.reference.specs.declared.Read.{Read}
-use Rattle.reference.specs.declared.Read.the-variants.{Parts, Broken}
 
 -- a part of n digits, not empty, fits the next lengths, least and most
 abbrev pub fitsNext : List ℕ → ℕ → Bool
@@ -15,16 +13,16 @@ fitsNext lengths n =
     ltb 1 (length lengths) && (ltb 0 n && (leb (getD lengths 0 0) n && leb n (getD lengths 1 0)))
 
 -- a part is read only where there are lengths for it
-abbrev pub begun : List ℕ → Read → Read
-begun lengths r = cond (ltb 1 (length lengths)) r Broken
+abbrev pub begun : List ℕ → ℕ → ℕ
+begun lengths r = cond (ltb 1 (length lengths)) r 0
 
 -- after n digits of a part and `count` whole parts
-unfoldable pub digitRead : List ℕ → ℕ → ℕ → List ℕ → Read
-digitRead lengths n count [] = cond (fitsNext lengths n) (Parts (count + 1)) Broken
+unfoldable pub digitRead : List ℕ → ℕ → ℕ → List ℕ → ℕ
+digitRead lengths n count [] = cond (fitsNext lengths n) (count + 1) 0
 digitRead lengths n count (b ∷ s) =
     cond (eqb b 45)
-    (cond (fitsNext lengths n) (begun (drop 2 lengths) (digitRead (drop 2 lengths) 0 (count + 1) s)) Broken)
-    (cond (isDigit b) (digitRead lengths (n + 1) count s) Broken)
+    (cond (fitsNext lengths n) (begun (drop 2 lengths) (digitRead (drop 2 lengths) 0 (count + 1) s)) 0)
+    (cond (isDigit b) (digitRead lengths (n + 1) count s) 0)
 
-abbrev pub partRead : List ℕ → ℕ → List ℕ → Read
+abbrev pub partRead : List ℕ → ℕ → List ℕ → ℕ
 partRead lengths count s = begun lengths (digitRead lengths 0 count s)

@@ -10,7 +10,7 @@ ghost use lib.ListN.{length};
 ghost use Rattle.reference.specs.Parts.{formed};
 ghost use Rattle.reference.specs.Groups.{afterHyphens, stretchHolds, headHolds, groupHolds, groupsHold};
 ghost use Rattle.reference.specs.Readers.{fitsNext, partRead, digitRead};
-ghost use Rattle.reference.specs.Answers.{obeyAnswer, textAnswer, referenceAnswer};
+ghost use Rattle.reference.specs.Answers.{groupsAnswer, obeyAnswer, textAnswer, referenceAnswer};
 ghost use Rattle.text.specs.Bytes.{firstBad};
 use check_digits::Rule;
 use models::Group;
@@ -20,12 +20,6 @@ use refusal::Place;
 use refusal::Refusal;
 use text::Class;
 use text::Found;
-
-// What reading the parts of a reference finds: how many there are, or that one of them does not fit.
-pub enum Read {
-    Parts(usize),
-    Broken,
-}
 
 // ---------------------------------------------------------------------------
 // Parts
@@ -53,39 +47,42 @@ fn fits(lengths: &[u8], n: usize) -> bool
     n <= wide(lengths[1])
 }
 
-// Reads a part, the first of what is left, after `count` parts: its digits, where the model has lengths for it.
-fn part(s: &[u8], lengths: &[u8], count: usize) -> Read
+// Reads a part, the first of what is left, after `count` parts: its digits, where the model has lengths for it. Answers how
+// many parts there are, or 0 where one of them does not fit: a number, since an enum would be handed up through memory.
+fn part(s: &[u8], lengths: &[u8], count: usize) -> usize
     requires { ⌜ count + length (now s) < 2 ^ 63 ⌝ }
     ensures { λ r. ⌜ r ≡ partRead (now (lengths .entry)) count (now (s .entry)) ⌝ }
 {
     if lengths.len() < 2 {
-        return Read::Broken;
+        return 0;
     }
-    digit(s, lengths, 0, count)
+    digit(s, lengths, count)
 }
 
-// Reads on after n digits of a part: a digit is one more, and a hyphen hands over to the reading of the next part.
-fn digit(s: &[u8], lengths: &[u8], n: usize, count: usize) -> Read
-    requires { ⌜ (count + length (now s) < 2 ^ 63) × (n + length (now s) < 2 ^ 63) ⌝ }
-    ensures { λ r. ⌜ r ≡ digitRead (now (lengths .entry)) n count (now (s .entry)) ⌝ }
+// Reads the digits of a part, one after the other; a hyphen hands over to the reading of the next part.
+fn digit(s: &[u8], lengths: &[u8], count: usize) -> usize
+    requires { ⌜ count + length (now s) < 2 ^ 63 ⌝ }
+    ensures { λ r. ⌜ r ≡ digitRead (now (lengths .entry)) 0 count (now (s .entry)) ⌝ }
 {
-    if s.len() == 0 {
-        if fits(lengths, n) {
-            return Read::Parts(count + 1);
+    let mut n = 0;
+    while n < s.len() {
+        let b = s[n];
+        if b == 45 {
+            if fits(lengths, n) {
+                return part(&s[n + 1..], &lengths[2..], count + 1);
+            }
+            return 0;
         }
-        return Read::Broken;
-    }
-    let b = s[0];
-    if b == 45 {
-        if fits(lengths, n) {
-            return part(&s[1..], &lengths[2..], count + 1);
+        if text::is_digit(b) {
+            n += 1;
+        } else {
+            return 0;
         }
-        return Read::Broken;
     }
-    if text::is_digit(b) {
-        return digit(&s[1..], lengths, n + 1, count);
+    if fits(lengths, n) {
+        return count + 1;
     }
-    Read::Broken
+    0
 }
 
 // Whether a text has the parts that the model asks, each of its length.
@@ -98,10 +95,11 @@ pub fn is_formed(model: Model, s: &[u8]) -> bool
         return fewest == 0;
     }
     let lengths = model.lengths;
-    match part(s, &lengths, 0) {
-        Read::Parts(n) => within(n, fewest, most),
-        Read::Broken => false,
+    let found = part(s, &lengths, 0);
+    if found == 0 {
+        return false;
     }
+    within(found, wide(fewest), wide(most))
 }
 
 // Whether n lies between two numbers.
@@ -121,21 +119,21 @@ fn within(n: usize, least: usize, most: usize) -> bool
 fn after(s: &[u8], k: usize) -> Found
     ensures { λ r. ⌜ r ≡ afterHyphens k (now (s .entry)) ⌝ }
 {
+    if k == 0 {
+        return Found::At(0);
+    }
     let mut left = k;
     let mut i = 0;
     while i < s.len() {
-        if left == 0 {
-            return Found::At(i);
-        }
         if s[i] == 45 {
+            if left == 1 {
+                return Found::At(i + 1);
+            }
             left -= 1;
             i += 1;
         } else {
             i += 1;
         }
-    }
-    if left == 0 {
-        return Found::At(i);
     }
     Found::Nothing
 }
@@ -170,8 +168,8 @@ fn head_holds(rule: Rule, joins: usize, s: &[u8]) -> bool
 pub fn group_holds(g: Group, s: &[u8]) -> bool
     ensures { λ r. ⌜ r ≡ groupHolds g (now (s .entry)) ⌝ }
 {
-    let skipped = g.skipped;
-    let joins = g.joins;
+    let skipped = wide(g.skipped);
+    let joins = wide(g.joins);
     let rule = g.rule;
     match after(s, skipped) {
         Found::At(a) => head_holds(rule, joins, &s[a..]),
@@ -197,6 +195,16 @@ pub fn groups_hold(groups: [Group; 4], s: &[u8]) -> bool
 // ---------------------------------------------------------------------------
 // Answers
 
+// 9 where a check group fails.
+fn checked(groups: [Group; 4], s: &[u8]) -> Answer
+    ensures { λ r. ⌜ r ≡ groupsAnswer groups (now (s .entry)) ⌝ }
+{
+    if groups_hold(groups, s) {
+        return Answer::Accepted;
+    }
+    Answer::Refused(Refusal::Digit(refusal::nowhere()))
+}
+
 // 8 where the parts are not the model's, then 9 where a check group fails.
 pub fn obeys(model: Model, s: &[u8]) -> Answer
     ensures { λ r. ⌜ r ≡ obeyAnswer model (now (s .entry)) ⌝ }
@@ -205,16 +213,21 @@ pub fn obeys(model: Model, s: &[u8]) -> Answer
         return Answer::Refused(Refusal::Parts(refusal::nowhere()));
     }
     let groups = model.groups;
-    if groups_hold(groups, s) {
-        return Answer::Accepted;
-    }
-    Answer::Refused(Refusal::Digit(refusal::nowhere()))
+    checked(groups, s)
 }
 
-// A reference's text under a handled model: 3 with its byte, then 4, 8, 9.
+// A reference's text under a handled model: 3 with its byte, then 4, 8, 9. What is formed has no byte for 3, so that
+// only what is not is looked through for one.
 fn judged_text(model: Model, s: &[u8]) -> Answer
     ensures { λ r. ⌜ r ≡ textAnswer model (now (s .entry)) (firstBad Class.Reference (now (s .entry))) ⌝ }
 {
+    if is_formed(model, s) {
+        if 22 < s.len() {
+            return Answer::Refused(Refusal::Length(refusal::nowhere()));
+        }
+        let groups = model.groups;
+        return checked(groups, s);
+    }
     match text::first_bad(Class::Reference, s) {
         Found::At(i) => Answer::Refused(Refusal::Byte(Place {
             line: 0,
@@ -225,7 +238,7 @@ fn judged_text(model: Model, s: &[u8]) -> Answer
             if 22 < s.len() {
                 return Answer::Refused(Refusal::Length(refusal::nowhere()));
             }
-            obeys(model, s)
+            Answer::Refused(Refusal::Parts(refusal::nowhere()))
         }
     }
 }

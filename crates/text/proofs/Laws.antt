@@ -1,7 +1,7 @@
 -- Laws that every crate's proofs cite: of choices on a test, of tests, and of the texts that loops walk through.
 -- Assumes nothing.
 use mathlib.Core.Path.{_≡_, refl, sym, ap, _∙_}
-use mathlib.Core.Bool.{Bool, true, false, cond, _&&_, _||_}
+use mathlib.Core.Bool.{Bool, true, false, cond, _&&_, _||_, and-true, and-assoc}
 use mathlib.Core.List.{List, [], _∷_, _++_}
 use Prim.Native.Nat.{ℕ, suc, _+_, _-_, _*_, _≤_, _<_}
 use native.Mathlib.Numerals.{add-one}
@@ -137,6 +137,36 @@ all-of-nothing k (b ∷ s) = go (permits k b) (all-of-nothing k s)
     go : (t : Bool) → isNothing (firstBad k s) ≡ allOf k s → isNothing (cond t (later (firstBad k s)) (At 0)) ≡ (t && allOf k s)
     go true e = isNothing-later (firstBad k s) ∙ e
     go false e = refl
+
+-- a class permits two texts joined where it permits each
+pub all-joined : (k : Class) (s t : List ℕ) → allOf k s ≡ true → allOf k t ≡ true → allOf k (s ++ t) ≡ true
+unfolding allOf
+all-joined k [] t e g = g
+all-joined k (b ∷ s) t e g =
+    let h = both-true (permits k b) (allOf k s) e in
+    sym (and-second (permits k b) (allOf k (s ++ t)) true (h .0) (sym (all-joined k s t (h .1) g)))
+
+-- and what a narrower class permits
+pub all-wider : (j k : Class) → ((b : ℕ) → permits j b ≡ true → permits k b ≡ true) → (s : List ℕ) → allOf j s ≡ true → allOf k s ≡ true
+unfolding allOf
+all-wider j k f [] e = refl
+all-wider j k f (b ∷ s) e =
+    let h = both-true (permits j b) (allOf j s) e in
+    sym (and-second (permits k b) (allOf k s) true (f b (h .0)) (sym (all-wider j k f s (h .1))))
+
+-- ---------------------------------------------------------------------------
+-- Whether a class permits every byte from place i on, and a test of those before
+
+module _ (k : Class) (s : List ℕ) (i : ℕ) where
+  -- one byte more is tested
+  pub tested-on : i < length s → (before now : Bool) → now ≡ permits k (getD s i 0) → (before && allOf k (drop i s)) ≡ (before && now && allOf k (drop (i + 1) s))
+  unfolding allOf
+  tested-on h before now e = rw (drop-cons s i 0 h, e, add-one i) (sym (and-assoc before (permits k (getD s i 0)) (allOf k (drop (suc i) s))))
+
+  -- none is left
+  pub tested-all : length s ≤ i → i ≤ length s → (before : Bool) → before ≡ (before && allOf k (drop i s))
+  unfolding allOf
+  tested-all h g before = let e : i ≡ length s = omega arith in rw (e, drop-length) (sym (and-true before))
 
 -- ---------------------------------------------------------------------------
 -- Marks, from place i on

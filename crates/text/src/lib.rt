@@ -1,12 +1,11 @@
 // The bytes of a text: which of them a field permits, and which are digits.
 //
-// One scan serves every field: it finds the first byte that a class does not permit. Document 01 names the
-// classes; specs/Bytes.antt says them once.
+// One scan serves every field: it finds the first byte that a class does not permit. A description, the longest place
+// of a wage line, is first tested as a whole by `all_described`. Document 01 names the classes; specs/Bytes.antt says
+// them once.
 ghost use mathlib.Core.Path.{_≡_};
-ghost use mathlib.Core.Bool.{_&&_, _||_};
-ghost use lib.Dec.{eqb, leb};
 ghost use Rattle.text.specs.Digits.{twoDigits};
-ghost use Rattle.text.specs.Bytes.{permits, isDigit, isLetter, firstBad, allOf, marks, isPlain, isCroatian, same};
+ghost use Rattle.text.specs.Bytes.{permits, isDigit, isLetter, firstBad, allOf, marks, same};
 
 // The classes of bytes that document 01 names.
 pub enum Class {
@@ -84,7 +83,7 @@ pub fn permitted(class: Class, b: u8) -> bool
         Class::Blanks => b == 32,
         Class::Zeros => b == 48,
         Class::Place => is_place_byte(b),
-        Class::Description => is_description_byte(b),
+        Class::Description => described(b),
     }
 }
 
@@ -142,73 +141,43 @@ fn is_place_byte(b: u8) -> bool
     b == 32
 }
 
-// A letter a to z.
-fn is_small(b: u8) -> bool
-    ensures { λ r. ⌜ r ≡ (leb 97 b && leb b 122) ⌝ }
-{
-    if b < 97 {
-        return false;
-    }
-    b <= 122
-}
-
-// A blank, or one of `, - . /`.
-fn is_stop(b: u8) -> bool
-    ensures { λ r. ⌜ r ≡ (eqb b 32 || leb 44 b && leb b 47) ⌝ }
-{
-    if b == 32 {
-        return true;
-    }
-    if b < 44 {
-        return false;
-    }
-    b <= 47
-}
-
-fn is_plain(b: u8) -> bool
-    ensures { λ r. ⌜ r ≡ isPlain b ⌝ }
-{
-    if is_digit(b) {
-        return true;
-    }
-    if is_letter(b) {
-        return true;
-    }
-    if is_small(b) {
-        return true;
-    }
-    is_stop(b)
-}
-
-// One of the ten letters of WIN-1250.
-fn is_croatian(b: u8) -> bool
-    ensures { λ r. ⌜ r ≡ isCroatian b ⌝ }
-{
-    match b {
-        138 => true,
-        154 => true,
-        142 => true,
-        158 => true,
-        198 => true,
-        230 => true,
-        200 => true,
-        232 => true,
-        208 => true,
-        _ => b == 240,
-    }
-}
-
-fn is_description_byte(b: u8) -> bool
+// Whether a description permits a byte: `, - . /` and digits, A to Z, a to z, a blank, and ten letters of WIN-1250. It
+// has no branch, so that `all_described` takes many bytes at a time.
+fn described(b: u8) -> bool
     ensures { λ r. ⌜ r ≡ permits Class.Description b ⌝ }
 {
-    if is_plain(b) {
-        return true;
-    }
-    is_croatian(b)
+    ((44 <= b) & (b <= 57))
+        | ((65 <= b) & (b <= 90))
+        | ((97 <= b) & (b <= 122))
+        | (b == 32)
+        | (b == 138)
+        | (b == 154)
+        | (b == 142)
+        | (b == 158)
+        | (b == 198)
+        | (b == 230)
+        | (b == 200)
+        | (b == 232)
+        | (b == 208)
+        | (b == 240)
 }
 
-// The place of the first byte that the class does not permit.
-pub fn first_bad(class: Class, s: &[u8]) -> Found
+// The place of the first byte that is no digit, which is asked most often: a loop that finds no rule at each byte.
+fn first_other(s: &[u8]) -> Found
+    ensures { λ r. ⌜ r ≡ firstBad Class.Digits (now (s .entry)) ⌝ }
+{
+    let mut i = 0;
+    while i < s.len() {
+        if !is_digit(s[i]) {
+            return Found::At(i);
+        }
+        i += 1;
+    }
+    Found::Nothing
+}
+
+// The place of the first byte that the class does not permit, for any class.
+fn first_wrong(class: Class, s: &[u8]) -> Found
     ensures { λ r. ⌜ r ≡ firstBad class (now (s .entry)) ⌝ }
 {
     let mut i = 0;
@@ -221,6 +190,16 @@ pub fn first_bad(class: Class, s: &[u8]) -> Found
     Found::Nothing
 }
 
+// The place of the first byte that the class does not permit.
+pub fn first_bad(class: Class, s: &[u8]) -> Found
+    ensures { λ r. ⌜ r ≡ firstBad class (now (s .entry)) ⌝ }
+{
+    if let Class::Digits = class {
+        return first_other(s);
+    }
+    first_wrong(class, s)
+}
+
 // Whether the class permits every byte.
 pub fn all_of(class: Class, s: &[u8]) -> bool
     ensures { λ r. ⌜ r ≡ allOf class (now (s .entry)) ⌝ }
@@ -229,6 +208,19 @@ pub fn all_of(class: Class, s: &[u8]) -> bool
         Found::At(_) => false,
         Found::Nothing => true,
     }
+}
+
+// Whether a description permits every byte: `all_of` of that class, in one go over all of them.
+pub fn all_described(s: &[u8]) -> bool
+    ensures { λ r. ⌜ r ≡ allOf Class.Description (now (s .entry)) ⌝ }
+{
+    let mut right = true;
+    let mut i = 0;
+    while i < s.len() {
+        right = right & described(s[i]);
+        i += 1;
+    }
+    right
 }
 
 // How many marks, `?`, a text has.

@@ -1,8 +1,8 @@
 -- What acceptance of a place's content means: each answer is acceptance exactly when a plain test holds.
 -- Assumes nothing.
-use mathlib.Core.Path.{_≡_, refl}
+use mathlib.Core.Path.{_≡_, refl, sym, ap, _∙_}
 use mathlib.Core.Logic.{_↔_}
-use mathlib.Core.Bool.{Bool, true, false, cond, not, _&&_, _||_}
+use mathlib.Core.Bool.{Bool, true, false, cond, not, _&&_, _||_, or-true}
 use mathlib.Core.List.{List, [], _∷_}
 use Prim.Native.Nat.{ℕ, suc}
 use native.Mathlib.Omega.{arith}
@@ -19,14 +19,15 @@ use Rattle.text.specs.declared.Class.{Class}
 use Rattle.text.specs.declared.Class.the-variants.{Digits, Reference, Letters, Blanks, Zeros, Place, Description}
 use Rattle.text.specs.declared.Found.{Found}
 use Rattle.text.specs.declared.Found.the-variants.{At, Nothing}
-use Rattle.text.proofs.Laws.{isNothing, all-of-nothing}
-use Rattle.account.specs.Account.{oibPasses}
-use Rattle.account.specs.Answers.{isIban}
+use Rattle.text.proofs.Laws.{isNothing, all-of-nothing, both-true, and-second}
+use Rattle.account.specs.Account.{ibanFormed, ibanPasses, oibPasses}
+use Rattle.account.specs.Answers.{isIban, ibanCheckAnswer}
 use Rattle.account.proofs.Theorems.{iban-accepted-exactly}
 use Rattle.dates.specs.Dates.{isDate}
 use Rattle.codes.specs.Codes.{codePlace}
 use Rattle.reference.specs.Answers.{referenceAnswer}
 use Rattle.wage_contents.specs.Contents.{andThen, onlyIf, found, numberIn, twoOfThree, euro, trimmed, unmodelledAnswer, isFound, bytesAnswer, amongAnswer, oibPlaceAnswer, employerAnswer, todayAnswer, laterAnswer, ibanPlaceAnswer, currencyAnswer, purposePlaceAnswer, signAnswer, referencePlaceAnswer, descriptionAnswer, codeAnswer}
+use Rattle.wage_contents.proofs.Laws.{account-placed}
 
 -- accepted exactly when a test holds
 abbrev pub Exactly : Answer → Bool → Type 0
@@ -72,6 +73,11 @@ if-not false y b q = q
 if-so : (t : Bool) (x : Answer) (a : Bool) (r : Refusal) → Exactly x a → Exactly (cond t x (Refused r)) (t && a)
 if-so true x a r p = p
 if-so false x a r p = never r
+
+-- where a test fails, the refusal stands, whatever follows it
+pub stands : (x y : Answer) (b : Bool) → Exactly x b → b ≡ false → x ≡ andThen x y
+stands Accepted y b p e = let q = p .0 refl in let z : _≡_ {A = ℕ} 0 1 = cc in absurd (omega arith)
+stands (Refused r) y b p e = refl
 
 -- ---------------------------------------------------------------------------
 -- Each content
@@ -127,6 +133,17 @@ iban-place-accepted blank f =
     both (bytesAnswer Place f) _ (allOf Place f) ((blank && allOf Blanks f) || (allOf Blanks (drop 21 f) && isIban (take 21 f))) (bytes-accepted Place f)
     (if-not (blank && allOf Blanks f) _ (allOf Blanks (drop 21 f) && isIban (take 21 f))
     (if-so (allOf Blanks (drop 21 f)) _ (isIban (take 21 f)) (Form none) (iban-accepted-exactly (take 21 f))))
+
+-- an IBAN with blanks behind it is accepted, wherever it stands
+pub account-accepted : (blank : Bool) (f : List ℕ) → cond (allOf Blanks (drop 21 f)) (ibanCheckAnswer (take 21 f)) (Refused (Form none)) ≡ Accepted → ibanPlaceAnswer blank f ≡ Accepted
+account-accepted blank f e =
+    let t = isIban (take 21 f) in
+    let h = if-so (allOf Blanks (drop 21 f)) (ibanCheckAnswer (take 21 f)) t (Form none) (iban-accepted-exactly (take 21 f)) .0 e in
+    let g = both-true (allOf Blanks (drop 21 f)) t h in
+    let i = both-true (ibanFormed (take 21 f)) (ibanPasses (take 21 f)) (g .1) in
+    iban-place-accepted blank f .1
+    (sym (and-second (allOf Place f) _ true (account-placed f (g .0) (i .0))
+    (sym (ap (λ (b : Bool). (blank && allOf Blanks f) || b) h ∙ or-true (blank && allOf Blanks f)))))
 
 -- `EUR`, or blank where that may be
 pub currency-accepted : (blank : Bool) (f : List ℕ) → Exactly (currencyAnswer blank f) ((blank && allOf Blanks f) || same euro f)

@@ -6,19 +6,19 @@ use mathlib.Core.List.{List, [], _∷_, _++_}
 use Prim.Native.Nat.{ℕ, suc, _-_, _≤_, _<_}
 use native.Mathlib.Omega.{arith}
 use lib.Dec.{eqb}
-use lib.ListN.{length, take, getD}
+use lib.ListN.{length, take, drop, getD, take-append-drop}
 use lib.Seq.{take-all, take-suc}
-use borrow.Author.Tests.{eq-eqb, ne-eqb}
+use borrow.Author.Tests.{eq-eqb, ne-eqb, eqb-true}
 use Rattle.refusal.specs.Refusal.{none}
 use Rattle.refusal.specs.declared.Answer.{Answer}
 use Rattle.refusal.specs.declared.Answer.the-variants.{Accepted, Refused}
 use Rattle.refusal.specs.declared.Refusal.{Refusal}
 use Rattle.refusal.specs.declared.Refusal.the-variants.{Form}
-use Rattle.text.specs.Bytes.{allOf}
-use Rattle.text.specs.declared.Class.the-variants.{Blanks}
+use Rattle.text.specs.Bytes.{isDigit, isLetter, allOf}
+use Rattle.text.specs.declared.Class.the-variants.{Digits, Blanks, Place}
 use Rattle.account.specs.Account.{ibanFormed, ibanPasses}
 use Rattle.account.specs.Answers.{ibanCheckAnswer}
-use Rattle.text.proofs.Laws.{taken, left, or-first, or-second, and-first}
+use Rattle.text.proofs.Laws.{taken, left, or-first, or-second, and-first, both-true, all-joined, all-wider}
 use Rattle.wage_contents.specs.Contents.{andThen, onlyIf, trimmed}
 
 -- ---------------------------------------------------------------------------
@@ -70,6 +70,25 @@ short-account f false h = refl
 short-account f true h =
     rw (take-all 21 f (omega arith))
     (left (ibanFormed f) (cond (ibanPasses f) _ _) _ _ (sym (and-first (eqb (length f) 21) _ (ne-eqb (length f) 21 (λ e. omega arith)))) refl)
+
+-- `HR` and nineteen digits are bytes that an IBAN's place permits
+formed-placed : (s : List ℕ) → ibanFormed s ≡ true → allOf Place s ≡ true
+unfolding allOf
+formed-placed [] e = let z : _≡_ {A = ℕ} 0 1 = cc in absurd (omega arith)
+formed-placed (a ∷ []) e = let z : _≡_ {A = ℕ} 0 1 = cc in absurd (omega arith)
+formed-placed (a ∷ (b ∷ s)) e =
+    let f = both-true (eqb (length (a ∷ (b ∷ s))) 21) _ e in
+    let g = both-true (eqb a 72) (eqb b 82 && allOf Digits s) (f .1) in
+    let h = both-true (eqb b 82) (allOf Digits s) (g .1) in
+    rw (eqb-true a 72 (g .0), eqb-true b 82 (h .0))
+    (all-wider Digits Place (λ x d. sym (or-first _ (eqb x 32) (sym (or-first (isDigit x) (isLetter x) d)))) s (h .1))
+
+-- an IBAN with blanks behind it is bytes that its place permits
+pub account-placed : (f : List ℕ) → allOf Blanks (drop 21 f) ≡ true → ibanFormed (take 21 f) ≡ true → allOf Place f ≡ true
+account-placed f e g =
+    sym (ap (allOf Place) (take-append-drop 21 f))
+    ∙ all-joined Place (take 21 f) (drop 21 f) (formed-placed (take 21 f) g)
+    (all-wider Blanks Place (λ x b. rw (eqb-true x 32 b)) (drop 21 f) e)
 
 -- ---------------------------------------------------------------------------
 -- The blanks at a text's end

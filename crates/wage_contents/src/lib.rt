@@ -184,8 +184,8 @@ fn judge_account(f: &[u8]) -> Answer
     form()
 }
 
-// An IBAN's place, all blank where it may be: 3, 5, 6.
-pub fn judge_iban(blank: bool, f: &[u8]) -> Answer
+// An IBAN's place, all blank where it may be, one rule after the other: 3, 5, 6.
+fn judge_iban_place(blank: bool, f: &[u8]) -> Answer
     ensures { λ r. ⌜ r ≡ ibanPlaceAnswer blank (now (f .entry)) ⌝ }
 {
     match judge_bytes(Class::Place, f) {
@@ -196,6 +196,16 @@ pub fn judge_iban(blank: bool, f: &[u8]) -> Answer
             }
             judge_account(f)
         }
+    }
+}
+
+// An IBAN's place, all blank where it may be: 3, 5, 6. Nearly every place holds an IBAN, so that comes first.
+pub fn judge_iban(blank: bool, f: &[u8]) -> Answer
+    ensures { λ r. ⌜ r ≡ ibanPlaceAnswer blank (now (f .entry)) ⌝ }
+{
+    match judge_account(f) {
+        Answer::Accepted => Answer::Accepted,
+        Answer::Refused(_) => judge_iban_place(blank, f),
     }
 }
 
@@ -302,19 +312,17 @@ pub fn judge_reference(m: &[u8], f: &[u8]) -> Answer
     reference::reference(m, trim(f))
 }
 
-// A description: 3, 5.
+// A description: 3, 5. Its bytes are tested as a whole, and only one that is wrong is looked for.
 pub fn judge_description(f: &[u8]) -> Answer
     ensures { λ r. ⌜ r ≡ descriptionAnswer (now (f .entry)) ⌝ }
 {
-    match judge_bytes(Class::Description, f) {
-        Answer::Refused(r) => Answer::Refused(r),
-        Answer::Accepted => {
-            if text::all_of(Class::Blanks, f) {
-                return form();
-            }
-            Answer::Accepted
+    if text::all_described(f) {
+        if text::all_of(Class::Blanks, f) {
+            return form();
         }
+        return Answer::Accepted;
     }
+    judge_bytes(Class::Description, f)
 }
 
 // Whether a number is a code of 004's list.

@@ -1,9 +1,9 @@
--- Laws of a line's places: the byte that a refusal tells, the places from one on, answers joined, and the first place that is refused.
--- Assumes nothing.
-use mathlib.Core.Path.{_≡_, refl, _∙_}
+-- Laws of a line's places: the byte that a refusal tells, the places from one on, answers joined, the first place that is refused,
+-- and the places of a right order. Assumes nothing.
+use mathlib.Core.Path.{_≡_, refl, sym, _∙_}
 use mathlib.Core.Logic.{_↔_}
 use mathlib.Core.Bool.{Bool, true, false, not}
-use mathlib.Core.List.{List, [], _∷_}
+use mathlib.Core.List.{List, [], _∷_, _++_}
 use Prim.Native.Nat.{ℕ, zero, suc, _+_, _≤_, _<_}
 use native.Mathlib.Numerals.{add-one}
 use native.Mathlib.Omega.{arith}
@@ -26,7 +26,7 @@ use Rattle.wage_line.specs.Line.{partAt, partOf}
 use Rattle.wage_line.proofs.Theorems.{placeAt, Small, sizes-small}
 use Rattle.wage_contents.specs.Contents.{andThen}
 use Rattle.wage_contents.proofs.ByteWithin.{bytes-within, among-within, oib-within, employer-within, today-within, later-within, iban-place-within, currency-within, purpose-within, sign-within, model-place-within, reference-place-within, description-within, code-within}
-use Rattle.wage_fields.specs.Rules.{labelRule, groupRule, paymentRule, orderRule, ruleAnswer, toldAt, answerAt, placeAnswer, placesFrom}
+use Rattle.wage_fields.specs.Rules.{labelRule, groupRule, paymentRule, orderRule, ruleAnswer, toldAt, answerAt, placeAnswer, placesFrom, OrderRight}
 
 -- ---------------------------------------------------------------------------
 -- The byte that a refusal tells lies within its place
@@ -197,3 +197,33 @@ module _ (day kind : ℕ) (t : LineType) (s : List ℕ) (r : Refusal) where
           earlier : (w : Stops day kind t s ps r) (k : ℕ) → k < suc (w .order) → placeAnswer day kind t (getD (p ∷ ps) k noSpot) s ≡ Accepted
           earlier w zero h = f
           earlier w (suc k) h = w .before k (omega arith)
+
+-- ---------------------------------------------------------------------------
+-- A right order
+
+-- false is not true, so whatever was promised of true
+pub untrue : {A : Type 0} → false ≡ true → A
+untrue e = let z : _≡_ {A = ℕ} 0 1 = cc in absurd (omega arith)
+
+module _ (kind : ℕ) (s : List ℕ) where
+  -- a place whose rule's answer is Accepted, before places that are right
+  pub right-place : (p : Spot) (ps : List Spot) (f : List ℕ) (a : Answer) → f ≡ partAt p s → a ≡ orderRule kind (p .field) f s → a ≡ Accepted → OrderRight kind ps s → OrderRight kind (p ∷ ps) s
+  unfolding placesFrom placeAnswer
+  right-place p ps f a g h e rest day =
+      let r : orderRule kind (p .field) (partAt p s) s ≡ Accepted = rw (← g) (sym h ∙ e) in
+      rw r (rest day)
+
+  -- where there are no places, each is right
+  pub right-none : OrderRight kind [] s
+  unfolding placesFrom
+  right-none day = refl
+
+  -- right places, and right places behind them
+  pub right-joined : (ps qs : List Spot) → OrderRight kind ps s → OrderRight kind qs s → OrderRight kind (ps ++ qs) s
+  unfolding placesFrom
+  right-joined [] qs f g = g
+  right-joined (p ∷ ps) qs f g = λ day.
+      accept-both (placeAnswer day kind Order p s) (placesFrom day kind Order (ps ++ qs) s) (both day .0) (right-joined ps qs (λ d. both d .1) g day)
+    where
+      both : (day : ℕ) → (placeAnswer day kind Order p s ≡ Accepted) × (placesFrom day kind Order ps s ≡ Accepted)
+      both day = both-accept (placeAnswer day kind Order p s) (placesFrom day kind Order ps s) (f day)

@@ -1,6 +1,7 @@
 -- Document 01, "The wage file", its lists for 300, 301 and 309: the rule of each place, by its field's number, and a line's places in order.
 -- f are the place's own bytes, s the line that it stands in.
 use Prim.Native.Nat.{ℕ, _+_}
+use mathlib.Core.Path.{_≡_}
 use mathlib.Core.Bool.{true, false, cond, not}
 use mathlib.Core.List.{List, [], _∷_}
 use lib.Dec.{eqb}
@@ -102,3 +103,7 @@ placesFrom day kind t (p ∷ ps) s = andThen (placeAnswer day kind t p s) (place
 -- "then the fields in order"
 unfoldable pub placesAnswer : ℕ → ℕ → LineType → List ℕ → Answer
 placesAnswer day kind t s = placesFrom day kind t (spots t) s
+
+-- these places of a 309 are accepted; its rules do not read the day
+abbrev pub OrderRight : ℕ → List Spot → List ℕ → Type 0
+OrderRight kind ps s = (day : ℕ) → placesFrom day kind Order ps s ≡ Accepted

@@ -36,7 +36,7 @@ const STRANGERS: [&[u8]; 16] = [
 const PURPOSES: [&str; 6] = ["COST", "OTHR", "SALA", "GDDS", "AAAA", "ZZZZ"];
 
 /// Fields 1 to 14, each without its line feed.
-type Fields = Vec<Vec<u8>>;
+pub type Fields = Vec<Vec<u8>>;
 
 /// A case line with the verb `slip`.
 pub fn slip_case(dice: &mut Dice) -> Vec<u8> {
@@ -46,10 +46,10 @@ pub fn slip_case(dice: &mut Dice) -> Vec<u8> {
 
 /// A case line with the verb `write`.
 pub fn write_case(dice: &mut Dice) -> Vec<u8> {
-    let mut fields = right(dice);
+    let mut fields = right_slip(dice);
     match dice.below(12) {
         0..=6 => {}
-        7..=10 => spoil_some(dice, &mut fields),
+        7..=10 => spoil_slip(dice, &mut fields),
         _ => fill_up(&mut fields),
     }
     let (amount, mut texts) = (cents(dice), fields.split_off(3));
@@ -70,11 +70,11 @@ pub fn write_case(dice: &mut Dice) -> Vec<u8> {
 
 /// A slip, right or wrong, with real line feeds.
 pub fn slip(dice: &mut Dice) -> Vec<u8> {
-    let mut fields = right(dice);
+    let mut fields = right_slip(dice);
     match dice.below(100) {
         0..=23 => ended(&fields),
         24..=59 => {
-            spoil_some(dice, &mut fields);
+            spoil_slip(dice, &mut fields);
             ended(&fields)
         }
         60..=87 => {
@@ -122,7 +122,8 @@ fn limit(number: usize) -> Option<usize> {
 
 // Right slips.
 
-fn right(dice: &mut Dice) -> Fields {
+/// Fields 1 to 14 of a slip that passes.
+pub fn right_slip(dice: &mut Dice) -> Fields {
     let model = dice.pick(&MODELS);
     (1..=14)
         .map(|number| match number {
@@ -214,7 +215,8 @@ fn about_the_largest(dice: &mut Dice, mut fields: Fields) -> Vec<u8> {
 
 // Wrong fields.
 
-fn spoil_some(dice: &mut Dice, fields: &mut Fields) {
+/// Spoils one to three of the fourteen fields.
+pub fn spoil_slip(dice: &mut Dice, fields: &mut Fields) {
     // A wrong field hides those behind it, so mostly one alone, and more often
     // one that can be wrong in many ways.
     for _ in 0..*dice.pick(&[1, 1, 1, 2, 3]) {
@@ -395,11 +397,11 @@ fn cents(dice: &mut Dice) -> String {
         11 => dice
             .pick(&["", "-1", "+1", "1.0", "1 ", "99999999999999999999", "x"])
             .to_string(),
-        12 => dice.next().to_string(),
+        12 => dice.roll().to_string(),
         _ => {
             let digits = dice.between(1, 15);
             let most = 10u64.pow(digits as u32);
-            (dice.next() % most).to_string()
+            (dice.roll() % most).to_string()
         }
     }
 }
@@ -434,12 +436,12 @@ mod tests {
     fn right_slips_pass() {
         let mut dice = Dice::new(1);
         for _ in 0..5_000 {
-            let slip = ended(&right(&mut dice));
+            let slip = ended(&right_slip(&mut dice));
             let read = Slip::read(&slip);
             assert!(read.is_ok(), "{} {read:?}", slip.escape_ascii());
             assert_eq!(read.unwrap().write(LARGEST), Ok(slip));
         }
-        let mut full = right(&mut dice);
+        let mut full = right_slip(&mut dice);
         fill_up(&mut full);
         assert_eq!(ended(&full).len(), LARGEST);
         assert!(Slip::read(&ended(&full)).is_ok());

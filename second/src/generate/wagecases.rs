@@ -59,11 +59,22 @@ fn written(head: String, fields: Fields) -> Vec<u8> {
 
 /// A write with right fields, of which some are then spoilt.
 fn write(dice: &mut Dice, of: Type, day: u32, kind: u64, wrong: usize) -> Vec<u8> {
-    let (head, mut fields) = match of {
-        Type::Label => (format!("300 {day}"), right_label(dice, day, kind)),
-        Type::Group => (format!("301 {day} {kind}"), right_group(dice, day)),
-        Type::Order => (format!("309 {day} {kind}"), right_order(dice, kind)),
-        Type::Close => (format!("399 {day}"), Vec::new()),
+    let head = match of {
+        Type::Label => format!("300 {day}"),
+        Type::Group => format!("301 {day} {kind}"),
+        Type::Order => format!("309 {day} {kind}"),
+        Type::Close => format!("399 {day}"),
+    };
+    written(head, spoilt_line(dice, of, day, kind, wrong))
+}
+
+/// The fields that a writer of such a line wants, spoilt so many times.
+pub fn spoilt_line(dice: &mut Dice, of: Type, day: u32, kind: u64, wrong: usize) -> Fields {
+    let mut fields = match of {
+        Type::Label => right_label(dice, day, kind),
+        Type::Group => right_group(dice, day),
+        Type::Order => right_order(dice, kind),
+        Type::Close => Vec::new(),
     };
     for _ in 0..wrong {
         if fields.is_empty() {
@@ -87,7 +98,7 @@ fn write(dice: &mut Dice, of: Type, day: u32, kind: u64, wrong: usize) -> Vec<u8
             }
         }
     }
-    written(head, fields)
+    fields
 }
 
 fn lengths(of: Type) -> Vec<usize> {

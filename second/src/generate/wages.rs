@@ -73,7 +73,7 @@ pub fn large_wage_file(dice: &mut Dice) -> (WageFile, u128) {
         .map(|k| {
             let mut fields = right_order(dice, kind);
             let cents = if k % 40 == 0 {
-                dice.next() % 1_000_000_000_000_000
+                dice.roll() % 1_000_000_000_000_000
             } else {
                 999_999_999_999_999
             };

@@ -61,8 +61,10 @@ const CURRENCY: &[u8; 3] = b"EUR";
 pub fn label(fields: &[&[u8]; 8], day: u32) -> Result<Kind, Refusal> {
     let [date, kind, source, way, employer, register, internal, payer] = *fields;
     let at = &LABEL;
+    // The day is a date, unless the judge was made up with another.
     at[0].judge(date, |t: &[u8; 8]| {
-        must(number(t)? == u64::from(day), Reason::Date)
+        let date = number(t)? as u32;
+        must(is_date(date) && date == day, Reason::Date)
     })?;
     let kind = at[1].judge(kind, |t: &[u8; 1]| {
         Kind::of(number(t)?).ok_or_else(|| Reason::Form.into())

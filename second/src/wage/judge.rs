@@ -34,8 +34,9 @@ impl fmt::Display for Accepted {
     }
 }
 
+/// Where a judge stands.
 #[derive(Clone, Copy, Debug)]
-enum Condition {
+pub enum Condition {
     Fresh,
     Labelled(Kind),
     InGroup(Kind, Open),
@@ -45,10 +46,10 @@ enum Condition {
 
 /// A group whose end has not come.
 #[derive(Clone, Copy, Debug)]
-struct Open {
-    declared: Declared,
-    orders: u32,
-    sum: u128,
+pub struct Open {
+    pub declared: Declared,
+    pub orders: u32,
+    pub sum: u128,
 }
 
 impl Judge {
@@ -62,6 +63,24 @@ impl Judge {
             },
             told: Accepted::default(),
         }
+    }
+
+    /// A judge who stands anywhere.
+    pub fn from_parts(day: u32, condition: Condition, told: Accepted) -> Judge {
+        Judge {
+            day,
+            condition,
+            told,
+        }
+    }
+
+    pub fn condition(&self) -> &Condition {
+        &self.condition
+    }
+
+    /// What was read so far.
+    pub fn counts(&self) -> Accepted {
+        self.told
     }
 
     /// The first refusal, if there was one.
@@ -103,7 +122,7 @@ impl Judge {
         let (line, found) = Type::of(bytes)?;
         match (&mut self.condition, found) {
             (Condition::InGroup(kind, open), Type::Order) => {
-                if open.orders == open.declared.orders {
+                if open.orders >= open.declared.orders {
                     return Err(Reason::Orders.into());
                 }
                 open.sum += u128::from(fields::order(&parts(line, &ORDER), *kind)?);

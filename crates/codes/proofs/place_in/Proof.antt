@@ -6,6 +6,7 @@ use lib.ListN.{length, drop}
 use Rattle.text.proofs.Laws.{shifted, shifted-zero}
 use Rattle.codes.specs.Codes.{placeIn}
 use Rattle.codes.proofs.Laws.{search-on, search-stops, search-ends}
+use borrow.Author.Needs.{needs}
 use Rattle.codes.proofs.place_in.Statement.{statement}
 use Rattle.codes.proofs.place_in.Tie as tie
 
@@ -16,19 +17,22 @@ abbrev μ-loop : tie.MeasureT-loop
 μ-loop list code i₀ i = length list - i
 
 loop-holds : tie.Need-loop-holds Inv-loop μ-loop
-loop-holds c = (omega arith, shifted-zero (placeIn (c .args .code) (c .args .list .now)))
+loop-holds c = (omega arith, shifted-zero (placeIn (c .before .args .code) (c .before .args .list .now)))
 
-mul-if1 : tie.Need-mul-if1 Inv-loop μ-loop
-mul-if1 c = omega arith
+mul-wide : tie.Need-mul-wide Inv-loop μ-loop
+mul-wide c = search needs
 
-shared-slice-read-if1 : tie.Need-shared-slice-read-if1 Inv-loop μ-loop
-shared-slice-read-if1 c = omega arith
+shared-slice-read-wide : tie.Need-shared-slice-read-wide Inv-loop μ-loop
+shared-slice-read-wide c = omega arith
+
+wide-requires : tie.Need-wide-requires Inv-loop μ-loop
+wide-requires c κs = search needs
 
 returns : tie.Need-returns Inv-loop μ-loop
 returns c =
-    let a = c .before .before .before .before .args in
-    let l = c .before .before .before .loop in
-    search-stops (a .code) (a .list .now) (l .i) (omega arith) (c .if1 .taken) ∙ sym (l .inv .1)
+    let a = c .before .before .before .before .before .before .args in
+    let l = c .before .before .before .before .loop in
+    search-stops (a .code) (a .list .now) (l .i) (omega arith) (c .if1 .taken ∙ c .before .wide .ensures) ∙ sym (l .inv .1)
 
 add-i : tie.Need-add-i Inv-loop μ-loop
 add-i c = omega arith
@@ -38,13 +42,13 @@ loop-less c = omega arith
 
 loop-again : tie.Need-loop-again Inv-loop μ-loop
 loop-again c =
-    let a = c .before .before .before .before .args in
-    let l = c .before .before .before .loop in
-    (omega arith, l .inv .1 ∙ search-on (a .code) (a .list .now) (l .i) (omega arith) (c .if1 .left))
+    let a = c .before .before .before .before .before .before .args in
+    let l = c .before .before .before .before .loop in
+    (omega arith, l .inv .1 ∙ search-on (a .code) (a .list .now) (l .i) (omega arith) (λ e. c .if1 .left (e ∙ sym (c .before .wide .ensures))))
 
 returns-2 : tie.Need-returns-2 Inv-loop μ-loop
 returns-2 c =
-    let a = c .before .before .args in
+    let a = c .before .before .before .args in
     let l = c .before .loop in
     search-ends (a .code) (a .list .now) (l .i) (omega arith) (omega arith) ∙ sym (l .inv .1)
 
@@ -55,8 +59,9 @@ place-in-spec =
     Inv-loop
     μ-loop
     loop-holds
-    mul-if1
-    shared-slice-read-if1
+    mul-wide
+    shared-slice-read-wide
+    wide-requires
     returns
     add-i
     loop-less

@@ -1,4 +1,5 @@
--- `fillings::list_into` meets its contract: the count is that of all fillings, and they are written where there is room. Assumes nothing.
+-- `fillings::list_into` meets its contract: the count is that of all fillings, and they are written where there is room:
+-- room for ten thousand is room for all. Assumes nothing.
 use Prim.Native.Nat.{suc, _*_, _^_, _≤_}
 use mathlib.Core.Path.{_≡_, refl, sym, ap, _∙_}
 use native.Mathlib.Omega.{arith}
@@ -6,21 +7,20 @@ use lib.ListN.{length, take}
 use Rattle.text.specs.Bytes.{marks}
 use Rattle.fillings.specs.Accepts.{accepts}
 use Rattle.fillings.specs.Fillings.{fillings}
-use Rattle.text.proofs.Stands.{front-stands}
-use Rattle.fillings.proofs.Laws.{whole-fits, written-all, room-refused, room-counted}
+use Rattle.fillings.proofs.Laws.{whole-fits, fillings-fit, written-all, room-refused, room-counted}
 use borrow.Author.Needs.{needs}
 use Rattle.fillings.proofs.list_into.Statement.{statement}
 use Rattle.fillings.proofs.list_into.Tie as tie
 
--- what the listing asks, at both runs
+-- what the listing asks, at every run
 may-list :
-    (c : tie.After-scratch)
-    → (length (c .before .before .before .before .before .args .s .now) ≤ 22)
-    × ((c .before .count-marks .result ≡ marks (take (length (c .before .before .before .before .before .args .s .now)) (c .before .before .held .result)))
-    × ((suc 0 * 10 ^ c .before .count-marks .result ≤ 10000) × (0 ≤ 0 * 10 ^ c .before .count-marks .result)))
+    (c : tie.After-count-marks)
+    → (length (c .before .before .before .before .args .s .now) ≤ 22)
+    × ((c .count-marks .result ≡ marks (take (length (c .before .before .before .before .args .s .now)) (c .before .held .result)))
+    × ((suc 0 * 10 ^ c .count-marks .result ≤ 10000) × (0 ≤ 0 * 10 ^ c .count-marks .result)))
 may-list c =
-    let z = c .before .before .before .before .before in
-    (z .pre .0, (c .before .count-marks .ensures ∙ ap marks (sym (c .before .before .held .ensures)), (whole-fits _ (omega (arith, z .pre .1, c .before .count-marks .ensures)), omega arith)))
+    let z = c .before .before .before .before in
+    (z .pre .0, (c .count-marks .ensures ∙ ap marks (sym (c .before .held .ensures)), (whole-fits _ (omega (arith, z .pre .1, c .count-marks .ensures)), omega arith)))
 
 held-requires : tie.Need-held-requires
 held-requires c κs = search needs
@@ -28,34 +28,48 @@ held-requires c κs = search needs
 count-marks-requires : tie.Need-count-marks-requires
 count-marks-requires c κs = search needs
 
-slice-aggregate-list : tie.Need-slice-aggregate-list
-slice-aggregate-list c = search needs
-
 list-requires : tie.Need-list-requires
-list-requires c κs = may-list c
-
-nowhere-requires : tie.Need-nowhere-requires
-nowhere-requires c κs = search needs
-
-returns : tie.Need-returns
-returns c =
-    let a = c .before .before .before .before .before .before .before .before .before .args in
-    let w = written-all (accepts (a .aim)) (a .s .now) _ (c .before .before .before .before .before .before .held .ensures) (c .before .before .before .list .ensures) in
-    (room-refused (fillings (accepts (a .aim)) (a .s .now)) _ _ _ (w .counted) (c .before .if1 .taken) (c .nowhere .ensures), refl)
-
-list-requires-2 : tie.Need-list-requires-2
-list-requires-2 c κs = may-list (c .before .before .before .before)
+list-requires c κs = may-list (c .before .before)
 
 same-length : tie.Need-same-length
 same-length c = search needs
 
+returns : tie.Need-returns
+returns c =
+    let b = c .before .before .before .before .before in
+    let a = b .before .before .before .before .args in
+    let w = written-all (accepts (a .aim)) (a .s .now) _ (b .before .held .ensures) (c .before .before .list .ensures) in
+    room-counted (fillings (accepts (a .aim)) (a .s .now)) (a .out .now) _ _ _ (w .counted) w (omega (arith, fillings-fit (accepts (a .aim)) (a .s .now) (b .before .before .before .before .pre .1), c .before .before .before .before .if1 .taken))
+
+slice-aggregate-list : tie.Need-slice-aggregate-list
+slice-aggregate-list c = search needs
+
+list-requires-2 : tie.Need-list-requires-2
+list-requires-2 c κs = may-list (c .before .before)
+
+nowhere-requires : tie.Need-nowhere-requires
+nowhere-requires c κs = search needs
+
 returns-2 : tie.Need-returns-2
 returns-2 c =
     let b = c .before .before .before .before .before .before in
-    let a = b .before .before .before .before .before .before .args in
-    let v = written-all (accepts (a .aim)) (a .s .now) _ (b .before .before .before .held .ensures) (b .list .ensures) in
-    let w = written-all (accepts (a .aim)) (a .s .now) _ (b .before .before .before .held .ensures) (c .before .before .list2 .ensures) in
-    (room-counted (fillings (accepts (a .aim)) (a .s .now)) _ _ (v .counted) (c .before .before .before .before .if1 .left), front-stands _ _ _ _ w (omega (arith, v .counted, c .before .before .before .before .if1 .left)))
+    let a = b .before .before .before .before .args in
+    let w = written-all (accepts (a .aim)) (a .s .now) _ (b .before .held .ensures) (c .before .before .before .list2 .ensures) in
+    (room-refused (fillings (accepts (a .aim)) (a .s .now)) _ _ _ (w .counted) (c .before .if2 .taken) (c .nowhere .ensures), refl)
+
+list-requires-3 : tie.Need-list-requires-3
+list-requires-3 c κs = may-list (c .before .before .before .before .before .before)
+
+same-length-2 : tie.Need-same-length-2
+same-length-2 c = search needs
+
+returns-3 : tie.Need-returns-3
+returns-3 c =
+    let b = c .before .before .before .before .before .before .before .before .before in
+    let a = b .before .before .before .before .args in
+    let v = written-all (accepts (a .aim)) (a .s .now) _ (b .before .held .ensures) (c .before .before .before .before .before .before .list2 .ensures) in
+    let w = written-all (accepts (a .aim)) (a .s .now) _ (b .before .held .ensures) (c .before .before .list3 .ensures) in
+    room-counted (fillings (accepts (a .aim)) (a .s .now)) (a .out .now) _ _ _ (v .counted) w (omega (arith, v .counted, c .before .before .before .before .if2 .left))
 
 pub list-into-spec : {M : Type 1} → statement M
 list-into-spec =
@@ -63,10 +77,13 @@ list-into-spec =
     (tie.spec
     held-requires
     count-marks-requires
-    slice-aggregate-list
     list-requires
-    nowhere-requires
-    returns
-    list-requires-2
     same-length
-    returns-2)
+    returns
+    slice-aggregate-list
+    list-requires-2
+    nowhere-requires
+    returns-2
+    list-requires-3
+    same-length-2
+    returns-3)

@@ -1,17 +1,18 @@
 -- The proof of the cycle of calls {digit, part}. The measure is the bytes left, twice, and one more before a part begins: a part is begun
--- with no byte read, and every other call reads one. Each return is the definition's turn on the tests that led there.
+-- with no byte read, and a hyphen that hands over is read. The digit reader's loop has the invariant: what is read is what is read after
+-- the n digits so far. Each return is the definition's turn on the tests that led there.
 -- Assumes nothing.
 use borrow.Author.Needs.{needs}
-use Prim.Native.Nat.{ℕ, _+_, _<_}
+use Prim.Native.Nat.{ℕ, _+_, _-_, _≤_, _<_}
 use native.Mathlib.Omega.{arith}
-use lib.ListN.{length, length-drop}
+use mathlib.Core.Path.{_≡_, refl, sym, _∙_}
+use lib.ListN.{length, drop, length-drop}
+use borrow.Author.Tests.{lt-ltb, le-ltb}
+use Rattle.text.proofs.Laws.{left, entered, to-the-end}
+use Rattle.reference.specs.Readers.{digitRead}
+use Rattle.reference.proofs.Laws.{fits-lengths, last-fits, last-breaks, hyphen-fits, hyphen-breaks, digit-reads, other-breaks}
 use borrow.Fn.Kinds.{In}
 use borrow.Fn.PlainCycle.{Measures, is, falls, and}
-use mathlib.Core.Path.{refl, sym, _∙_}
-use borrow.Author.Tests.{lt-ltb, le-ltb}
-use Rattle.text.proofs.Laws.{left, entered}
-use Rattle.text.proofs.Laws.{to-the-end}
-use Rattle.reference.proofs.Laws.{fits-lengths, last-fits, last-breaks, hyphen-fits, hyphen-breaks, digit-reads, other-breaks}
 use Rattle.reference.proofs.digit.Reads as digit
 use Rattle.reference.proofs.digit.Kinds as digit-kinds
 use Rattle.reference.proofs.+digit+part.Lts-digit as digit-lts
@@ -41,6 +42,12 @@ part-at t = and 2 part-kinds.ps (is 2 part-kinds.ps μ-part t) part.Pre
 abbrev part-below : ℕ → In 2 part-kinds.ps
 part-below t = and 2 part-kinds.ps (falls 2 part-kinds.ps _<_ μ-part t) part.Pre
 
+abbrev digit-Inv-loop : digit-lts.InvT-loop
+digit-Inv-loop s lengths count n₀ n = (n ≤ length s) × (digitRead lengths 0 count s ≡ digitRead lengths n count (drop n s))
+
+abbrev digit-μ-loop : digit-lts.MeasureT-loop
+digit-μ-loop s lengths count n₀ n = length s - n
+
 pub +digit+part-spec : {M : Type 1} → statement M
 +digit+part-spec = close μ-digit μ-part (λ t. digit-lts.spec (
   fits-reads.Asked,
@@ -49,35 +56,34 @@ pub +digit+part-spec : {M : Type 1} → statement M
   part.Post,
   is-digit-reads.Asked,
   is-digit-reads.Learnt,
-  digit-below t,
-  digit.Post,
 )
     (digit-at t)
     digit.Post
+    digit-Inv-loop
+    digit-μ-loop
+    (λ c. (omega arith, refl))  -- digit-loop-holds
+    (λ c. omega arith)  -- digit-shared-slice-read-b
     (λ c κs. search needs)  -- digit-fits-requires
-    (λ c. search needs)  -- digit-add-t9
-    (λ c. last-fits (c .before .before .before .before .before .args .lengths .now) (c .before .before .before .before .before .args .n) (c .before .before .before .before .before .args .count) (c .before .before .before .before .before .args .s .now) (c .before .before .if1 .taken) (sym (c .before .fits2 .ensures) ∙ c .if2 .taken))  -- digit-returns
-    (λ c. last-breaks (c .before .before .before .before .before .args .lengths .now) (c .before .before .before .before .before .args .n) (c .before .before .before .before .before .args .count) (c .before .before .before .before .before .args .s .now) (c .before .before .if1 .taken) (sym (c .before .fits2 .ensures) ∙ c .if2 .left))  -- digit-returns-2
-    (λ c. search needs)  -- digit-shared-slice-read-b
-    (λ c κs. search needs)  -- digit-fits-requires-2
-    (λ c. search needs)  -- digit-sub-part
-    (λ c. search needs)  -- digit-part-part-start
-    (λ c. search needs)  -- digit-part-part-end
-    (λ c. fits-lengths (c .before .before .before .before .before .before .before .before .args .lengths .now) (c .before .before .before .before .before .before .before .before .args .n) (sym (c .before .before .fits3 .ensures) ∙ c .before .if4 .taken))  -- digit-sub-part-2
-    (λ c. fits-lengths (c .before .before .before .before .before .before .before .before .args .lengths .now) (c .before .before .before .before .before .before .before .before .args .n) (sym (c .before .before .fits3 .ensures) ∙ c .before .if4 .taken))  -- digit-part-part-start-2
-    (λ c. search needs)  -- digit-part-part-end-2
     (λ c. omega arith)  -- digit-add-part
-    (λ c κs. let s = c .before .before .before .before .before .before .before .before .before .args .s .now in rw (to-the-end 1 s, length-drop 1 s) (omega arith))  -- digit-part-requires
-    (λ c. hyphen-fits (c .before .before .before .before .before .before .before .before .before .before .args .lengths .now) (c .before .before .before .before .before .before .before .before .before .before .args .n) (c .before .before .before .before .before .before .before .before .before .before .args .count) (c .before .before .before .before .before .before .before .before .before .before .args .s .now) _ (c .before .before .before .before .before .before .before .if1 .left) (c .before .before .before .before .before .if3 .taken) (sym (c .before .before .before .before .fits3 .ensures) ∙ c .before .before .before .if4 .taken) (c .part .ensures))  -- digit-returns-3
-    (λ c. hyphen-breaks (c .before .before .before .before .before .before .before .args .lengths .now) (c .before .before .before .before .before .before .before .args .n) (c .before .before .before .before .before .before .before .args .count) (c .before .before .before .before .before .before .before .args .s .now) (c .before .before .before .before .if1 .left) (c .before .before .if3 .taken) (sym (c .before .fits3 .ensures) ∙ c .if4 .left))  -- digit-returns-4
+    (λ c. omega arith)  -- digit-sub-part
+    (λ c. omega arith)  -- digit-part-part-start
+    (λ c. search needs)  -- digit-part-part-end
+    (λ c. let a = c .before .before .before .before .before .before .before .before .before .args in let l = c .before .before .before .before .before .before .loop in fits-lengths (a .lengths .now) (l .n) (sym (c .before .before .fits2 .ensures) ∙ c .before .if2 .taken))  -- digit-sub-part-2
+    (λ c. let a = c .before .before .before .before .before .before .before .before .before .args in let l = c .before .before .before .before .before .before .loop in fits-lengths (a .lengths .now) (l .n) (sym (c .before .before .fits2 .ensures) ∙ c .before .if2 .taken))  -- digit-part-part-start-2
+    (λ c. search needs)  -- digit-part-part-end-2
+    (λ c. omega arith)  -- digit-add-part-2
+    (λ c κs. let a = c .before .before .before .before .before .before .before .before .before .before .args in let l = c .before .before .before .before .before .before .before .loop in rw (to-the-end (l .n + 1) (a .s .now), length-drop (l .n + 1) (a .s .now)) (omega arith))  -- digit-part-requires
+    (λ c. let a = c .before .before .before .before .before .before .before .before .before .before .before .args in let l = c .before .before .before .before .before .before .before .before .loop in hyphen-fits (a .lengths .now) (l .n) (a .count) (a .s .now) (c .before .before .before .before .before .before .before .loop-test .taken) _ (c .before .before .before .before .before .if1 .taken) (sym (c .before .before .before .before .fits2 .ensures) ∙ c .before .before .before .if2 .taken) (c .part .ensures) ∙ sym (l .inv .1))  -- digit-returns
+    (λ c. let a = c .before .before .before .before .before .before .before .before .args in let l = c .before .before .before .before .before .loop in hyphen-breaks (a .lengths .now) (l .n) (a .count) (a .s .now) (c .before .before .before .before .loop-test .taken) (c .before .before .if1 .taken) (sym (c .before .fits2 .ensures) ∙ c .if2 .left) ∙ sym (l .inv .1))  -- digit-returns-2
     (λ c κs. search needs)  -- digit-is-digit-requires
-    (λ c. search needs)  -- digit-sub-digit
-    (λ c. search needs)  -- digit-part-digit-start
-    (λ c. search needs)  -- digit-part-digit-end
-    (λ c. search needs)  -- digit-add-digit
-    (λ c κs. let s = c .before .before .before .before .before .before .before .before .args .s .now in rw (to-the-end 1 s, length-drop 1 s) (omega arith))  -- digit-digit-requires
-    (λ c. digit-reads (c .before .before .before .before .before .before .before .before .before .args .lengths .now) (c .before .before .before .before .before .before .before .before .before .args .n) (c .before .before .before .before .before .before .before .before .before .args .count) (c .before .before .before .before .before .before .before .before .before .args .s .now) _ (c .before .before .before .before .before .before .if1 .left) (c .before .before .before .before .if3 .left) (sym (c .before .before .before .is-digit .ensures) ∙ c .before .before .if5 .taken) (c .digit .ensures))  -- digit-returns-5
-    (λ c. other-breaks (c .before .before .before .before .before .before .before .args .lengths .now) (c .before .before .before .before .before .before .before .args .n) (c .before .before .before .before .before .before .before .args .count) (c .before .before .before .before .before .before .before .args .s .now) (c .before .before .before .before .if1 .left) (c .before .before .if3 .left) (sym (c .before .is-digit .ensures) ∙ c .if5 .left)))  -- digit-returns-6
+    (λ c. omega arith)  -- digit-add-n
+    (λ c. omega arith)  -- digit-loop-less
+    (λ c. let a = c .before .before .before .before .before .before .before .before .args in let l = c .before .before .before .before .before .loop in (omega arith, l .inv .1 ∙ digit-reads (a .lengths .now) (l .n) (a .count) (a .s .now) (c .before .before .before .before .loop-test .taken) (c .before .before .if1 .left) (sym (c .before .is-digit .ensures) ∙ c .if3 .taken)))  -- digit-loop-again
+    (λ c. let a = c .before .before .before .before .before .before .before .before .args in let l = c .before .before .before .before .before .loop in other-breaks (a .lengths .now) (l .n) (a .count) (a .s .now) (c .before .before .before .before .loop-test .taken) (c .before .before .if1 .left) (sym (c .before .is-digit .ensures) ∙ c .if3 .left) ∙ sym (l .inv .1))  -- digit-returns-3
+    (λ c κs. search needs)  -- digit-fits-requires-2
+    (λ c. omega arith)  -- digit-add-t23
+    (λ c. let a = c .before .before .before .before .before .before .args in let l = c .before .before .before .loop in last-fits (a .lengths .now) (l .n) (a .count) (a .s .now) (c .before .before .loop-test .left) (sym (c .before .fits3 .ensures) ∙ c .if4 .taken) ∙ sym (l .inv .1))  -- digit-returns-4
+    (λ c. let a = c .before .before .before .before .before .before .args in let l = c .before .before .before .loop in last-breaks (a .lengths .now) (l .n) (a .count) (a .s .now) (c .before .before .loop-test .left) (sym (c .before .fits3 .ensures) ∙ c .if4 .left) ∙ sym (l .inv .1)))  -- digit-returns-5
     λ t. part-lts.spec
     (digit-below t, digit.Post)
     (part-at t)

@@ -1,6 +1,6 @@
--- `reference::after` meets its contract. The loop's invariant: the place is the one after the hyphens that are left, from `i` on.
--- Assumes nothing.
-use Prim.Native.Nat.{_≤_, _-_}
+-- `reference::after` meets its contract. The loop's invariant: a hyphen is left to pass, and the place is the one after the hyphens
+-- that are left, from `i` on. Assumes nothing.
+use Prim.Native.Nat.{_+_, _-_, _≤_, _<_}
 use mathlib.Core.Path.{_≡_, sym, _∙_}
 use native.Mathlib.Omega.{arith}
 use lib.ListN.{length, drop}
@@ -11,19 +11,29 @@ use Rattle.reference.proofs.after.Statement.{statement}
 use Rattle.reference.proofs.after.Tie as tie
 
 abbrev Inv-loop : tie.InvT-loop
-Inv-loop s k left₀ i₀ left i = (i ≤ length s) × (afterHyphens k s ≡ shifted i (afterHyphens left (drop i s)))
+Inv-loop s k left₀ i₀ left i = (i ≤ length s) × (0 < left) × (afterHyphens k s ≡ shifted i (afterHyphens left (drop i s)))
 
 abbrev μ-loop : tie.MeasureT-loop
 μ-loop s k left₀ i₀ left i = length s - i
 
-loop-holds : tie.Need-loop-holds Inv-loop μ-loop
-loop-holds c = (omega arith, shifted-zero (afterHyphens (c .args .k) (c .args .s .now)))
-
 returns : tie.Need-returns Inv-loop μ-loop
-returns c = after-none (c .before .before .before .args .s .now) (c .before .before .loop .i) (c .before .before .loop .left) (c .if1 .taken) ∙ sym (c .before .before .loop .inv .1)
+returns c = let a = c .before .args in after-none (a .s .now) 0 (a .k) (c .if1 .taken) ∙ sym (shifted-zero (afterHyphens (a .k) (a .s .now)))
+
+loop-holds : tie.Need-loop-holds Inv-loop μ-loop
+loop-holds c = (omega arith, omega arith, shifted-zero (afterHyphens (c .before .args .k) (c .before .args .s .now)))
 
 shared-slice-read-if2 : tie.Need-shared-slice-read-if2 Inv-loop μ-loop
 shared-slice-read-if2 c = omega arith
+
+add-t11 : tie.Need-add-t11 Inv-loop μ-loop
+add-t11 c = omega arith
+
+returns-2 : tie.Need-returns-2 Inv-loop μ-loop
+returns-2 c =
+    let s = c .before .before .before .before .before .before .args .s .now in
+    let l = c .before .before .before .before .loop in
+    after-none s (l .i + 1) (l .left - 1) (omega arith)
+    ∙ sym (l .inv .2 ∙ after-hyphen s (l .i) (l .left) (c .before .before .before .loop-test .taken) (l .inv .1) (c .before .if2 .taken))
 
 sub-left : tie.Need-sub-left Inv-loop μ-loop
 sub-left c = omega arith
@@ -35,7 +45,10 @@ loop-less : tie.Need-loop-less Inv-loop μ-loop
 loop-less c = omega arith
 
 loop-again : tie.Need-loop-again Inv-loop μ-loop
-loop-again c = (omega arith, c .before .before .before .before .loop .inv .1 ∙ after-hyphen (c .before .before .before .before .before .args .s .now) (c .before .before .before .before .loop .i) (c .before .before .before .before .loop .left) (c .before .before .before .loop-test .taken) (c .before .before .if1 .left) (c .if2 .taken))
+loop-again c =
+    let s = c .before .before .before .before .before .before .args .s .now in
+    let l = c .before .before .before .before .loop in
+    (omega arith, omega arith, l .inv .2 ∙ after-hyphen s (l .i) (l .left) (c .before .before .before .loop-test .taken) (l .inv .1) (c .before .if2 .taken))
 
 add-i-2 : tie.Need-add-i-2 Inv-loop μ-loop
 add-i-2 c = omega arith
@@ -44,13 +57,16 @@ loop-less-2 : tie.Need-loop-less-2 Inv-loop μ-loop
 loop-less-2 c = omega arith
 
 loop-again-2 : tie.Need-loop-again-2 Inv-loop μ-loop
-loop-again-2 c = (omega arith, c .before .before .before .before .loop .inv .1 ∙ after-other (c .before .before .before .before .before .args .s .now) (c .before .before .before .before .loop .i) (c .before .before .before .before .loop .left) (c .before .before .before .loop-test .taken) (c .before .before .if1 .left) (c .if2 .left))
-
-returns-2 : tie.Need-returns-2 Inv-loop μ-loop
-returns-2 c = after-none (c .before .before .before .args .s .now) (c .before .before .loop .i) (c .before .before .loop .left) (c .if3 .taken) ∙ sym (c .before .before .loop .inv .1)
+loop-again-2 c =
+    let s = c .before .before .before .before .before .args .s .now in
+    let l = c .before .before .before .loop in
+    (omega arith, l .inv .1, l .inv .2 ∙ after-other s (l .i) (l .left) (c .before .before .loop-test .taken) (l .inv .1) (c .if2 .left))
 
 returns-3 : tie.Need-returns-3 Inv-loop μ-loop
-returns-3 c = after-end (c .before .before .before .args .s .now) (c .before .before .loop .i) (c .before .before .loop .left) (c .before .loop-test .left) (c .before .before .loop .inv .0) (c .if3 .left) ∙ sym (c .before .before .loop .inv .1)
+returns-3 c =
+    let s = c .before .before .before .args .s .now in
+    let l = c .before .loop in
+    after-end s (l .i) (l .left) (c .loop-test .left) (l .inv .0) (l .inv .1) ∙ sym (l .inv .2)
 
 pub after-spec : {M : Type 1} → statement M
 after-spec =
@@ -58,9 +74,11 @@ after-spec =
     (tie.spec
     Inv-loop
     μ-loop
-    loop-holds
     returns
+    loop-holds
     shared-slice-read-if2
+    add-t11
+    returns-2
     sub-left
     add-i
     loop-less
@@ -68,5 +86,4 @@ after-spec =
     add-i-2
     loop-less-2
     loop-again-2
-    returns-2
     returns-3)

@@ -1,64 +1,23 @@
--- `text::first_bad` meets its contract. The loop's invariant: the answer is that of what is left from `i` on. Assumes nothing.
-use Prim.Native.Nat.{_≤_, _-_}
-use mathlib.Core.Path.{_≡_, sym, _∙_}
-use native.Mathlib.Omega.{arith}
-use borrow.Author.Tests.{not-true, not-false}
-use lib.ListN.{length, drop}
-use Rattle.text.specs.Bytes.{firstBad}
-use Rattle.text.proofs.Laws.{shifted, shifted-zero, scan-on, scan-stops, scan-ends}
+-- `text::first_bad` meets its contract: digits by the loop of their own, every other class by the other. Assumes nothing.
+use borrow.Author.Needs.{needs}
 use Rattle.text.proofs.first_bad.Statement.{statement}
 use Rattle.text.proofs.first_bad.Tie as tie
 
-abbrev Inv-loop : tie.InvT-loop
-Inv-loop class s i₀ i = (i ≤ length s) × (firstBad class s ≡ shifted i (firstBad class (drop i s)))
+enum-told : tie.Need-enum-told
+enum-told c = search needs
 
-abbrev μ-loop : tie.MeasureT-loop
-μ-loop class s i₀ i = length s - i
+first-other-requires : tie.Need-first-other-requires
+first-other-requires c κs = search needs
 
-loop-holds : tie.Need-loop-holds Inv-loop μ-loop
-loop-holds c = (omega arith, shifted-zero (firstBad (c .before .args .class) (c .before .args .s .now)))
+returns : tie.Need-returns
+returns c = rw (c .before .enum-told .given .1) (c .first-other .ensures)
 
-shared-slice-read-permitted : tie.Need-shared-slice-read-permitted Inv-loop μ-loop
-shared-slice-read-permitted c = omega arith
+first-wrong-requires : tie.Need-first-wrong-requires
+first-wrong-requires c κs = search needs
 
-permitted-requires : tie.Need-permitted-requires Inv-loop μ-loop
-permitted-requires c κs = tt
-
-returns : tie.Need-returns Inv-loop μ-loop
-returns c =
-    let a = c .before .before .before .before .before .before .args in
-    let l = c .before .before .before .before .loop in
-    scan-stops (a .class) (a .s .now) (l .i) (omega arith) (sym (c .before .permitted .ensures) ∙ not-true _ (c .if1 .taken)) ∙ sym (l .inv .1)
-
-add-i : tie.Need-add-i Inv-loop μ-loop
-add-i c = omega arith
-
-loop-less : tie.Need-loop-less Inv-loop μ-loop
-loop-less c = omega arith
-
-loop-again : tie.Need-loop-again Inv-loop μ-loop
-loop-again c =
-    let a = c .before .before .before .before .before .before .args in
-    let l = c .before .before .before .before .loop in
-    (omega arith, l .inv .1 ∙ scan-on (a .class) (a .s .now) (l .i) (omega arith) (sym (c .before .permitted .ensures) ∙ not-false _ (c .if1 .left)))
-
-returns-2 : tie.Need-returns-2 Inv-loop μ-loop
-returns-2 c =
-    let a = c .before .before .before .args in
-    let l = c .before .loop in
-    scan-ends (a .class) (a .s .now) (l .i) (omega arith) (omega arith) ∙ sym (l .inv .1)
+returns-2 : tie.Need-returns-2
+returns-2 c = search needs
 
 pub first-bad-spec : {M : Type 1} → statement M
 first-bad-spec =
-    tie.close
-    (tie.spec
-    Inv-loop
-    μ-loop
-    loop-holds
-    shared-slice-read-permitted
-    permitted-requires
-    returns
-    add-i
-    loop-less
-    loop-again
-    returns-2)
+    tie.close (tie.spec enum-told first-other-requires returns first-wrong-requires returns-2)

@@ -63,8 +63,8 @@ is-place-byte-requires c κs = search needs
 enum-told-13 : tie.Need-enum-told-13
 enum-told-13 c = search needs
 
-is-description-byte-requires : tie.Need-is-description-byte-requires
-is-description-byte-requires c κs = search needs
+described-requires : tie.Need-described-requires
+described-requires c κs = search needs
 
 returns : tie.Need-returns
 returns c = rw (c .before .enum-told .given .1) (c .is-digit .ensures)
@@ -103,7 +103,7 @@ returns-12 : tie.Need-returns-12
 returns-12 c = rw (c .before .enum-told12 .given .1) (c .is-place-byte .ensures)
 
 returns-13 : tie.Need-returns-13
-returns-13 c = rw (c .before .enum-told13 .given .1) (c .is-description-byte .ensures)
+returns-13 c = rw (c .before .enum-told13 .given .1) (c .described .ensures)
 
 pub permitted-spec : {M : Type 1} → statement M
 permitted-spec =
@@ -129,7 +129,7 @@ permitted-spec =
     enum-told-12
     is-place-byte-requires
     enum-told-13
-    is-description-byte-requires
+    described-requires
     returns
     returns-2
     returns-3

@@ -1,21 +1,18 @@
--- `wage_contents::judge_description` meets its contract: 3, then not all blank. Assumes nothing.
-use mathlib.Core.Path.{sym, ap, _∙_}
+-- `wage_contents::judge_description` meets its contract: where every byte is permitted there is no 3, then not all blank; else 3 stands.
+-- Assumes nothing.
+use mathlib.Core.Path.{refl, sym, ap, _∙_}
 use mathlib.Core.Bool.{not}
+use Rattle.text.specs.declared.Class.the-variants.{Description}
 use Rattle.text.proofs.Laws.{taken, left}
 use Rattle.wage_contents.specs.Contents.{descriptionAnswer}
-use Rattle.wage_contents.proofs.Laws.{refused, passed}
+use Rattle.wage_contents.proofs.Laws.{passed}
+use Rattle.wage_contents.proofs.Accepted.{bytes-accepted, stands}
 use borrow.Author.Needs.{needs}
 use Rattle.wage_contents.proofs.judge_description.Statement.{statement}
 use Rattle.wage_contents.proofs.judge_description.Tie as tie
 
-judge-bytes-requires : tie.Need-judge-bytes-requires
-judge-bytes-requires c κs = search needs
-
-enum-known-r : tie.Need-enum-known-r
-enum-known-r c = search needs
-
-enum-told : tie.Need-enum-told
-enum-told c = search needs
+all-described-requires : tie.Need-all-described-requires
+all-described-requires c κs = search needs
 
 all-of-requires : tie.Need-all-of-requires
 all-of-requires c κs = search needs
@@ -26,28 +23,34 @@ form-requires c κs = search needs
 returns : tie.Need-returns
 unfolding descriptionAnswer
 returns c =
-    passed _ _ _ (c .before .before .before .before .before .judge-bytes .ensures) _ (c .before .before .before .enum-told .given .1)
-    (left _ _ _ _ (ap not (sym (c .before .before .all-of .ensures) ∙ c .before .if1 .taken)) (c .form .ensures))
+    let f = c .before .before .before .before .before .before .args .f .now in
+    passed _ _ _ refl _ (bytes-accepted Description f .1 (sym (c .before .before .before .before .all-described .ensures) ∙ c .before .before .before .if1 .taken))
+    (left _ _ _ _ (ap not (sym (c .before .before .all-of .ensures) ∙ c .before .if2 .taken)) (c .form .ensures))
 
 returns-2 : tie.Need-returns-2
 unfolding descriptionAnswer
-returns-2 c = refused _ _ _ (c .before .before .before .judge-bytes .ensures) _ (c .before .r .given .1)
+returns-2 c =
+    let f = c .before .before .before .before .before .args .f .now in
+    passed _ _ _ refl _ (bytes-accepted Description f .1 (sym (c .before .before .before .all-described .ensures) ∙ c .before .before .if1 .taken))
+    (taken _ _ _ (ap not (sym (c .before .all-of .ensures) ∙ c .if2 .left)))
+
+judge-bytes-requires : tie.Need-judge-bytes-requires
+judge-bytes-requires c κs = search needs
 
 returns-3 : tie.Need-returns-3
 unfolding descriptionAnswer
 returns-3 c =
-    passed _ _ _ (c .before .before .before .before .judge-bytes .ensures) _ (c .before .before .enum-told .given .1)
-    (taken _ _ _ (ap not (sym (c .before .all-of .ensures) ∙ c .if1 .left)))
+    let f = c .before .before .before .before .args .f .now in
+    c .judge-bytes .ensures ∙ stands _ _ _ (bytes-accepted Description f) (sym (c .before .before .all-described .ensures) ∙ c .before .if1 .left)
 
 pub judge-description-spec : {M : Type 1} → statement M
 judge-description-spec =
     tie.close
     (tie.spec
-    judge-bytes-requires
-    enum-known-r
-    enum-told
+    all-described-requires
     all-of-requires
     form-requires
     returns
     returns-2
+    judge-bytes-requires
     returns-3)

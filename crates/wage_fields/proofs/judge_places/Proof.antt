@@ -1,4 +1,5 @@
--- `wage_fields::judge_places` meets its contract. The loop's invariant: the answer is that of the places from `k` on. Assumes nothing.
+-- `wage_fields::judge_places` meets its contract: a right order at once, else by the loop. Its invariant: the answer is that of the places
+-- from `k` on. Assumes nothing.
 use Prim.Native.Nat.{_≤_, _-_}
 use mathlib.Core.Path.{_≡_, refl, sym, _∙_}
 use native.Mathlib.Omega.{arith}
@@ -15,6 +16,12 @@ Inv-places day kind t s n k₀ k = (k ≤ n) × (placesAnswer day kind t s ≡ p
 
 abbrev μ-places : tie.MeasureT-places
 μ-places day kind t s n k₀ k = n - k
+
+is-right-order-requires : tie.Need-is-right-order-requires Inv-places μ-places
+is-right-order-requires c κs = tt
+
+returns : tie.Need-returns Inv-places μ-places
+returns c = sym (c .before .is-right-order .ensures (c .if1 .taken) (c .before .before .before .args .day))
 
 count-requires : tie.Need-count-requires Inv-places μ-places
 count-requires c κs = tt
@@ -37,22 +44,22 @@ places-less c = omega arith
 
 places-again : tie.Need-places-again Inv-places μ-places
 places-again c =
-    let a = c .before .before .before .before .before .before .before .args in
+    let a = c .before .before .before .before .before .before .before .before .before .args in
     let l = c .before .before .before .before .places in
     (omega arith, l .inv .1 ∙ places-on (a .day) (a .kind) (a .t) (a .s .now) (l .k) (omega (arith, c .before .before .before .before .before .count .ensures)) (sym (c .before .before .judge-place .ensures) ∙ c .enum-told .given .1))
 
 enum-known-r : tie.Need-enum-known-r Inv-places μ-places
 enum-known-r c = search needs
 
-returns : tie.Need-returns Inv-places μ-places
-returns c =
-    let a = c .before .before .before .before .args in
+returns-2 : tie.Need-returns-2 Inv-places μ-places
+returns-2 c =
+    let a = c .before .before .before .before .before .before .args in
     let l = c .before .places in
     places-end (a .day) (a .kind) (a .t) (a .s .now) (l .k) (omega (arith, c .before .before .count .ensures)) ∙ sym (l .inv .1)
 
-returns-2 : tie.Need-returns-2 Inv-places μ-places
-returns-2 c =
-    let a = c .before .before .before .before .before .before .before .before .args in
+returns-3 : tie.Need-returns-3 Inv-places μ-places
+returns-3 c =
+    let a = c .before .before .before .before .before .before .before .before .before .before .args in
     let l = c .before .before .before .before .before .places in
     places-stop (a .day) (a .kind) (a .t) (a .s .now) (l .k) (c .before .r .given .0 .0) (omega (arith, c .before .before .before .before .before .before .count .ensures)) (sym (c .before .before .before .judge-place .ensures) ∙ c .before .r .given .1) ∙ sym (l .inv .1)
 
@@ -62,6 +69,8 @@ judge-places-spec =
     (tie.spec
     Inv-places
     μ-places
+    is-right-order-requires
+    returns
     count-requires
     places-holds
     judge-place-requires
@@ -70,5 +79,5 @@ judge-places-spec =
     places-less
     places-again
     enum-known-r
-    returns
-    returns-2)
+    returns-2
+    returns-3)

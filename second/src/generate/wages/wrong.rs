@@ -50,7 +50,9 @@ pub fn wage_input(dice: &mut Dice) -> Vec<u8> {
                 _ => dice_date(dice, 2022, 2030),
             };
             if dice.one_in(2) {
-                file.lines[0][..8].copy_from_slice(format!("{:08}", file.day).as_bytes());
+                // Eight digits have no room for the year 10,000.
+                let digits = format!("{:08}", file.day % 100_000_000);
+                file.lines[0][..8].copy_from_slice(digits.as_bytes());
             }
             file.input()
         }

@@ -1,0 +1,3 @@
+-- What the proofs of `boundary` share, and what is promised of it.
+pub mod Laws
+pub mod Theorems

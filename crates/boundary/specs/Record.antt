@@ -1,0 +1,73 @@
+-- The judge's record as plain numbers, and what a record of any numbers stands for.
+use Prim.Native.Nat.{ℕ}
+use mathlib.Core.Bool.{cond}
+use lib.Dec.{eqb}
+use Rattle.refusal.specs.Refusal.{refusalOf}
+use Rattle.refusal.specs.declared.Place.{Place}
+use Rattle.judge.specs.Judge.{beyond}
+use Rattle.judge.specs.declared.Condition.{Condition}
+use Rattle.judge.specs.declared.Condition.the-variants.{Fresh, Labelled, Grouped, Closed, Refused}
+use Rattle.judge.specs.declared.Judge.{Judge}
+use Rattle.boundary.specs.Told.{accepted, refusal}
+use Rattle.boundary.specs.declared.Told.{Told}
+use Rattle.boundary.specs.declared.Record.{Record}
+
+-- the place that an answer tells
+abbrev pub placeIn : Told → Place
+placeIn t = record { line = t .line; field = t .field; byte = t .byte }
+
+-- 0 fresh, 1 after the label, 2 inside a group, 3 closed, 4 refused, with the refusal beside it; another number is no condition that the
+-- judge knows: 17
+abbrev pub conditionOf : ℕ → Told → Condition
+conditionOf n t =
+    cond (eqb n 0) Fresh
+    (cond (eqb n 1) Labelled
+    (cond (eqb n 2) Grouped
+    (cond (eqb n 3) Closed
+    (cond (eqb n 4) (Refused (refusalOf (t .number) (placeIn t) (t .needed)))
+    (Refused beyond)))))
+
+-- the judge that a record stands for
+unfoldable pub judgeOf : Record → Judge
+judgeOf r = record {
+  condition = conditionOf (r .condition) (r .told);
+  day = r .day;
+  kind = r .kind;
+  lines = r .lines;
+  groups = r .groups;
+  orders = r .orders;
+  declared = r .declared;
+  promised = record { high = r .promised .high; low = r .promised .low };
+  counted = r .counted;
+  total = record { high = r .total .high; low = r .total .low };
+}
+
+abbrev pub conditionNumber : Condition → ℕ
+conditionNumber Fresh = 0
+conditionNumber Labelled = 1
+conditionNumber Grouped = 2
+conditionNumber Closed = 3
+conditionNumber (Refused r) = 4
+
+abbrev pub conditionTold : Condition → Told
+conditionTold Fresh = accepted
+conditionTold Labelled = accepted
+conditionTold Grouped = accepted
+conditionTold Closed = accepted
+conditionTold (Refused r) = refusal r
+
+-- the record of a judge
+unfoldable pub recordOf : Judge → Record
+recordOf j = record {
+  condition = conditionNumber (j .condition);
+  told = conditionTold (j .condition);
+  day = j .day;
+  kind = j .kind;
+  lines = j .lines;
+  groups = j .groups;
+  orders = j .orders;
+  declared = j .declared;
+  promised = record { high = j .promised .high; low = j .promised .low };
+  counted = j .counted;
+  total = record { high = j .total .high; low = j .total .low };
+}

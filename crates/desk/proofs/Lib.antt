@@ -1,0 +1,3 @@
+-- What the proofs here share, and what is promised of `desk`.
+pub mod Laws
+pub mod Theorems

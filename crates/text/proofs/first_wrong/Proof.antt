@@ -1,0 +1,64 @@
+-- `text::first_wrong` meets its contract. The loop's invariant: the answer is that of what is left from `i` on. Assumes nothing.
+use Prim.Native.Nat.{_≤_, _-_}
+use mathlib.Core.Path.{_≡_, sym, _∙_}
+use native.Mathlib.Omega.{arith}
+use borrow.Author.Tests.{not-true, not-false}
+use lib.ListN.{length, drop}
+use Rattle.text.specs.Bytes.{firstBad}
+use Rattle.text.proofs.Laws.{shifted, shifted-zero, scan-on, scan-stops, scan-ends}
+use Rattle.text.proofs.first_wrong.Statement.{statement}
+use Rattle.text.proofs.first_wrong.Tie as tie
+
+abbrev Inv-loop : tie.InvT-loop
+Inv-loop class s i₀ i = (i ≤ length s) × (firstBad class s ≡ shifted i (firstBad class (drop i s)))
+
+abbrev μ-loop : tie.MeasureT-loop
+μ-loop class s i₀ i = length s - i
+
+loop-holds : tie.Need-loop-holds Inv-loop μ-loop
+loop-holds c = (omega arith, shifted-zero (firstBad (c .before .args .class) (c .before .args .s .now)))
+
+shared-slice-read-permitted : tie.Need-shared-slice-read-permitted Inv-loop μ-loop
+shared-slice-read-permitted c = omega arith
+
+permitted-requires : tie.Need-permitted-requires Inv-loop μ-loop
+permitted-requires c κs = tt
+
+returns : tie.Need-returns Inv-loop μ-loop
+returns c =
+    let a = c .before .before .before .before .before .before .args in
+    let l = c .before .before .before .before .loop in
+    scan-stops (a .class) (a .s .now) (l .i) (omega arith) (sym (c .before .permitted .ensures) ∙ not-true _ (c .if1 .taken)) ∙ sym (l .inv .1)
+
+add-i : tie.Need-add-i Inv-loop μ-loop
+add-i c = omega arith
+
+loop-less : tie.Need-loop-less Inv-loop μ-loop
+loop-less c = omega arith
+
+loop-again : tie.Need-loop-again Inv-loop μ-loop
+loop-again c =
+    let a = c .before .before .before .before .before .before .args in
+    let l = c .before .before .before .before .loop in
+    (omega arith, l .inv .1 ∙ scan-on (a .class) (a .s .now) (l .i) (omega arith) (sym (c .before .permitted .ensures) ∙ not-false _ (c .if1 .left)))
+
+returns-2 : tie.Need-returns-2 Inv-loop μ-loop
+returns-2 c =
+    let a = c .before .before .before .args in
+    let l = c .before .loop in
+    scan-ends (a .class) (a .s .now) (l .i) (omega arith) (omega arith) ∙ sym (l .inv .1)
+
+pub first-wrong-spec : {M : Type 1} → statement M
+first-wrong-spec =
+    tie.close
+    (tie.spec
+    Inv-loop
+    μ-loop
+    loop-holds
+    shared-slice-read-permitted
+    permitted-requires
+    returns
+    add-i
+    loop-less
+    loop-again
+    returns-2)

@@ -1,0 +1,97 @@
+-- `wage_fields::is_payer_right` meets its contract: each answer is that of its place's rule, and field 2 has none. Assumes nothing.
+use mathlib.Core.Path.{refl}
+use borrow.Author.Tests.{not-false}
+use Rattle.wage_line.specs.Places.{spots, spotIn}
+use Rattle.wage_fields.specs.Rules.{orderRule, paymentRule}
+use Rattle.wage_fields.proofs.Laws.{untrue, right-place, right-none}
+use borrow.Author.Needs.{needs}
+use Rattle.wage_fields.proofs.is_payer_right.Statement.{statement}
+use Rattle.wage_fields.proofs.is_payer_right.Tie as tie
+
+returns : tie.Need-returns
+returns c = untrue
+
+order-part-requires : tie.Need-order-part-requires
+order-part-requires c κs = search needs
+
+judge-iban-requires : tie.Need-judge-iban-requires
+judge-iban-requires c κs = search needs
+
+is-accepted-requires : tie.Need-is-accepted-requires
+is-accepted-requires c κs = search needs
+
+returns-2 : tie.Need-returns-2
+returns-2 c = untrue
+
+order-part-requires-2 : tie.Need-order-part-requires-2
+order-part-requires-2 c κs = search needs
+
+judge-among-requires : tie.Need-judge-among-requires
+judge-among-requires c κs = search needs
+
+is-accepted-requires-2 : tie.Need-is-accepted-requires-2
+is-accepted-requires-2 c κs = search needs
+
+returns-3 : tie.Need-returns-3
+returns-3 c = untrue
+
+order-part-requires-3 : tie.Need-order-part-requires-3
+order-part-requires-3 c κs = search needs
+
+judge-model-requires : tie.Need-judge-model-requires
+judge-model-requires c κs = search needs
+
+is-accepted-requires-3 : tie.Need-is-accepted-requires-3
+is-accepted-requires-3 c κs = search needs
+
+returns-4 : tie.Need-returns-4
+returns-4 c = untrue
+
+order-part-requires-4 : tie.Need-order-part-requires-4
+order-part-requires-4 c κs = search needs
+
+order-part-requires-5 : tie.Need-order-part-requires-5
+order-part-requires-5 c κs = search needs
+
+judge-reference-requires : tie.Need-judge-reference-requires
+judge-reference-requires c κs = search needs
+
+is-accepted-requires-4 : tie.Need-is-accepted-requires-4
+is-accepted-requires-4 c κs = search needs
+
+returns-5 : tie.Need-returns-5
+unfolding spots spotIn orderRule paymentRule
+returns-5 c = λ e kind.
+    let model = c .before .before .before .before in
+    let country = model .before .before .before .before in
+    let iban = country .before .before .before .before in
+    let s = iban .before .before .before .before .before .before .args .s .now in
+    right-place kind s _ _ _ _ (iban .before .before .before .order-part .ensures) (iban .before .before .judge-iban .ensures) (iban .before .is-accepted .ensures (not-false _ (iban .if2 .left)))
+    (right-place kind s _ _ _ _ refl refl refl
+    (right-place kind s _ _ _ _ (country .before .before .before .order-part2 .ensures) (country .before .before .judge-among .ensures) (country .before .is-accepted2 .ensures (not-false _ (country .if3 .left)))
+    (right-place kind s _ _ _ _ (model .before .before .before .order-part3 .ensures) (model .before .before .judge-model .ensures) (model .before .is-accepted3 .ensures (not-false _ (model .if4 .left)))
+    (right-place kind s _ _ _ _ (c .before .before .order-part5 .ensures) (rw (← c .before .before .before .order-part4 .ensures) (c .before .judge-reference .ensures)) (c .is-accepted4 .ensures e)
+    (right-none kind s)))))
+
+pub is-payer-right-spec : {M : Type 1} → statement M
+is-payer-right-spec =
+    tie.close
+    (tie.spec
+    returns
+    order-part-requires
+    judge-iban-requires
+    is-accepted-requires
+    returns-2
+    order-part-requires-2
+    judge-among-requires
+    is-accepted-requires-2
+    returns-3
+    order-part-requires-3
+    judge-model-requires
+    is-accepted-requires-3
+    returns-4
+    order-part-requires-4
+    order-part-requires-5
+    judge-reference-requires
+    is-accepted-requires-4
+    returns-5)

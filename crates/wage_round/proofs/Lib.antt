@@ -1,0 +1,3 @@
+-- What the proofs here share, and what is promised of written wage files.
+pub mod Laws
+pub mod Theorems

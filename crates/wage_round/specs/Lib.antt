@@ -1,0 +1,2 @@
+-- The definitions of the crate `wage_round`.
+pub mod Round

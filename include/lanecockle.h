@@ -1,0 +1,255 @@
+/* Lanecockle for C: HUB3 payment slips, wage files of 300/301/309/399 lines, wet slips, check digits.
+ *
+ * Link with target/staticlib/libdesk.a (`rt staticlib desk` writes it). The library is proved: whatever numbers and bytes
+ * a caller lends, every call answers and ends, keeps nothing, allocates nothing and has no state of its own, so any number
+ * of threads may call it.
+ *
+ * What a caller sees to, and no proof can:
+ *   - a pointer with its length is memory that may be read (`const`) or written (`out`) for that many elements; where the
+ *     length is 0 the pointer is not followed;
+ *   - what is lent as `out` overlaps nothing else lent to the same call;
+ *   - `size_t` has 64 bits, as on the machines that the library is built for.
+ *
+ * What a call never does: write to what is lent as `const`; write to `out` at all where it refuses; write to `out` behind
+ * what it says it wrote.
+ *
+ * Text is bytes, not a C string: no call looks for a 0 at the end. */
+#ifndef LANECOCKLE_H
+#define LANECOCKLE_H
+
+#include <stddef.h>
+#include <stdint.h>
+
+#ifdef __cplusplus
+extern "C" {
+#endif
+
+/* ---------------------------------------------------------------------------------------------------------------------
+ * Answers
+ *
+ * `number` is 0 where all is right, and otherwise one refusal. Lines and fields count from 1, bytes from 0 in the slip or
+ * in the line of the wage file; 0 stands for "none". `needed` is told for 15 alone.
+ *
+ *    1  wrong size of the whole input or line
+ *    2  line ends wrong: a slip has not exactly fourteen LF with one last; a file line lacks CR LF
+ *    3  a byte that the field does not permit
+ *    4  field too long or not of its fixed length
+ *    5  field not a required word, form or code
+ *    6  IBAN or OIB check fails
+ *    7  model not handled
+ *    8  reference: wrong number or lengths of parts
+ *    9  reference: check digit fails
+ *   10  line type out of place
+ *   11  not a date, or not in the required relation to today
+ *   12  number of orders differs
+ *   13  sum differs
+ *   14  file ended before its 399 line
+ *   15  no room; the needed number is told
+ *   16  more than four unreadable digits
+ *   17  line beyond 1,000,000
+ *
+ * For 3, `byte` is the first offending byte; otherwise the field's first byte. 1, 2, 10, 12, 13, 14, 15 and 17 have field
+ * 0 and byte 0. A wrong type of line is 5 with field 0 and byte 997. */
+enum {
+    LANECOCKLE_ACCEPTED = 0,
+    LANECOCKLE_SIZE = 1,
+    LANECOCKLE_ENDS = 2,
+    LANECOCKLE_BYTE = 3,
+    LANECOCKLE_LENGTH = 4,
+    LANECOCKLE_FORM = 5,
+    LANECOCKLE_CHECK = 6,
+    LANECOCKLE_MODEL = 7,
+    LANECOCKLE_PARTS = 8,
+    LANECOCKLE_DIGIT = 9,
+    LANECOCKLE_MISPLACED = 10,
+    LANECOCKLE_DATE = 11,
+    LANECOCKLE_ORDERS = 12,
+    LANECOCKLE_SUM = 13,
+    LANECOCKLE_UNFINISHED = 14,
+    LANECOCKLE_ROOM = 15,
+    LANECOCKLE_MARKS = 16,
+    LANECOCKLE_BEYOND = 17
+};
+
+/* An answer. */
+typedef struct {
+    size_t number;
+    size_t line;
+    size_t field;
+    size_t byte;
+    size_t needed;
+} lanecockle_told;
+
+/* An answer with a value, which is 0 where the answer is a refusal. */
+typedef struct {
+    lanecockle_told told;
+    size_t value;
+} lanecockle_valued;
+
+/* What a wage file comes to; the three counts are 0 where it is refused. */
+typedef struct {
+    lanecockle_told told;
+    size_t lines;
+    size_t groups;
+    size_t orders;
+} lanecockle_ended;
+
+/* A part of the lent bytes: `length` bytes from `start`, counted from 0. No part is 0 and 0. */
+typedef struct {
+    size_t start;
+    size_t length;
+} lanecockle_part;
+
+/* ---------------------------------------------------------------------------------------------------------------------
+ * Check digits, accounts, references. None of these writes anywhere. */
+
+/* The rules of check digits. */
+enum { LANECOCKLE_INI = 0, LANECOCKLE_MOD_11_10 = 1 };
+
+/* Whether one to 22 digits end in their check digit. Refusals: 5 (no such rule), 1 (another length), 3 (not a digit), 9;
+ * none tells a place. */
+lanecockle_told lanecockle_check_digits(uint32_t rule, const uint8_t *digits, size_t length);
+
+/* The check digit of one to nineteen digits, 0 to 9, as `value`. Refusals: 5 (no such rule), 1, 3; none tells a place. */
+lanecockle_valued lanecockle_make_digit(uint32_t rule, const uint8_t *digits, size_t length);
+
+/* An IBAN: `HR` and nineteen digits. Refusals: 3 with its byte, 4, 5, 6. */
+lanecockle_told lanecockle_iban(const uint8_t *text, size_t length);
+
+/* An OIB: eleven digits. Refusals: 3 with its byte, 4, 6. */
+lanecockle_told lanecockle_oib(const uint8_t *text, size_t length);
+
+/* A reference under its model, `HR` and two digits. Refusals: 5 and 7 of the model; 3 with its byte, 4, 8, 9. */
+lanecockle_told lanecockle_reference(const uint8_t *model, size_t model_length, const uint8_t *text, size_t text_length);
+
+/* ---------------------------------------------------------------------------------------------------------------------
+ * Wet slips: `?` stands for an unreadable digit
+ *
+ * The digits filled in, read from left to right, are a number of as many digits; `out` receives the numbers of all
+ * fillings that the rules accept, each once, ascending, and `value` is how many. Nothing in `out` behind them changes. 10,000
+ * entries are always enough. Too little room is 15, with the count in `needed` and nothing written. No refusal tells a
+ * place. */
+
+/* Refusals: 1 (not 21 bytes), 3 (not `HR` and then digits or `?`), 16, 15. */
+lanecockle_valued lanecockle_list_iban(const uint8_t *text, size_t length, uint16_t *out, size_t room);
+
+/* Refusals: 1 (above 22 bytes), 3 (not digit, hyphen or `?`), 16, 5 and 7 of the model, 15. */
+lanecockle_valued lanecockle_list_reference(const uint8_t *model, size_t model_length, const uint8_t *text,
+                                            size_t text_length, uint16_t *out, size_t room);
+
+/* Writes `text` with its marks filled by the digits of `number` at the front of `out`, `length` bytes, and nothing behind
+ * them. Too little room is 15. */
+lanecockle_told lanecockle_filled(const uint8_t *text, size_t length, uint16_t number, uint8_t *out, size_t room);
+
+/* ---------------------------------------------------------------------------------------------------------------------
+ * Slips */
+
+/* A slip, the bytes of its barcode. Refusals: 1 (above 483 bytes), 2, then the first of its fourteen fields, 3 to 9, with
+ * field and byte. Writes nowhere. */
+lanecockle_told lanecockle_slip_read(const uint8_t *slip, size_t length);
+
+/* Where field 4 to 14 of an accepted slip stands; no part for another number or a refused slip. Writes nowhere. */
+lanecockle_part lanecockle_slip_field(const uint8_t *slip, size_t length, size_t number);
+
+/* The amount of an accepted slip in cents as `value`, or the slip's refusal. Writes nowhere. */
+lanecockle_valued lanecockle_slip_cents(const uint8_t *slip, size_t length);
+
+/* Writes a slip at the front of `out`; `value` is how many bytes. The fields 4 to 14 stand one behind the other in `text`;
+ * sizes[0] to sizes[10] are their bytes. A size that is not there is 0, and one that runs past the end of `text` ends with
+ * it. Refusals: those of lanecockle_slip_read for the fields 3 to 14 (10^15 cents or more are 4), the byte of a 3 counted
+ * within its field and 0 otherwise; then 15 with the needed number of bytes. 483 bytes are always enough. */
+lanecockle_valued lanecockle_slip_write(uint64_t cents, const uint8_t *text, size_t text_length, const size_t *sizes,
+                                        size_t count, uint8_t *out, size_t room);
+
+/* ---------------------------------------------------------------------------------------------------------------------
+ * Wage files judged
+ *
+ * A file is lines of 1,002 bytes, CR LF the last two. Whole in memory: lanecockle_wage_file. Line by line: begin, step for
+ * each line, end. The day of submission is a number, YYYYMMDD. */
+
+/* Exact cents: `high` times 10^18, and `low`. */
+typedef struct {
+    uint64_t high;
+    uint64_t low;
+} lanecockle_cents;
+
+/* The judge's record, plain data: keep it, copy it, store it. `condition` is 0 fresh, 1 after the label, 2 inside a group,
+ * 3 closed, 4 refused; the refusal is then `told`, and `told.number` is 0 in the others. `lines`, `groups` and `orders` are
+ * those read so far, `declared` and `promised` the orders and the sum that the group declares, `counted` and `total` what
+ * its orders came to. A record that the judge did not make gets an answer as well: 17 at line 1,000,001, at a step or the
+ * end, for a condition above 4, and in one that has not refused for a count above 1,000,000 or a sum of 10^20 or more. In
+ * condition 4 a number that is not 1 to 17 stands for 17 at the place told, and `needed` counts for 15 alone; in the others
+ * `told` is not read. */
+typedef struct {
+    size_t condition;
+    lanecockle_told told;
+    uint64_t day;
+    uint64_t kind;
+    size_t lines;
+    size_t groups;
+    size_t orders;
+    uint64_t declared;
+    lanecockle_cents promised;
+    uint64_t counted;
+    lanecockle_cents total;
+} lanecockle_record;
+
+enum {
+    LANECOCKLE_FRESH = 0,
+    LANECOCKLE_LABELLED = 1,
+    LANECOCKLE_GROUPED = 2,
+    LANECOCKLE_CLOSED = 3,
+    LANECOCKLE_REFUSED = 4
+};
+
+/* A fresh judge; refused with 11 where the day is not a date of 2023 to 9999. */
+lanecockle_record lanecockle_judge_begin(uint64_t day);
+
+/* The record after one line of whatever size. A refused record keeps its refusal. */
+lanecockle_record lanecockle_judge_step(lanecockle_record record, const uint8_t *line, size_t length);
+
+/* The record after the lines of a part of a file: pieces of 1,002 bytes, of which the last may be short (1). */
+lanecockle_record lanecockle_judge_lines(lanecockle_record record, const uint8_t *bytes, size_t length);
+
+/* What the file comes to: its counts, its first refusal, or 14 at the next line where the 399 was not read. */
+lanecockle_ended lanecockle_judge_end(lanecockle_record record);
+
+/* A whole file: begin, lanecockle_judge_lines and end in one call. */
+lanecockle_ended lanecockle_wage_file(uint64_t day, const uint8_t *bytes, size_t length);
+
+/* Where a place stands in its line of 1,002 bytes, by the field number of the layout tables: 1 to 8 of a 300, 1 to 7 of a
+ * 301, 1, 2, 5 to 12 and 18 to 23 of a 309. No part for another number, or where 1, 2 or 5 (type) refuses the line. */
+lanecockle_part lanecockle_wage_place(const uint8_t *line, size_t length, size_t field);
+
+/* ---------------------------------------------------------------------------------------------------------------------
+ * Wage lines written
+ *
+ * Each call writes one line, 1,002 bytes with its CR LF, at the front of `out`, and nothing behind it. The fields stand one
+ * behind the other in `text`, each the bytes of its positions; `sizes` are their bytes, `count` how many sizes there are. A
+ * size that is not there is 0, and one that runs past the end of `text` ends with it; sizes beyond the last field are not
+ * read. Refusals, in this order, line 0 unless told: 11 for the day; 5 with field 0 for a kind that is not 4 or 5; those of
+ * a 301's orders; the judge's for the fields, 4 (another length) first in each; 15 with 1,002 where the room is less. */
+
+/* A 300: eight fields, 1 to 8. */
+lanecockle_told lanecockle_write_label(uint64_t day, const uint8_t *text, size_t text_length, const size_t *sizes,
+                                       size_t count, uint8_t *out, size_t room);
+
+/* A 309: sixteen fields, 1, 2, 5 to 12 and 18 to 23. */
+lanecockle_told lanecockle_write_order(uint64_t day, uint64_t kind, const uint8_t *text, size_t text_length,
+                                       const size_t *sizes, size_t count, uint8_t *out, size_t room);
+
+/* A 301: five fields, 1 to 4 and 7; 5 and 6, the number of orders and their sum, are worked out from `orders`, the group's
+ * 309 lines one behind the other. Refusals of these: 1 if they are not whole lines, 10 if there are none, 12 above 99,999,
+ * then the first refusal in them, 10 for another type, with its line in the group. */
+lanecockle_told lanecockle_write_group(uint64_t day, uint64_t kind, const uint8_t *text, size_t text_length,
+                                       const size_t *sizes, size_t count, const uint8_t *orders, size_t orders_length,
+                                       uint8_t *out, size_t room);
+
+/* A 399, which has no fields. */
+lanecockle_told lanecockle_write_closing(uint64_t day, uint8_t *out, size_t room);
+
+#ifdef __cplusplus
+}
+#endif
+
+#endif

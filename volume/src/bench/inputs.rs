@@ -1,0 +1,57 @@
+//! Valid inputs, some thousand different ones of each sort.
+
+use second::generate::{reference, right_account, right_slip, wet, Dice};
+use second::reference::{Model, MODELS};
+
+pub const COUNT: usize = 4096;
+
+pub fn made<I>(seed: u64, mut make: impl FnMut(&mut Dice) -> I) -> Vec<I> {
+    let mut dice = Dice::new(seed);
+    (0..COUNT).map(|_| make(&mut dice)).collect()
+}
+
+pub fn model_text(model: &Model) -> Vec<u8> {
+    format!("HR{:02}", model.number).into_bytes()
+}
+
+pub fn wet_iban(dice: &mut Dice, marks: usize) -> Vec<u8> {
+    let mut text = right_account(dice);
+    wet(dice, &mut text, marks);
+    text
+}
+
+/// A model and a reference with so many marks.
+pub fn wet_reference(dice: &mut Dice, marks: usize) -> (Vec<u8>, Vec<u8>) {
+    loop {
+        let model = dice.pick(&MODELS);
+        let mut text = reference(dice, model);
+        wet(dice, &mut text, marks);
+        if text.iter().filter(|&&b| b == b'?').count() == marks {
+            return (model_text(model), text);
+        }
+    }
+}
+
+pub fn slip(dice: &mut Dice) -> Vec<u8> {
+    let mut slip = right_slip(dice).join(&b'\n');
+    slip.push(b'\n');
+    slip
+}
+
+/// What a writer of slips is given.
+pub struct Given {
+    pub cents: u64,
+    pub text: Vec<u8>,
+    pub sizes: Vec<usize>,
+    pub fields: Vec<Vec<u8>>,
+}
+
+pub fn given(dice: &mut Dice) -> Given {
+    let fields = right_slip(dice).split_off(3);
+    Given {
+        cents: dice.roll() % 1_000_000_000_000_000,
+        text: fields.concat(),
+        sizes: fields.iter().map(Vec::len).collect(),
+        fields,
+    }
+}
