@@ -1,7 +1,7 @@
 -- From how the code goes through a reference (specs/Readers.antt, specs/Groups.antt) to its parts and check groups (specs/Parts.antt).
 -- Assumes nothing.
 use mathlib.Core.Path.{_≡_, refl, sym, ap, _∙_}
-use mathlib.Core.Bool.{Bool, true, false, cond, _&&_, and-true, and-false, and-assoc, false≢true}
+use mathlib.Core.Bool.{Bool, true, false, cond, not, _&&_, and-true, and-false, and-assoc, false≢true}
 use mathlib.Core.List.{List, [], _∷_, _++_}
 use mathlib.Core.Logic.{_⊎_, inl, inr, ⊎-elim}
 use Prim.Native.Nat.{ℕ, zero, suc, _+_, _-_, _≤_, _<_}
@@ -17,7 +17,7 @@ use Rattle.text.specs.Digits.{digitsOf}
 use Rattle.text.specs.declared.Class.the-variants.{Digits, Reference}
 use Rattle.text.specs.declared.Found.{Found}
 use Rattle.text.specs.declared.Found.the-variants.{At, Nothing}
-use Rattle.text.proofs.Laws.{to-the-end, taken, left, entered, both-true, shifted, shifted-later}
+use Rattle.text.proofs.Laws.{to-the-end, taken, left, entered, both-true, digit-bounds, shifted, shifted-later}
 use Rattle.check_digits.specs.declared.Rule.{Rule}
 use Rattle.check_digits.specs.CheckDigit.{checkDigit, passes}
 use Rattle.check_digits.proofs.Theorems.{passes-snoc}
@@ -28,9 +28,9 @@ use Rattle.refusal.specs.declared.Answer.the-variants.{Accepted, Refused}
 use Rattle.refusal.specs.declared.Refusal.the-variants.{Parts as WrongParts, Digit}
 use Rattle.text.specs.Split.{longer, split}
 use Rattle.reference.specs.Parts.{partsOf, partsFit, formed, joined, present, groupRight, groupsRight}
-use Rattle.reference.specs.Readers.{fitsNext, begun, digitRead, partRead}
-use Rattle.reference.specs.Answers.{groupsAnswer, obeyAnswer, textAnswer}
-use Rattle.reference.specs.Groups.{afterHyphens, stretchHolds, before, headHolds, heldFrom, groupHolds, groupsHold}
+use Rattle.reference.specs.Readers.{fitsNext, begun, digitRead, partRead, partsFound}
+use Rattle.reference.specs.Answers.{groupsAnswer, obeyAnswer, unformedAnswer, textAnswer}
+use Rattle.reference.specs.Groups.{afterHyphens, hyphensIn, stretchHolds, before, headHolds, heldFrom, groupHolds, groupsHold}
 
 -- ---------------------------------------------------------------------------
 -- The readers' turns
@@ -61,9 +61,9 @@ module _ (lengths : List ℕ) (n count : ℕ) (s : List ℕ) where
     unfolding digitRead
     hyphen-breaks g e = rw (drop-cons s n 0 h) (entered _ _ _ _ (eq-eqb (getD s n 0) 45 g) (left _ _ _ _ e refl))
 
-    pub digit-reads : (getD s n 0 ≡ 45 → ⊥) → isDigit (getD s n 0) ≡ true → digitRead lengths n count (drop n s) ≡ digitRead lengths (n + 1) count (drop (n + 1) s)
+    pub digit-reads : isDigit (getD s n 0) ≡ true → digitRead lengths n count (drop n s) ≡ digitRead lengths (n + 1) count (drop (n + 1) s)
     unfolding digitRead
-    digit-reads g e = rw (drop-cons s n 0 h, ne-eqb (getD s n 0) 45 g, e, add-one n)
+    digit-reads e = let d = digit-bounds (getD s n 0) e in rw (drop-cons s n 0 h, ne-eqb (getD s n 0) 45 (λ (z : getD s n 0 ≡ 45). omega arith), e, add-one n)
 
     pub other-breaks : (getD s n 0 ≡ 45 → ⊥) → isDigit (getD s n 0) ≡ false → 0 ≡ digitRead lengths n count (drop n s)
     unfolding digitRead
@@ -143,10 +143,6 @@ read-parts lengths n count (b ∷ s) = go (eqb b 45) (first-part s) (read-parts 
 read-part : (lengths : List ℕ) (s : List ℕ) → partRead lengths 0 s ≡ cond (partsFit lengths (split 45 s)) ((length (split 45 s))) 0
 read-part lengths s = let w = first-part s in rw (read-parts lengths 0 0 s, w .2, zero-add) (part-begins lengths (w .0) (w .1) ((suc (length (w .1)))))
 
--- what is read says whether a text is formed
-abbrev pub readFormed : Model → ℕ → Bool
-readFormed model n = cond (eqb n 0) false (leb (model .fewest) n && leb n (model .most))
-
 -- no byte is no part
 pub formed-none : (model : Model) (s : List ℕ) → length s ≡ 0 → eqb (model .fewest) 0 ≡ formed model s
 unfolding formed partsOf partsFit
@@ -157,18 +153,42 @@ formed-none model [] h = rw (and-true, le-leb 0 (model .most) (omega arith), and
     go (suc n) = eqb·suc-zero n ∙ sym (leb·suc-zero n)
 formed-none model (b ∷ s) h = absurd (omega arith)
 
--- and what is read of a text says the same as its parts
-pub formed-read : (model : Model) (s : List ℕ) → (length s ≡ 0 → ⊥) → readFormed model (partRead (model .lengths) 0 s) ≡ formed model s
-unfolding formed partsOf
-formed-read model [] h = absurd (h refl)
-formed-read model (b ∷ s) h = rw (read-part (model .lengths) (b ∷ s)) (go (partsFit (model .lengths) (split 45 (b ∷ s))))
-  where
-    some : eqb (length (split 45 (b ∷ s))) 0 ≡ false
-    some = rw (first-part (b ∷ s) .2) (eqb·suc-zero (length (first-part (b ∷ s) .1)))
+-- a choice between what is the same
+either : (t : Bool) (n : ℕ) → cond t n n ≡ n
+either true n = refl
+either false n = refl
 
-    go : (t : Bool) → readFormed model (cond t ((length (split 45 (b ∷ s)))) 0) ≡ (leb (model .fewest) (length (split 45 (b ∷ s))) && (leb (length (split 45 (b ∷ s))) (model .most) && t))
-    go true = rw (some, and-true)
-    go false = rw (and-false, and-false)
+pub found-none : (model : Model) (s : List ℕ) → length s ≡ 0 → 0 ≡ partsFound model s
+unfolding partsOf
+found-none model [] h = sym (either (formed model []) 0)
+found-none model (b ∷ s) h = absurd (omega arith)
+
+-- what is read of a text, where it is as many as the model asks, is the number of its parts
+pub found-read : (model : Model) (s : List ℕ) → (length s ≡ 0 → ⊥) → (n : ℕ) → n ≡ partRead (model .lengths) 0 s → cond (leb (model .fewest) n && leb n (model .most)) n 0 ≡ partsFound model s
+unfolding formed partsOf
+found-read model [] h n e = absurd (h refl)
+found-read model (b ∷ s) h n e = rw (e, read-part (model .lengths) (b ∷ s)) (go (partsFit (model .lengths) (split 45 (b ∷ s))) (length (split 45 (b ∷ s))))
+  where
+    go : (t : Bool) (k : ℕ) → cond (leb (model .fewest) (cond t k 0) && leb (cond t k 0) (model .most)) (cond t k 0) 0 ≡ cond (leb (model .fewest) k && (leb k (model .most) && t)) k 0
+    go true k = rw and-true
+    go false k = rw (and-false, and-false) (either (leb (model .fewest) 0 && leb 0 (model .most)) 0)
+
+-- a text of some bytes is formed where parts are found
+module _ (model : Model) (s : List ℕ) (h : length s ≡ 0 → ⊥) (n : ℕ) (e : n ≡ partsFound model s) where
+  pub formed-found : not (eqb n 0) ≡ formed model s
+  unfolding partsOf
+  formed-found = rw e (go s h (formed model s))
+    where
+      go : (r : List ℕ) → (length r ≡ 0 → ⊥) → (t : Bool) → not (eqb (cond t (length (partsOf r)) 0) 0) ≡ t
+      go [] f t = absurd (f refl)
+      go (b ∷ r) f true = rw (first-part (b ∷ r) .2, eqb·suc-zero (length (first-part (b ∷ r) .1)))
+      go (b ∷ r) f false = refl
+
+  pub some-formed : (n ≡ 0 → ⊥) → formed model s ≡ true
+  some-formed g = sym formed-found ∙ ap not (ne-eqb n 0 g)
+
+  pub none-unformed : n ≡ 0 → formed model s ≡ false
+  none-unformed g = sym formed-found ∙ ap not (eq-eqb n 0 g)
 
 -- ---------------------------------------------------------------------------
 -- The place after hyphens, from place i on
@@ -231,6 +251,106 @@ found-within k s a e = rw (← e) at (after-within k s)
 -- before a place that no hyphen stands before there is nothing to check
 pub none-holds : (rule : Rule) (s : List ℕ) (e : ℕ) → e ≡ 0 → true ≡ stretchHolds rule (before s (At e))
 none-holds rule s e h = rw h
+
+-- ---------------------------------------------------------------------------
+-- Hyphens counted
+
+-- from place i on
+module _ (s : List ℕ) (i n : ℕ) (h : i < length s) where
+  pub hyphens-more : getD s i 0 ≡ 45 → n + hyphensIn (drop i s) ≡ n + 1 + hyphensIn (drop (i + 1) s)
+  unfolding hyphensIn
+  hyphens-more e = rw (drop-cons s i 0 h, add-one i, e) (omega arith)
+
+  pub hyphens-same : (getD s i 0 ≡ 45 → ⊥) → n + hyphensIn (drop i s) ≡ n + hyphensIn (drop (i + 1) s)
+  unfolding hyphensIn
+  hyphens-same e = rw (drop-cons s i 0 h, add-one i, ne-eqb (getD s i 0) 45 e)
+
+pub hyphens-end : (s : List ℕ) (i n : ℕ) → length s ≤ i → n ≡ n + hyphensIn (drop i s)
+unfolding hyphensIn
+hyphens-end s i n h = rw (drop-of-length-le s h) (sym (add-zero n))
+
+-- a text has a part more than hyphens
+pieces-hyphens : (s : List ℕ) → length (split 45 s) ≡ suc (hyphensIn s)
+unfolding split hyphensIn
+pieces-hyphens [] = refl
+pieces-hyphens (b ∷ s) = go (eqb b 45) (first-part s) (pieces-hyphens s)
+  where
+    go : (h : Bool) → (p : List ℕ) × (ps : List (List ℕ)) × (split 45 s ≡ p ∷ ps) → length (split 45 s) ≡ suc (hyphensIn s) → length (cond h ([] ∷ split 45 s) (longer b (split 45 s))) ≡ suc (cond h (suc (hyphensIn s)) (hyphensIn s))
+    go true w e = ap suc e
+    go false w e = ap (λ (ps : List (List ℕ)). length (longer b ps)) (w .2) ∙ sym (ap length (w .2)) ∙ e
+
+-- so a formed text has a hyphen less than the parts that are found
+pub found-hyphens : (model : Model) (s : List ℕ) → (length s ≡ 0 → ⊥) → (n : ℕ) → n ≡ partsFound model s → (n ≡ 0 → ⊥) → n - 1 ≡ hyphensIn s
+unfolding partsOf
+found-hyphens model [] h n e g = absurd (h refl)
+found-hyphens model (b ∷ s) h n e g = go (formed model (b ∷ s)) e
+  where
+    go : (t : Bool) → n ≡ cond t (length (split 45 (b ∷ s))) 0 → n - 1 ≡ hyphensIn (b ∷ s)
+    go true f = let w = pieces-hyphens (b ∷ s) in omega arith
+    go false f = absurd (g f)
+
+-- of n hyphens k stand before a place, or there are fewer than k
+abbrev Counted : ℕ → ℕ → List ℕ → Found → Type 0
+Counted n k s (At a) = n ≡ k + hyphensIn (drop a s)
+Counted n k s Nothing = n < k
+
+-- a byte more before a place
+counted-later : (n k b : ℕ) (s : List ℕ) (f : Found) → Counted n k s f → Counted n k (b ∷ s) (later f)
+counted-later n k b s (At a) h = h
+counted-later n k b s Nothing h = h
+
+-- a hyphen more before it
+counted-hyphen : (n k : ℕ) (s : List ℕ) (f : Found) → Counted n k s f → Counted (suc n) (suc k) s f
+counted-hyphen n k s (At a) h = omega arith
+counted-hyphen n k s Nothing h = omega arith
+
+after-counted : (k : ℕ) (s : List ℕ) → Counted (hyphensIn s) k s (afterHyphens k s)
+unfolding afterHyphens hyphensIn
+after-counted zero s = sym (zero-add (hyphensIn s))
+after-counted (suc k) [] = omega arith
+after-counted (suc k) (b ∷ s) = go (eqb b 45) (after-counted k s) (after-counted (suc k) s)
+  where
+    go : (h : Bool) → Counted (hyphensIn s) k s (afterHyphens k s) → Counted (hyphensIn s) (suc k) s (afterHyphens (suc k) s) →
+        Counted (cond h (suc (hyphensIn s)) (hyphensIn s)) (suc k) (b ∷ s) (later (cond h (afterHyphens k s) (afterHyphens (suc k) s)))
+    go true f g = counted-later (suc (hyphensIn s)) (suc k) b s (afterHyphens k s) (counted-hyphen (hyphensIn s) k s (afterHyphens k s) f)
+    go false f g = counted-later (hyphensIn s) (suc k) b s (afterHyphens (suc k) s) g
+
+-- after k hyphens there are k fewer
+after-left : (k : ℕ) (s : List ℕ) (a : ℕ) → At a ≡ afterHyphens k s → hyphensIn s ≡ k + hyphensIn (drop a s)
+after-left k s a e = rw (← e) at (after-counted k s)
+
+-- no place stands after more hyphens than there are
+after-few : (k : ℕ) (s : List ℕ) → hyphensIn s < k → Nothing ≡ afterHyphens k s
+after-few k s h = go (afterHyphens k s) (after-counted k s)
+  where
+    go : (f : Found) → Counted (hyphensIn s) k s f → Nothing ≡ f
+    go (At a) e = absurd (omega arith)
+    go Nothing e = refl
+
+-- a group after more hyphens than there are is not checked
+pub group-absent : (g : Group) (s : List ℕ) → hyphensIn s < g .skipped → true ≡ groupHolds g s
+group-absent g s h = ap (heldFrom g s) (after-few (g .skipped) s h)
+
+-- nor is one that joins no part
+pub group-empty : (g : Group) (s : List ℕ) → g .joins ≡ 0 → true ≡ groupHolds g s
+unfolding afterHyphens
+group-empty g s h = go (afterHyphens (g .skipped) s)
+  where
+    go : (f : Found) → true ≡ heldFrom g s f
+    go (At a) = rw h
+    go Nothing = refl
+
+-- a group from place a on
+module _ (g : Group) (s : List ℕ) (a : ℕ) (r : Bool) (e : At a ≡ afterHyphens (g .skipped) s) where
+  -- is the head of what stands there
+  pub group-found : r ≡ headHolds (g .rule) (g .joins) (take (length s - a) (drop a s)) → r ≡ groupHolds g s
+  group-found h = h ∙ ap (headHolds (g .rule) (g .joins)) (to-the-end a s) ∙ ap (heldFrom g s) e
+
+  -- and the whole of it, where it has fewer hyphens than the group joins parts
+  pub group-last : hyphensIn s - g .skipped < g .joins → r ≡ stretchHolds (g .rule) (take (length s - a) (drop a s)) → r ≡ groupHolds g s
+  group-last f h =
+      let few : hyphensIn (drop a s) < g .joins = omega (arith, after-left (g .skipped) s a e) in
+      h ∙ ap (stretchHolds (g .rule)) (to-the-end a s) ∙ ap (λ (p : Found). stretchHolds (g .rule) (before (drop a s) p)) (after-few (g .joins) (drop a s) few) ∙ ap (heldFrom g s) e
 
 -- ---------------------------------------------------------------------------
 -- The groups, from group i on
@@ -513,11 +633,24 @@ formed-bytes model (b ∷ s) e = digital-bytes (b ∷ s) (fit-digital (model .le
 -- ---------------------------------------------------------------------------
 -- Answers, by whether the text is formed
 
+-- no part, no group that fails
+groups-of-none : (gs : List Group) → groupsRight gs [] ≡ true
+unfolding groupsRight groupRight
+groups-of-none [] = refl
+groups-of-none (g ∷ gs) = rw (drop-nil (g .skipped), take-nil (g .joins)) (groups-of-none gs)
+
+-- an empty text: 8, or accepted
+pub empty-text : (model : Model) (s : List ℕ) → length s ≡ 0 → cond (eqb (model .fewest) 0) Accepted (Refused (WrongParts none)) ≡ textAnswer model s (firstBad Reference s)
+unfolding obeyAnswer firstBad partsOf
+empty-text model [] h = rw (formed-none model [] refl, groups-of-none (model .groups))
+empty-text model (b ∷ s) h = absurd (omega arith)
+
 module _ (model : Model) (s : List ℕ) where
-  -- not formed: 8
-  pub misformed-answer : formed model s ≡ false → Refused (WrongParts none) ≡ obeyAnswer model s
+  -- not formed: 3, 4, then 8
+  pub unformed-text : formed model s ≡ false → (f : Found) → unformedAnswer s f ≡ textAnswer model s f
   unfolding obeyAnswer
-  misformed-answer e = left _ _ _ _ e refl
+  unformed-text e (At i) = refl
+  unformed-text e Nothing = rw e
 
   module _ (e : formed model s ≡ true) where
     -- formed: what its groups say

@@ -16,7 +16,7 @@ use Rattle.check_digits.specs.CheckDigit.{passes}
 use Rattle.models.specs.declared.Group.{Group}
 use Rattle.models.specs.declared.Model.{Model}
 use Rattle.reference.specs.Parts.{partsOf, formed, joined, present, groupRight, groupsRight}
-use Rattle.reference.specs.Groups.{groupHolds, groupsHold}
+use Rattle.reference.specs.Groups.{groupsHold}
 use Rattle.reference.specs.Answers.{obeyAnswer, obeys, referenceAnswer}
 
 -- ---------------------------------------------------------------------------
@@ -69,14 +69,8 @@ every-groups-right (g ∷ gs) ps h =
 pub reference-only : (m s : List ℕ) → Only (λ (r : Answer). r ≡ referenceAnswer m s)
 reference-only m s = defined-only (referenceAnswer m s)
 
-pub obeys-only : (model : Model) (s : List ℕ) → Only (λ (r : Answer). r ≡ obeyAnswer model s)
-obeys-only model s = defined-only (obeyAnswer model s)
-
 pub is-formed-only : (model : Model) (s : List ℕ) → Only (λ (r : Bool). r ≡ formed model s)
 is-formed-only model s = defined-only (formed model s)
 
 pub groups-hold-only : (gs : List Group) (s : List ℕ) → Only (λ (r : Bool). r ≡ groupsHold gs s)
 groups-hold-only gs s = defined-only (groupsHold gs s)
-
-pub group-holds-only : (g : Group) (s : List ℕ) → Only (λ (r : Bool). r ≡ groupHolds g s)
-group-holds-only g s = defined-only (groupHolds g s)

@@ -39,6 +39,11 @@ abbrev pub textAnswer : declared.Model → List ℕ → Found → Answer
 textAnswer model s (At i) = byteAt i
 textAnswer model s Nothing = cond (leb (length s) 22) (obeyAnswer model s) (Refused (Length none))
 
+-- what an unformed text is refused for: 3 with its byte, then 4, then 8
+abbrev pub unformedAnswer : List ℕ → Found → Answer
+unformedAnswer s (At i) = byteAt i
+unformedAnswer s Nothing = cond (leb (length s) 22) (Refused (Parts none)) (Refused (Length none))
+
 -- 7, then the text
 abbrev pub modelAnswer : List ℕ → declared.Model → Answer
 modelAnswer s model = cond (model .handled) (textAnswer model s (firstBad Reference s)) (Refused (Model none))

@@ -18,6 +18,11 @@ afterHyphens zero s = At 0
 afterHyphens (suc k) [] = Nothing
 afterHyphens (suc k) (b ∷ s) = later (cond (eqb b 45) (afterHyphens k s) (afterHyphens (suc k) s))
 
+-- how many hyphens a text has
+unfoldable pub hyphensIn : List ℕ → ℕ
+hyphensIn [] = 0
+hyphensIn (b ∷ s) = cond (eqb b 45) (suc (hyphensIn s)) (hyphensIn s)
+
 -- a stretch of text ends in its check digit; no byte is no part, and is not checked
 abbrev pub stretchHolds : Rule → List ℕ → Bool
 stretchHolds rule s = cond (eqb (length s) 0) true (passes rule s)

@@ -6,6 +6,8 @@ use mathlib.Core.List.{List, [], _∷_}
 use lib.Dec.{eqb, leb, ltb}
 use lib.ListN.{length, drop, getD}
 use Rattle.text.specs.Bytes.{isDigit}
+use Rattle.models.specs.declared.Model.{Model}
+use Rattle.reference.specs.Parts.{partsOf, formed}
 
 -- a part of n digits, not empty, fits the next lengths, least and most
 abbrev pub fitsNext : List ℕ → ℕ → Bool
@@ -26,3 +28,7 @@ digitRead lengths n count (b ∷ s) =
 
 abbrev pub partRead : List ℕ → ℕ → List ℕ → ℕ
 partRead lengths count s = begun lengths (digitRead lengths 0 count s)
+
+-- how many parts a formed text has; 0 where it is not formed
+abbrev pub partsFound : Model → List ℕ → ℕ
+partsFound model s = cond (formed model s) (length (partsOf s)) 0

@@ -8,9 +8,9 @@ ghost use Prim.Native.Nat.{_<_, _+_, _^_};
 ghost use lib.Dec.{leb};
 ghost use lib.ListN.{length};
 ghost use Rattle.reference.specs.Parts.{formed};
-ghost use Rattle.reference.specs.Groups.{afterHyphens, stretchHolds, headHolds, groupHolds, groupsHold};
-ghost use Rattle.reference.specs.Readers.{fitsNext, partRead, digitRead};
-ghost use Rattle.reference.specs.Answers.{groupsAnswer, obeyAnswer, textAnswer, referenceAnswer};
+ghost use Rattle.reference.specs.Groups.{afterHyphens, hyphensIn, stretchHolds, headHolds, groupHolds, groupsHold};
+ghost use Rattle.reference.specs.Readers.{fitsNext, partRead, digitRead, partsFound};
+ghost use Rattle.reference.specs.Answers.{groupsAnswer, unformedAnswer, textAnswer, referenceAnswer};
 ghost use Rattle.text.specs.Bytes.{firstBad};
 use check_digits::Rule;
 use models::Group;
@@ -67,15 +67,15 @@ fn digit(s: &[u8], lengths: &[u8], count: usize) -> usize
     let mut n = 0;
     while n < s.len() {
         let b = s[n];
-        if b == 45 {
-            if fits(lengths, n) {
-                return part(&s[n + 1..], &lengths[2..], count + 1);
-            }
-            return 0;
-        }
         if text::is_digit(b) {
             n += 1;
         } else {
+            if b != 45 {
+                return 0;
+            }
+            if fits(lengths, n) {
+                return part(&s[n + 1..], &lengths[2..], count + 1);
+            }
             return 0;
         }
     }
@@ -85,21 +85,32 @@ fn digit(s: &[u8], lengths: &[u8], count: usize) -> usize
     0
 }
 
+// How many parts a text has, where they are those that the model asks, each of its length; else 0.
+fn parts(model: Model, s: &[u8]) -> usize
+    ensures { λ r. ⌜ r ≡ partsFound model (now (s .entry)) ⌝ }
+{
+    let fewest = model.fewest;
+    let most = model.most;
+    if s.len() == 0 {
+        return 0;
+    }
+    let lengths = model.lengths;
+    let found = part(s, &lengths, 0);
+    if within(found, wide(fewest), wide(most)) {
+        return found;
+    }
+    0
+}
+
 // Whether a text has the parts that the model asks, each of its length.
 pub fn is_formed(model: Model, s: &[u8]) -> bool
     ensures { λ r. ⌜ r ≡ formed model (now (s .entry)) ⌝ }
 {
     let fewest = model.fewest;
-    let most = model.most;
     if s.len() == 0 {
         return fewest == 0;
     }
-    let lengths = model.lengths;
-    let found = part(s, &lengths, 0);
-    if found == 0 {
-        return false;
-    }
-    within(found, wide(fewest), wide(most))
+    parts(model, s) != 0
 }
 
 // Whether n lies between two numbers.
@@ -164,27 +175,41 @@ fn head_holds(rule: Rule, joins: usize, s: &[u8]) -> bool
     }
 }
 
-// Whether a group ends in its check digit; with no part present it is not checked.
-pub fn group_holds(g: Group, s: &[u8]) -> bool
+// Whether a group ends in its check digit; with no part present it is not checked. The number of hyphens tells where it has no
+// part, and where it goes on to the end of the text: neither is looked for.
+fn group_holds(g: Group, hyphens: usize, s: &[u8]) -> bool
+    requires { ⌜ hyphens ≡ hyphensIn (now s) ⌝ }
     ensures { λ r. ⌜ r ≡ groupHolds g (now (s .entry)) ⌝ }
 {
     let skipped = wide(g.skipped);
     let joins = wide(g.joins);
     let rule = g.rule;
+    if joins == 0 {
+        return true;
+    }
+    if hyphens < skipped {
+        return true;
+    }
     match after(s, skipped) {
-        Found::At(a) => head_holds(rule, joins, &s[a..]),
+        Found::At(a) => {
+            if hyphens - skipped < joins {
+                return stretch_holds(rule, &s[a..]);
+            }
+            head_holds(rule, joins, &s[a..])
+        }
         Found::Nothing => true,
     }
 }
 
-// Whether each of a model's groups does.
-pub fn groups_hold(groups: [Group; 4], s: &[u8]) -> bool
+// Whether each of a model's groups does, in a text of so many hyphens.
+fn all_hold(groups: [Group; 4], hyphens: usize, s: &[u8]) -> bool
+    requires { ⌜ hyphens ≡ hyphensIn (now s) ⌝ }
     ensures { λ r. ⌜ r ≡ groupsHold groups (now (s .entry)) ⌝ }
 {
     let mut i: usize = 0;
     while i < 4 {
         let g = groups[i];
-        if !group_holds(g, s) {
+        if !group_holds(g, hyphens, s) {
             return false;
         }
         i += 1;
@@ -192,42 +217,48 @@ pub fn groups_hold(groups: [Group; 4], s: &[u8]) -> bool
     true
 }
 
+// How many hyphens a text has.
+fn hyphens(s: &[u8]) -> usize
+    ensures { λ r. ⌜ r ≡ hyphensIn (now (s .entry)) ⌝ }
+{
+    let mut n = 0;
+    let mut i = 0;
+    while i < s.len() {
+        if s[i] == 45 {
+            n += 1;
+            i += 1;
+        } else {
+            i += 1;
+        }
+    }
+    n
+}
+
+// Whether each of a model's groups ends in its check digit.
+pub fn groups_hold(groups: [Group; 4], s: &[u8]) -> bool
+    ensures { λ r. ⌜ r ≡ groupsHold groups (now (s .entry)) ⌝ }
+{
+    all_hold(groups, hyphens(s), s)
+}
+
 // ---------------------------------------------------------------------------
 // Answers
 
-// 9 where a check group fails.
-fn checked(groups: [Group; 4], s: &[u8]) -> Answer
+// 9 where a check group fails, in a text of so many hyphens.
+fn checked(groups: [Group; 4], hyphens: usize, s: &[u8]) -> Answer
+    requires { ⌜ hyphens ≡ hyphensIn (now s) ⌝ }
     ensures { λ r. ⌜ r ≡ groupsAnswer groups (now (s .entry)) ⌝ }
 {
-    if groups_hold(groups, s) {
+    if all_hold(groups, hyphens, s) {
         return Answer::Accepted;
     }
     Answer::Refused(Refusal::Digit(refusal::nowhere()))
 }
 
-// 8 where the parts are not the model's, then 9 where a check group fails.
-pub fn obeys(model: Model, s: &[u8]) -> Answer
-    ensures { λ r. ⌜ r ≡ obeyAnswer model (now (s .entry)) ⌝ }
+// What an unformed text is refused for: 3 with its byte, then 4, 8.
+fn unformed(s: &[u8]) -> Answer
+    ensures { λ r. ⌜ r ≡ unformedAnswer (now (s .entry)) (firstBad Class.Reference (now (s .entry))) ⌝ }
 {
-    if !is_formed(model, s) {
-        return Answer::Refused(Refusal::Parts(refusal::nowhere()));
-    }
-    let groups = model.groups;
-    checked(groups, s)
-}
-
-// A reference's text under a handled model: 3 with its byte, then 4, 8, 9. What is formed has no byte for 3, so that
-// only what is not is looked through for one.
-fn judged_text(model: Model, s: &[u8]) -> Answer
-    ensures { λ r. ⌜ r ≡ textAnswer model (now (s .entry)) (firstBad Class.Reference (now (s .entry))) ⌝ }
-{
-    if is_formed(model, s) {
-        if 22 < s.len() {
-            return Answer::Refused(Refusal::Length(refusal::nowhere()));
-        }
-        let groups = model.groups;
-        return checked(groups, s);
-    }
     match text::first_bad(Class::Reference, s) {
         Found::At(i) => Answer::Refused(Refusal::Byte(Place {
             line: 0,
@@ -241,6 +272,29 @@ fn judged_text(model: Model, s: &[u8]) -> Answer
             Answer::Refused(Refusal::Parts(refusal::nowhere()))
         }
     }
+}
+
+// A reference's text under a handled model: 3 with its byte, then 4, 8, 9. What is formed has no byte for 3, so that
+// only what is not is looked through for one; an empty text has no group to check.
+fn judged_text(model: Model, s: &[u8]) -> Answer
+    ensures { λ r. ⌜ r ≡ textAnswer model (now (s .entry)) (firstBad Class.Reference (now (s .entry))) ⌝ }
+{
+    let fewest = model.fewest;
+    if s.len() == 0 {
+        if fewest == 0 {
+            return Answer::Accepted;
+        }
+        return Answer::Refused(Refusal::Parts(refusal::nowhere()));
+    }
+    let found = parts(model, s);
+    if found == 0 {
+        return unformed(s);
+    }
+    if 22 < s.len() {
+        return Answer::Refused(Refusal::Length(refusal::nowhere()));
+    }
+    let groups = model.groups;
+    checked(groups, found - 1, s)
 }
 
 // A reference by its model's text: 5 and 7 of the model, then 3 with its byte, 4, 8 and 9 of the reference.

@@ -50,12 +50,12 @@ digit-μ-loop s lengths count n₀ n = length s - n
 
 pub +digit+part-spec : {M : Type 1} → statement M
 +digit+part-spec = close μ-digit μ-part (λ t. digit-lts.spec (
+  is-digit-reads.Asked,
+  is-digit-reads.Learnt,
   fits-reads.Asked,
   fits-reads.Learnt,
   part-below t,
   part.Post,
-  is-digit-reads.Asked,
-  is-digit-reads.Learnt,
 )
     (digit-at t)
     digit.Post
@@ -63,25 +63,25 @@ pub +digit+part-spec : {M : Type 1} → statement M
     digit-μ-loop
     (λ c. (omega arith, refl))  -- digit-loop-holds
     (λ c. omega arith)  -- digit-shared-slice-read-b
+    (λ c κs. search needs)  -- digit-is-digit-requires
+    (λ c. omega arith)  -- digit-add-n
+    (λ c. omega arith)  -- digit-loop-less
+    (λ c. let a = c .before .before .before .before .before .before .before .args in let l = c .before .before .before .before .loop in (omega arith, l .inv .1 ∙ digit-reads (a .lengths .now) (l .n) (a .count) (a .s .now) (c .before .before .before .loop-test .taken) (sym (c .before .is-digit .ensures) ∙ c .if1 .taken)))  -- digit-loop-again
+    (λ c. let a = c .before .before .before .before .before .before .before .before .args in let l = c .before .before .before .before .before .loop in other-breaks (a .lengths .now) (l .n) (a .count) (a .s .now) (c .before .before .before .before .loop-test .taken) (c .if2 .taken) (sym (c .before .before .is-digit .ensures) ∙ c .before .if1 .left) ∙ sym (l .inv .1))  -- digit-returns
     (λ c κs. search needs)  -- digit-fits-requires
     (λ c. omega arith)  -- digit-add-part
     (λ c. omega arith)  -- digit-sub-part
     (λ c. omega arith)  -- digit-part-part-start
     (λ c. search needs)  -- digit-part-part-end
-    (λ c. let a = c .before .before .before .before .before .before .before .before .before .args in let l = c .before .before .before .before .before .before .loop in fits-lengths (a .lengths .now) (l .n) (sym (c .before .before .fits2 .ensures) ∙ c .before .if2 .taken))  -- digit-sub-part-2
-    (λ c. let a = c .before .before .before .before .before .before .before .before .before .args in let l = c .before .before .before .before .before .before .loop in fits-lengths (a .lengths .now) (l .n) (sym (c .before .before .fits2 .ensures) ∙ c .before .if2 .taken))  -- digit-part-part-start-2
+    (λ c. fits-lengths (c .before .before .before .before .before .before .before .before .before .before .before .args .lengths .now) (c .before .before .before .before .before .before .before .before .loop .n) (sym (c .before .before .fits2 .ensures) ∙ c .before .if3 .taken))  -- digit-sub-part-2
+    (λ c. fits-lengths (c .before .before .before .before .before .before .before .before .before .before .before .args .lengths .now) (c .before .before .before .before .before .before .before .before .loop .n) (sym (c .before .before .fits2 .ensures) ∙ c .before .if3 .taken))  -- digit-part-part-start-2
     (λ c. search needs)  -- digit-part-part-end-2
     (λ c. omega arith)  -- digit-add-part-2
-    (λ c κs. let a = c .before .before .before .before .before .before .before .before .before .before .args in let l = c .before .before .before .before .before .before .before .loop in rw (to-the-end (l .n + 1) (a .s .now), length-drop (l .n + 1) (a .s .now)) (omega arith))  -- digit-part-requires
-    (λ c. let a = c .before .before .before .before .before .before .before .before .before .before .before .args in let l = c .before .before .before .before .before .before .before .before .loop in hyphen-fits (a .lengths .now) (l .n) (a .count) (a .s .now) (c .before .before .before .before .before .before .before .loop-test .taken) _ (c .before .before .before .before .before .if1 .taken) (sym (c .before .before .before .before .fits2 .ensures) ∙ c .before .before .before .if2 .taken) (c .part .ensures) ∙ sym (l .inv .1))  -- digit-returns
-    (λ c. let a = c .before .before .before .before .before .before .before .before .args in let l = c .before .before .before .before .before .loop in hyphen-breaks (a .lengths .now) (l .n) (a .count) (a .s .now) (c .before .before .before .before .loop-test .taken) (c .before .before .if1 .taken) (sym (c .before .fits2 .ensures) ∙ c .if2 .left) ∙ sym (l .inv .1))  -- digit-returns-2
-    (λ c κs. search needs)  -- digit-is-digit-requires
-    (λ c. omega arith)  -- digit-add-n
-    (λ c. omega arith)  -- digit-loop-less
-    (λ c. let a = c .before .before .before .before .before .before .before .before .args in let l = c .before .before .before .before .before .loop in (omega arith, l .inv .1 ∙ digit-reads (a .lengths .now) (l .n) (a .count) (a .s .now) (c .before .before .before .before .loop-test .taken) (c .before .before .if1 .left) (sym (c .before .is-digit .ensures) ∙ c .if3 .taken)))  -- digit-loop-again
-    (λ c. let a = c .before .before .before .before .before .before .before .before .args in let l = c .before .before .before .before .before .loop in other-breaks (a .lengths .now) (l .n) (a .count) (a .s .now) (c .before .before .before .before .loop-test .taken) (c .before .before .if1 .left) (sym (c .before .is-digit .ensures) ∙ c .if3 .left) ∙ sym (l .inv .1))  -- digit-returns-3
+    (λ c κs. let a = c .before .before .before .before .before .before .before .before .before .before .before .before .args in let l = c .before .before .before .before .before .before .before .before .before .loop in rw (to-the-end (l .n + 1) (a .s .now), length-drop (l .n + 1) (a .s .now)) (omega arith))  -- digit-part-requires
+    (λ c. let a = c .before .before .before .before .before .before .before .before .before .before .before .before .before .args in let l = c .before .before .before .before .before .before .before .before .before .before .loop in hyphen-fits (a .lengths .now) (l .n) (a .count) (a .s .now) (c .before .before .before .before .before .before .before .before .before .loop-test .taken) _ (c .before .before .before .before .before .if2 .left) (sym (c .before .before .before .before .fits2 .ensures) ∙ c .before .before .before .if3 .taken) (c .part .ensures) ∙ sym (l .inv .1))  -- digit-returns-2
+    (λ c. let a = c .before .before .before .before .before .before .before .before .before .before .args in let l = c .before .before .before .before .before .before .before .loop in hyphen-breaks (a .lengths .now) (l .n) (a .count) (a .s .now) (c .before .before .before .before .before .before .loop-test .taken) (c .before .before .if2 .left) (sym (c .before .fits2 .ensures) ∙ c .if3 .left) ∙ sym (l .inv .1))  -- digit-returns-3
     (λ c κs. search needs)  -- digit-fits-requires-2
-    (λ c. omega arith)  -- digit-add-t23
+    (λ c. omega arith)  -- digit-add-result
     (λ c. let a = c .before .before .before .before .before .before .args in let l = c .before .before .before .loop in last-fits (a .lengths .now) (l .n) (a .count) (a .s .now) (c .before .before .loop-test .left) (sym (c .before .fits3 .ensures) ∙ c .if4 .taken) ∙ sym (l .inv .1))  -- digit-returns-4
     (λ c. let a = c .before .before .before .before .before .before .args in let l = c .before .before .before .loop in last-breaks (a .lengths .now) (l .n) (a .count) (a .s .now) (c .before .before .loop-test .left) (sym (c .before .fits3 .ensures) ∙ c .if4 .left) ∙ sym (l .inv .1)))  -- digit-returns-5
     λ t. part-lts.spec

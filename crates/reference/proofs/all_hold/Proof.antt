@@ -1,20 +1,21 @@
--- `reference::groups_hold` meets its contract. The loop's invariant: the groups hold where those from `i` on do. Assumes nothing.
+-- `reference::all_hold` meets its contract. The loop's invariant: the groups hold where those from `i` on do. Assumes nothing.
 use Rattle.models.specs.Models.{noGroup}
 use Rattle.reference.proofs.Laws.{groups-on, groups-stop, groups-end}
 use Prim.Native.Nat.{_≤_, _-_}
 use mathlib.Core.Path.{_≡_, refl, sym, _∙_}
 use native.Mathlib.Omega.{arith}
 use lib.ListN.{drop}
+use borrow.Author.Needs.{needs}
 use borrow.Author.Tests.{not-true, not-false}
 use Rattle.reference.specs.Groups.{groupsHold}
-use Rattle.reference.proofs.groups_hold.Statement.{statement}
-use Rattle.reference.proofs.groups_hold.Tie as tie
+use Rattle.reference.proofs.all_hold.Statement.{statement}
+use Rattle.reference.proofs.all_hold.Tie as tie
 
 abbrev Inv-loop : tie.InvT-loop
-Inv-loop s groups i₀ i = (i ≤ 4) × (groupsHold groups s ≡ groupsHold (drop i groups) s)
+Inv-loop hyphens s groups i₀ i = (i ≤ 4) × (groupsHold groups s ≡ groupsHold (drop i groups) s)
 
 abbrev μ-loop : tie.MeasureT-loop
-μ-loop s groups i₀ i = 4 - i
+μ-loop hyphens s groups i₀ i = 4 - i
 
 loop-holds : tie.Need-loop-holds Inv-loop μ-loop
 loop-holds c = (omega arith, refl)
@@ -26,7 +27,7 @@ array-copy-out-g : tie.Need-array-copy-out-g Inv-loop μ-loop
 array-copy-out-g c = omega arith
 
 group-holds-requires : tie.Need-group-holds-requires Inv-loop μ-loop
-group-holds-requires c κs = tt
+group-holds-requires c κs = search needs
 
 returns : tie.Need-returns Inv-loop μ-loop
 returns c =
@@ -52,8 +53,8 @@ returns-2 c =
     let l = c .before .loop in
     groups-end (a .t1) (a .s .now) (l .i) (omega arith) ∙ sym (l .inv .1)
 
-pub groups-hold-spec : {M : Type 1} → statement M
-groups-hold-spec =
+pub all-hold-spec : {M : Type 1} → statement M
+all-hold-spec =
     tie.close
     (tie.spec
     Inv-loop
