@@ -267,6 +267,13 @@ fn number_at(t: LineType, field: usize, s: &[u8]) -> u64
     sums::number(wage_line::part(wage_line::find(t, field), s))
 }
 
+// The amount of an order: its place, the eighth, is not looked for.
+fn amount(s: &[u8]) -> u64
+    ensures { λ r. ⌜ r ≡ numberIn (partOf LineType.Order 10 (now (s .entry))) ⌝ }
+{
+    sums::number(wage_line::part(wage_line::spot_at(LineType::Order, 7), s))
+}
+
 // The record after a right label.
 fn after_label(j: Judge, s: &[u8]) -> Judge
     requires { ⌜ j .lines ≤ 1000000 ⌝ }
@@ -334,7 +341,7 @@ fn after_order(j: Judge, s: &[u8]) -> Judge
         declared: j.declared,
         promised,
         counted: counted + 1,
-        total: sums::add(total, number_at(LineType::Order, 10, s)),
+        total: sums::add(total, amount(s)),
     }
 }
 

@@ -7,10 +7,10 @@ use Prim.Native.Nat.{ℕ, suc, _+_, _-_, _*_, _≤_, _<_}
 use native.Mathlib.Numerals.{add-one}
 use native.Mathlib.Omega.{arith}
 use native.Mathlib.Nat.{zero-add, add-zero}
-use lib.Dec.{leb}
+use lib.Dec.{eqb, leb}
 use lib.ListN.{length, take, drop, getD, length-drop}
 use lib.Seq.{drop-cons, drop-length, take-all}
-use borrow.Author.Tests.{ne-eqb, lt-leb, le-leb, leb-true}
+use borrow.Author.Tests.{ne-eqb, eq-eqb, lt-leb, le-leb, leb-true, leb-false}
 use Rattle.text.specs.declared.Class.{Class}
 use Rattle.text.specs.declared.Found.{Found}
 use Rattle.text.specs.declared.Found.the-variants.{At, Nothing}
@@ -139,12 +139,26 @@ all-of-nothing k (b ∷ s) = go (permits k b) (all-of-nothing k s)
     go false e = refl
 
 -- a class permits two texts joined where it permits each
-pub all-joined : (k : Class) (s t : List ℕ) → allOf k s ≡ true → allOf k t ≡ true → allOf k (s ++ t) ≡ true
+pub all-append : (k : Class) (s t : List ℕ) → allOf k (s ++ t) ≡ (allOf k s && allOf k t)
 unfolding allOf
-all-joined k [] t e g = g
-all-joined k (b ∷ s) t e g =
-    let h = both-true (permits k b) (allOf k s) e in
-    sym (and-second (permits k b) (allOf k (s ++ t)) true (h .0) (sym (all-joined k s t (h .1) g)))
+all-append k [] t = refl
+all-append k (b ∷ s) t = rw (all-append k s t) (sym (and-assoc (permits k b) (allOf k s) (allOf k t)))
+
+pub all-joined : (k : Class) (s t : List ℕ) → allOf k s ≡ true → allOf k t ≡ true → allOf k (s ++ t) ≡ true
+all-joined k s t e g = all-append k s t ∙ rw (e, g)
+
+-- one byte alone lies between itself and itself
+pub alone-between : (a b : ℕ) → eqb b a ≡ (leb a b && leb b a)
+alone-between a b = go (leb a b) refl (leb b a) refl
+  where
+    go : (t : Bool) → leb a b ≡ t → (u : Bool) → leb b a ≡ u → eqb b a ≡ (t && u)
+    go true e true f =
+        let h = leb-true a b e in
+        let g = leb-true b a f in
+        let z : b ≡ a = omega arith in
+        eq-eqb b a z
+    go true e false f = let h = leb-false b a f in ne-eqb b a (λ z. omega arith)
+    go false e u f = let h = leb-false a b e in ne-eqb b a (λ z. omega arith)
 
 -- and what a narrower class permits
 pub all-wider : (j k : Class) → ((b : ℕ) → permits j b ≡ true → permits k b ≡ true) → (s : List ℕ) → allOf j s ≡ true → allOf k s ≡ true

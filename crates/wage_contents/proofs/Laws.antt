@@ -1,4 +1,5 @@
--- Laws that this crate's proofs share: of answers joined, of one of three numbers, of an IBAN's place, and of the blanks at a text's end.
+-- Laws that this crate's proofs share: of answers joined, of one of three numbers, of an IBAN's place, of a
+-- description tested in parts, and of the blanks at a text's end.
 -- Assumes nothing.
 use mathlib.Core.Path.{_≡_, refl, sym, ap, _∙_}
 use mathlib.Core.Bool.{Bool, true, false, cond, _&&_, _||_}
@@ -7,7 +8,7 @@ use Prim.Native.Nat.{ℕ, suc, _-_, _≤_, _<_}
 use native.Mathlib.Omega.{arith}
 use lib.Dec.{eqb}
 use lib.ListN.{length, take, drop, getD, take-append-drop}
-use lib.Seq.{take-all, take-suc}
+use lib.Seq.{take-all, take-suc, take-take}
 use borrow.Author.Tests.{eq-eqb, ne-eqb, eqb-true}
 use Rattle.refusal.specs.Refusal.{none}
 use Rattle.refusal.specs.declared.Answer.{Answer}
@@ -15,10 +16,11 @@ use Rattle.refusal.specs.declared.Answer.the-variants.{Accepted, Refused}
 use Rattle.refusal.specs.declared.Refusal.{Refusal}
 use Rattle.refusal.specs.declared.Refusal.the-variants.{Form}
 use Rattle.text.specs.Bytes.{isDigit, isLetter, allOf}
-use Rattle.text.specs.declared.Class.the-variants.{Digits, Blanks, Place}
+use Rattle.text.specs.declared.Class.{Class}
+use Rattle.text.specs.declared.Class.the-variants.{Digits, Blanks, Place, Description}
 use Rattle.account.specs.Account.{ibanFormed, ibanPasses}
 use Rattle.account.specs.Answers.{ibanCheckAnswer}
-use Rattle.text.proofs.Laws.{taken, left, or-first, or-second, and-first, both-true, all-joined, all-wider}
+use Rattle.text.proofs.Laws.{taken, left, or-first, or-second, and-first, and-second, both-true, all-append, all-joined, all-wider}
 use Rattle.wage_contents.specs.Contents.{andThen, onlyIf, trimmed}
 
 -- ---------------------------------------------------------------------------
@@ -89,6 +91,40 @@ account-placed f e g =
     sym (ap (allOf Place) (take-append-drop 21 f))
     ∙ all-joined Place (take 21 f) (drop 21 f) (formed-placed (take 21 f) g)
     (all-wider Blanks Place (λ x b. rw (eqb-true x 32 b)) (drop 21 f) e)
+
+-- ---------------------------------------------------------------------------
+-- A description's bytes, tested in two parts
+
+-- a text is permitted where its front and its rest are
+all-apart : (k : Class) (n : ℕ) (f : List ℕ) → allOf k f ≡ (allOf k (take n f) && allOf k (drop n f))
+all-apart k n f = sym (ap (allOf k) (take-append-drop n f)) ∙ all-append k (take n f) (drop n f)
+
+-- a front that is not permitted decides
+pub front-wrong : (k : Class) (n : ℕ) (f : List ℕ) → allOf k (take n f) ≡ false → false ≡ allOf k f
+front-wrong k n f e = and-first _ (allOf k (drop n f)) e ∙ sym (all-apart k n f)
+
+-- behind one that is, blanks are a description's
+pub blank-behind : (n : ℕ) (f : List ℕ) → allOf Description (take n f) ≡ true → allOf Blanks (drop n f) ≡ true → true ≡ allOf Description f
+blank-behind n f e g =
+    and-second _ (allOf Description (drop n f)) true e (sym (all-wider Blanks Description (λ x b. rw (eqb-true x 32 b)) (drop n f) g))
+    ∙ sym (all-apart Description n f)
+
+-- and what stands behind a shorter front decides
+pub rest-decides : (k : Class) (m n : ℕ) (f : List ℕ) → m ≤ n → allOf k (take n f) ≡ true → allOf k (drop m f) ≡ allOf k f
+rest-decides k m n f h e =
+    let front = both-true (allOf k (take m (take n f))) (allOf k (drop m (take n f))) (sym (all-apart k m (take n f)) ∙ e) in
+    and-second (allOf k (take m f)) (allOf k (drop m f)) _ (ap (allOf k) (sym (take-take m n f h)) ∙ front .0) refl ∙ sym (all-apart k m f)
+
+-- no byte is all blank; what begins with another byte is not
+pub blank-none : (f : List ℕ) → length f ≡ 0 → true ≡ allOf Blanks f
+unfolding allOf
+blank-none [] e = refl
+blank-none (b ∷ f) e = absurd (omega arith)
+
+pub begins-otherwise : (f : List ℕ) → 0 < length f → (getD f 0 0 ≡ 32 → ⊥) → false ≡ allOf Blanks f
+unfolding allOf
+begins-otherwise [] h n = absurd (omega arith)
+begins-otherwise (b ∷ f) h n = and-first (eqb b 32) (allOf Blanks f) (ne-eqb b 32 n)
 
 -- ---------------------------------------------------------------------------
 -- The blanks at a text's end

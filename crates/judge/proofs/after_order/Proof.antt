@@ -12,15 +12,15 @@ add-t10 c = search needs
 add-t11 : tie.Need-add-t11
 add-t11 c = search needs
 
-number-at-requires : tie.Need-number-at-requires
-number-at-requires c κs = search needs
+amount-requires : tie.Need-amount-requires
+amount-requires c κs = search needs
 
 add-requires : tie.Need-add-requires
 add-requires c κs = search needs
 
 returns : tie.Need-returns
-returns c = rw (c .add .ensures, c .before .number-at .ensures)
+returns c = rw (c .add .ensures, c .before .amount .ensures)
 
 pub after-order-spec : {M : Type 1} → statement M
 after-order-spec =
-    tie.close (tie.spec add-t9 add-t10 add-t11 number-at-requires add-requires returns)
+    tie.close (tie.spec add-t9 add-t10 add-t11 amount-requires add-requires returns)

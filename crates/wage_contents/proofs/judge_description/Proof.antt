@@ -11,11 +11,11 @@ use borrow.Author.Needs.{needs}
 use Rattle.wage_contents.proofs.judge_description.Statement.{statement}
 use Rattle.wage_contents.proofs.judge_description.Tie as tie
 
-all-described-requires : tie.Need-all-described-requires
-all-described-requires c κs = search needs
+is-described-requires : tie.Need-is-described-requires
+is-described-requires c κs = search needs
 
-all-of-requires : tie.Need-all-of-requires
-all-of-requires c κs = search needs
+is-blank-requires : tie.Need-is-blank-requires
+is-blank-requires c κs = search needs
 
 form-requires : tie.Need-form-requires
 form-requires c κs = search needs
@@ -24,15 +24,15 @@ returns : tie.Need-returns
 unfolding descriptionAnswer
 returns c =
     let f = c .before .before .before .before .before .before .args .f .now in
-    passed _ _ _ refl _ (bytes-accepted Description f .1 (sym (c .before .before .before .before .all-described .ensures) ∙ c .before .before .before .if1 .taken))
-    (left _ _ _ _ (ap not (sym (c .before .before .all-of .ensures) ∙ c .before .if2 .taken)) (c .form .ensures))
+    passed _ _ _ refl _ (bytes-accepted Description f .1 (sym (c .before .before .before .before .is-described .ensures) ∙ c .before .before .before .if1 .taken))
+    (left _ _ _ _ (ap not (sym (c .before .before .is-blank .ensures) ∙ c .before .if2 .taken)) (c .form .ensures))
 
 returns-2 : tie.Need-returns-2
 unfolding descriptionAnswer
 returns-2 c =
     let f = c .before .before .before .before .before .args .f .now in
-    passed _ _ _ refl _ (bytes-accepted Description f .1 (sym (c .before .before .before .all-described .ensures) ∙ c .before .before .if1 .taken))
-    (taken _ _ _ (ap not (sym (c .before .all-of .ensures) ∙ c .if2 .left)))
+    passed _ _ _ refl _ (bytes-accepted Description f .1 (sym (c .before .before .before .is-described .ensures) ∙ c .before .before .if1 .taken))
+    (taken _ _ _ (ap not (sym (c .before .is-blank .ensures) ∙ c .if2 .left)))
 
 judge-bytes-requires : tie.Need-judge-bytes-requires
 judge-bytes-requires c κs = search needs
@@ -41,14 +41,14 @@ returns-3 : tie.Need-returns-3
 unfolding descriptionAnswer
 returns-3 c =
     let f = c .before .before .before .before .args .f .now in
-    c .judge-bytes .ensures ∙ stands _ _ _ (bytes-accepted Description f) (sym (c .before .before .all-described .ensures) ∙ c .before .if1 .left)
+    c .judge-bytes .ensures ∙ stands _ _ _ (bytes-accepted Description f) (sym (c .before .before .is-described .ensures) ∙ c .before .if1 .left)
 
 pub judge-description-spec : {M : Type 1} → statement M
 judge-description-spec =
     tie.close
     (tie.spec
-    all-described-requires
-    all-of-requires
+    is-described-requires
+    is-blank-requires
     form-requires
     returns
     returns-2

@@ -1,0 +1,55 @@
+-- `text::all_within` meets its contract. The loop's invariant: for a class that permits just the bytes between the two, the answer is the
+-- test so far and that of what is left from `i` on. Assumes nothing.
+use Prim.Native.Nat.{ℕ, _≤_, _-_}
+use mathlib.Core.Path.{_≡_, refl, sym, _∙_}
+use mathlib.Core.Bool.{_&&_}
+use native.Mathlib.Omega.{arith}
+use lib.Dec.{leb}
+use lib.ListN.{length, drop, getD}
+use Rattle.text.specs.Bytes.{permits, allOf}
+use Rattle.text.specs.declared.Class.{Class}
+use Rattle.text.proofs.Laws.{tested-on, tested-all}
+use Rattle.text.proofs.all_within.Statement.{statement}
+use Rattle.text.proofs.all_within.Tie as tie
+
+abbrev Inv-loop : tie.InvT-loop
+Inv-loop least most s right₀ i₀ right i = (i ≤ length s) × ((k : Class) → ((b : ℕ) → permits k b ≡ (leb least b && leb b most)) → allOf k s ≡ (right && allOf k (drop i s)))
+
+abbrev μ-loop : tie.MeasureT-loop
+μ-loop least most s right₀ i₀ right i = length s - i
+
+loop-holds : tie.Need-loop-holds Inv-loop μ-loop
+loop-holds c = (omega arith, λ k e. refl)
+
+shared-slice-read-b : tie.Need-shared-slice-read-b Inv-loop μ-loop
+shared-slice-read-b c = omega arith
+
+add-i : tie.Need-add-i Inv-loop μ-loop
+add-i c = omega arith
+
+loop-less : tie.Need-loop-less Inv-loop μ-loop
+loop-less c = omega arith
+
+loop-again : tie.Need-loop-again Inv-loop μ-loop
+loop-again c =
+    let s = c .before .before .before .args .s .now in
+    let l = c .before .before .loop in
+    (omega arith, λ k e. l .inv .1 k e ∙ tested-on k s (l .i) (omega arith) (l .right) _ (sym (e (getD s (l .i) 0))))
+
+returns : tie.Need-returns Inv-loop μ-loop
+returns c =
+    let l = c .before .loop in
+    λ k e. tested-all k (c .before .before .args .s .now) (l .i) (omega arith) (omega arith) (l .right) ∙ sym (l .inv .1 k e)
+
+pub all-within-spec : {M : Type 1} → statement M
+all-within-spec =
+    tie.close
+    (tie.spec
+    Inv-loop
+    μ-loop
+    loop-holds
+    shared-slice-read-b
+    add-i
+    loop-less
+    loop-again
+    returns)
