@@ -22,10 +22,10 @@ pub struct Size {
 }
 
 pub const FULL: Size = Size {
-    rounds: 15,
-    turn: 0.02,
+    rounds: 60,
+    turn: 0.005,
     lines: 1_000_000,
-    passes: 4,
+    passes: 8,
 };
 
 pub const QUICK: Size = Size {

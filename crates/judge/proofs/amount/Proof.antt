@@ -1,5 +1,5 @@
 -- `judge::amount` meets its contract: field 10 of an order is its eighth place. Assumes nothing.
-use mathlib.Core.Path.{_≡_, ap, _∙_}
+use mathlib.Core.Path.{ap, _∙_}
 use Rattle.wage_line.specs.declared.Spot.{Spot}
 use Rattle.wage_line.specs.Line.{partAt}
 use Rattle.wage_line.specs.Places.{spotIn, spots}

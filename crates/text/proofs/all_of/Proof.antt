@@ -1,7 +1,6 @@
 -- `text::all_of` meets its contract: a class that permits the bytes between two by `all_within`; of another, every byte is permitted where
 -- nothing was found. Assumes nothing.
-use Prim.Native.Nat.{ℕ}
-use mathlib.Core.Path.{_≡_, refl, sym, ap, _∙_}
+use mathlib.Core.Path.{refl, sym, ap, _∙_}
 use Rattle.text.specs.declared.Class.the-variants.{Digits, Letters, Blanks, Zeros}
 use Rattle.text.proofs.Laws.{isNothing, all-of-nothing, alone-between}
 use borrow.Author.Needs.{needs}

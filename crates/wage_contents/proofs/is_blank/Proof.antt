@@ -1,7 +1,5 @@
 -- `wage_contents::is_blank` meets its contract: a first byte that is no blank decides. Assumes nothing.
-use mathlib.Core.Path.{_≡_, refl, sym, ap, _∙_}
 use native.Mathlib.Omega.{arith}
-use Rattle.text.specs.Bytes.{allOf}
 use Rattle.wage_contents.proofs.Laws.{begins-otherwise, blank-none}
 use borrow.Author.Needs.{needs}
 use Rattle.wage_contents.proofs.is_blank.Statement.{statement}
