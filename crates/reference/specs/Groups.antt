@@ -11,6 +11,7 @@ use Rattle.text.specs.declared.Found.the-variants.{At, Nothing}
 use Rattle.check_digits.specs.declared.Rule.{Rule}
 use Rattle.check_digits.specs.CheckDigit.{passes}
 use Rattle.models.specs.declared.Group.{Group}
+use Rattle.reference.specs.declared.Hyphens.{Hyphens}
 
 -- the place after the first k hyphens
 unfoldable pub afterHyphens : ℕ → List ℕ → Found
@@ -22,6 +23,16 @@ afterHyphens (suc k) (b ∷ s) = later (cond (eqb b 45) (afterHyphens k s) (afte
 unfoldable pub hyphensIn : List ℕ → ℕ
 hyphensIn [] = 0
 hyphensIn (b ∷ s) = cond (eqb b 45) (suc (hyphensIn s)) (hyphensIn s)
+
+-- a place that was found; 0 for none
+abbrev pub foundAt : Found → ℕ
+foundAt (At p) = p
+foundAt Nothing = 0
+
+-- where a text's hyphens stand: their number, and the places after the first and after the second
+abbrev pub hyphensOf : List ℕ → Hyphens
+hyphensOf s =
+    record { count = hyphensIn s; first = foundAt (afterHyphens 1 s); second = foundAt (afterHyphens 2 s) }
 
 -- a stretch of text ends in its check digit; no byte is no part, and is not checked
 abbrev pub stretchHolds : Rule → List ℕ → Bool

@@ -4,13 +4,12 @@
 // call each other, as 01 asks; what a listing asks again and again, the check groups, is loops.
 ghost use mathlib.Core.Path.{_≡_};
 ghost use mathlib.Core.Bool.{_&&_};
-ghost use Prim.Native.Nat.{_<_, _+_, _^_};
 ghost use lib.Dec.{leb};
-ghost use lib.ListN.{length};
 ghost use Rattle.reference.specs.Parts.{formed};
-ghost use Rattle.reference.specs.Groups.{afterHyphens, hyphensIn, stretchHolds, headHolds, groupHolds, groupsHold};
-ghost use Rattle.reference.specs.Readers.{fitsNext, partRead, digitRead, partsFound};
-ghost use Rattle.reference.specs.Answers.{groupsAnswer, unformedAnswer, textAnswer, referenceAnswer};
+ghost use Rattle.reference.specs.Groups.{afterHyphens, hyphensIn, foundAt, hyphensOf, stretchHolds, groupHolds, groupsHold};
+ghost use Rattle.reference.specs.Readers.{fitsNext, Roomy, partRead, digitRead, partsIn, partsFound, hyphensBetween};
+ghost use Rattle.reference.specs.Answers.{groupsAnswer, unformedAnswer, textAnswer, modelAnswer, referenceAnswer};
+ghost use Rattle.models.specs.Models.{modelOf};
 ghost use Rattle.text.specs.Bytes.{firstBad};
 use check_digits::Rule;
 use models::Group;
@@ -20,6 +19,23 @@ use refusal::Place;
 use refusal::Refusal;
 use text::Class;
 use text::Found;
+
+// Where a text's hyphens stand: how many there are, and the places after the first and after the second; 0 where there is none.
+pub struct Hyphens {
+    pub count: usize,
+    pub first: usize,
+    pub second: usize,
+}
+
+fn stand(count: usize, first: usize, second: usize) -> Hyphens
+    ensures { λ r. ⌜ r ≡ record { count = count; first = first; second = second } ⌝ }
+{
+    Hyphens {
+        count,
+        first,
+        second,
+    }
+}
 
 // ---------------------------------------------------------------------------
 // Parts
@@ -47,22 +63,22 @@ fn fits(lengths: &[u8], n: usize) -> bool
     n <= wide(lengths[1])
 }
 
-// Reads a part, the first of what is left, after `count` parts: its digits, where the model has lengths for it. Answers how
-// many parts there are, or 0 where one of them does not fit: a number, since an enum would be handed up through memory.
-fn part(s: &[u8], lengths: &[u8], count: usize) -> usize
-    requires { ⌜ count + length (now s) < 2 ^ 63 ⌝ }
-    ensures { λ r. ⌜ r ≡ partRead (now (lengths .entry)) count (now (s .entry)) ⌝ }
+// Reads a part, the first of what is left: its digits, where the model has lengths for it. Answers the sizes of the parts, with
+// those read before, each a digit of base 256, or 0 where one does not fit: a number, since an enum would be handed up through memory.
+fn part(s: &[u8], lengths: &[u8], sizes: usize) -> usize
+    requires { ⌜ Roomy (now lengths) sizes ⌝ }
+    ensures { λ r. ⌜ r ≡ partRead (now (lengths .entry)) sizes (now (s .entry)) ⌝ }
 {
     if lengths.len() < 2 {
         return 0;
     }
-    digit(s, lengths, count)
+    digit(s, lengths, sizes)
 }
 
 // Reads the digits of a part, one after the other; a hyphen hands over to the reading of the next part.
-fn digit(s: &[u8], lengths: &[u8], count: usize) -> usize
-    requires { ⌜ count + length (now s) < 2 ^ 63 ⌝ }
-    ensures { λ r. ⌜ r ≡ digitRead (now (lengths .entry)) 0 count (now (s .entry)) ⌝ }
+fn digit(s: &[u8], lengths: &[u8], sizes: usize) -> usize
+    requires { ⌜ Roomy (now lengths) sizes ⌝ }
+    ensures { λ r. ⌜ r ≡ digitRead (now (lengths .entry)) 0 sizes (now (s .entry)) ⌝ }
 {
     let mut n = 0;
     while n < s.len() {
@@ -74,18 +90,34 @@ fn digit(s: &[u8], lengths: &[u8], count: usize) -> usize
                 return 0;
             }
             if fits(lengths, n) {
-                return part(&s[n + 1..], &lengths[2..], count + 1);
+                return part(&s[n + 1..], &lengths[2..], sizes * 256 + n);
             }
             return 0;
         }
     }
     if fits(lengths, n) {
-        return count + 1;
+        return sizes * 256 + n;
     }
     0
 }
 
-// How many parts a text has, where they are those that the model asks, each of its length; else 0.
+// How many parts there are, by their sizes.
+fn parts_in(sizes: usize) -> usize
+    ensures { λ r. ⌜ r ≡ partsIn sizes ⌝ }
+{
+    if sizes < 256 {
+        return 1;
+    }
+    if sizes < 65536 {
+        return 2;
+    }
+    if sizes < 16777216 {
+        return 3;
+    }
+    4
+}
+
+// The sizes of a text's parts, where they are those that the model asks, each of its length; else 0.
 fn parts(model: Model, s: &[u8]) -> usize
     ensures { λ r. ⌜ r ≡ partsFound model (now (s .entry)) ⌝ }
 {
@@ -95,11 +127,32 @@ fn parts(model: Model, s: &[u8]) -> usize
         return 0;
     }
     let lengths = model.lengths;
-    let found = part(s, &lengths, 0);
-    if within(found, wide(fewest), wide(most)) {
-        return found;
+    let sizes = part(s, &lengths, 0);
+    if sizes == 0 {
+        return 0;
+    }
+    if within(parts_in(sizes), wide(fewest), wide(most)) {
+        return sizes;
     }
     0
+}
+
+// Where hyphens stand between parts of such sizes.
+fn between(sizes: usize) -> Hyphens
+    ensures { λ r. ⌜ r ≡ hyphensBetween sizes ⌝ }
+{
+    if sizes < 256 {
+        return stand(0, 0, 0);
+    }
+    if sizes < 65536 {
+        return stand(1, sizes / 256 + 1, 0);
+    }
+    if sizes < 16777216 {
+        let first = sizes / 65536 + 1;
+        return stand(2, first, first + sizes / 256 % 256 + 1);
+    }
+    let first = sizes / 16777216 + 1;
+    stand(3, first, first + sizes / 65536 % 256 + 1)
 }
 
 // Whether a text has the parts that the model asks, each of its length.
@@ -126,8 +179,8 @@ fn within(n: usize, least: usize, most: usize) -> bool
 // ---------------------------------------------------------------------------
 // Check groups
 
-// The place after the first k hyphens of a text.
-fn after(s: &[u8], k: usize) -> Found
+// The place after the first k hyphens of a text, looked for from its beginning.
+fn seek(s: &[u8], k: usize) -> Found
     ensures { λ r. ⌜ r ≡ afterHyphens k (now (s .entry)) ⌝ }
 {
     if k == 0 {
@@ -149,6 +202,25 @@ fn after(s: &[u8], k: usize) -> Found
     Found::Nothing
 }
 
+// The place after the first k hyphens of a text: it is known of the first two.
+fn after(h: Hyphens, s: &[u8], k: usize) -> Found
+    requires { ⌜ h ≡ hyphensOf (now s) ⌝ }
+    ensures { λ r. ⌜ r ≡ afterHyphens k (now (s .entry)) ⌝ }
+{
+    let count = h.count;
+    let first = h.first;
+    let second = h.second;
+    if count < k {
+        return Found::Nothing;
+    }
+    match k {
+        0 => Found::At(0),
+        1 => Found::At(first),
+        2 => Found::At(second),
+        _ => seek(s, k),
+    }
+}
+
 // Whether a stretch of text ends in its check digit; with no byte there is no part, and it is not checked.
 fn stretch_holds(rule: Rule, s: &[u8]) -> bool
     ensures { λ r. ⌜ r ≡ stretchHolds rule (now (s .entry)) ⌝ }
@@ -159,26 +231,10 @@ fn stretch_holds(rule: Rule, s: &[u8]) -> bool
     check_digits::ends_right(rule, s)
 }
 
-// Whether the first `joins` parts of a text end in their check digit.
-fn head_holds(rule: Rule, joins: usize, s: &[u8]) -> bool
-    ensures { λ r. ⌜ r ≡ headHolds rule joins (now (s .entry)) ⌝ }
-{
-    match after(s, joins) {
-        Found::At(e) => {
-            if e == 0 {
-                return true;
-            }
-            let end = e - 1;
-            stretch_holds(rule, &s[..end])
-        }
-        Found::Nothing => stretch_holds(rule, s),
-    }
-}
-
-// Whether a group ends in its check digit; with no part present it is not checked. The number of hyphens tells where it has no
-// part, and where it goes on to the end of the text: neither is looked for.
-fn group_holds(g: Group, hyphens: usize, s: &[u8]) -> bool
-    requires { ⌜ hyphens ≡ hyphensIn (now s) ⌝ }
+// Whether a group ends in its check digit; with no part present it is not checked, and where a part is missing it goes on to the
+// end of the text.
+fn group_holds(g: Group, h: Hyphens, s: &[u8]) -> bool
+    requires { ⌜ h ≡ hyphensOf (now s) ⌝ }
     ensures { λ r. ⌜ r ≡ groupHolds g (now (s .entry)) ⌝ }
 {
     let skipped = wide(g.skipped);
@@ -187,29 +243,24 @@ fn group_holds(g: Group, hyphens: usize, s: &[u8]) -> bool
     if joins == 0 {
         return true;
     }
-    if hyphens < skipped {
-        return true;
-    }
-    match after(s, skipped) {
-        Found::At(a) => {
-            if hyphens - skipped < joins {
-                return stretch_holds(rule, &s[a..]);
-            }
-            head_holds(rule, joins, &s[a..])
-        }
+    match after(h, s, skipped) {
+        Found::At(a) => match after(h, s, skipped + joins) {
+            Found::At(e) => stretch_holds(rule, &s[a..e - 1]),
+            Found::Nothing => stretch_holds(rule, &s[a..]),
+        },
         Found::Nothing => true,
     }
 }
 
-// Whether each of a model's groups does, in a text of so many hyphens.
-fn all_hold(groups: [Group; 4], hyphens: usize, s: &[u8]) -> bool
-    requires { ⌜ hyphens ≡ hyphensIn (now s) ⌝ }
+// Whether each of a model's groups does, in a text whose hyphens stand so.
+fn all_hold(groups: [Group; 4], h: Hyphens, s: &[u8]) -> bool
+    requires { ⌜ h ≡ hyphensOf (now s) ⌝ }
     ensures { λ r. ⌜ r ≡ groupsHold groups (now (s .entry)) ⌝ }
 {
     let mut i: usize = 0;
     while i < 4 {
         let g = groups[i];
-        if !group_holds(g, hyphens, s) {
+        if !group_holds(g, h, s) {
             return false;
         }
         i += 1;
@@ -218,7 +269,7 @@ fn all_hold(groups: [Group; 4], hyphens: usize, s: &[u8]) -> bool
 }
 
 // How many hyphens a text has.
-fn hyphens(s: &[u8]) -> usize
+fn count_hyphens(s: &[u8]) -> usize
     ensures { λ r. ⌜ r ≡ hyphensIn (now (s .entry)) ⌝ }
 {
     let mut n = 0;
@@ -234,22 +285,39 @@ fn hyphens(s: &[u8]) -> usize
     n
 }
 
+// A place that was found; 0 for none.
+fn found(f: Found) -> usize
+    ensures { λ r. ⌜ r ≡ foundAt f ⌝ }
+{
+    match f {
+        Found::At(p) => p,
+        Found::Nothing => 0,
+    }
+}
+
+// Where a text's hyphens stand.
+fn standing(s: &[u8]) -> Hyphens
+    ensures { λ r. ⌜ r ≡ hyphensOf (now (s .entry)) ⌝ }
+{
+    stand(count_hyphens(s), found(seek(s, 1)), found(seek(s, 2)))
+}
+
 // Whether each of a model's groups ends in its check digit.
 pub fn groups_hold(groups: [Group; 4], s: &[u8]) -> bool
     ensures { λ r. ⌜ r ≡ groupsHold groups (now (s .entry)) ⌝ }
 {
-    all_hold(groups, hyphens(s), s)
+    all_hold(groups, standing(s), s)
 }
 
 // ---------------------------------------------------------------------------
 // Answers
 
-// 9 where a check group fails, in a text of so many hyphens.
-fn checked(groups: [Group; 4], hyphens: usize, s: &[u8]) -> Answer
-    requires { ⌜ hyphens ≡ hyphensIn (now s) ⌝ }
+// 9 where a check group fails, in a text whose hyphens stand so.
+fn checked(groups: [Group; 4], h: Hyphens, s: &[u8]) -> Answer
+    requires { ⌜ h ≡ hyphensOf (now s) ⌝ }
     ensures { λ r. ⌜ r ≡ groupsAnswer groups (now (s .entry)) ⌝ }
 {
-    if all_hold(groups, hyphens, s) {
+    if all_hold(groups, h, s) {
         return Answer::Accepted;
     }
     Answer::Refused(Refusal::Digit(refusal::nowhere()))
@@ -286,15 +354,26 @@ fn judged_text(model: Model, s: &[u8]) -> Answer
         }
         return Answer::Refused(Refusal::Parts(refusal::nowhere()));
     }
-    let found = parts(model, s);
-    if found == 0 {
+    let sizes = parts(model, s);
+    if sizes == 0 {
         return unformed(s);
     }
     if 22 < s.len() {
         return Answer::Refused(Refusal::Length(refusal::nowhere()));
     }
     let groups = model.groups;
-    checked(groups, found - 1, s)
+    checked(groups, between(sizes), s)
+}
+
+// A reference by its model's number: 7, then 3 with its byte, 4, 8 and 9.
+pub fn numbered(n: usize, s: &[u8]) -> Answer
+    ensures { λ r. ⌜ r ≡ modelAnswer (now (s .entry)) (modelOf n) ⌝ }
+{
+    let m = models::rules(n);
+    if !m.handled {
+        return Answer::Refused(Refusal::Model(refusal::nowhere()));
+    }
+    judged_text(m, s)
 }
 
 // A reference by its model's text: 5 and 7 of the model, then 3 with its byte, 4, 8 and 9 of the reference.
@@ -302,13 +381,7 @@ pub fn reference(model: &[u8], s: &[u8]) -> Answer
     ensures { λ r. ⌜ r ≡ referenceAnswer (now (model .entry)) (now (s .entry)) ⌝ }
 {
     match models::number(model) {
-        Found::At(n) => {
-            let m = models::rules(n);
-            if !m.handled {
-                return Answer::Refused(Refusal::Model(refusal::nowhere()));
-            }
-            judged_text(m, s)
-        }
+        Found::At(n) => numbered(n, s),
         Found::Nothing => Answer::Refused(Refusal::Form(refusal::nowhere())),
     }
 }

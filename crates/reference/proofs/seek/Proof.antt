@@ -1,4 +1,4 @@
--- `reference::after` meets its contract. The loop's invariant: a hyphen is left to pass, and the place is the one after the hyphens
+-- `reference::seek` meets its contract. The loop's invariant: a hyphen is left to pass, and the place is the one after the hyphens
 -- that are left, from `i` on. Assumes nothing.
 use Prim.Native.Nat.{_+_, _-_, _≤_, _<_}
 use mathlib.Core.Path.{_≡_, sym, _∙_}
@@ -7,8 +7,8 @@ use lib.ListN.{length, drop}
 use Rattle.text.proofs.Laws.{shifted, shifted-zero}
 use Rattle.reference.specs.Groups.{afterHyphens}
 use Rattle.reference.proofs.Laws.{after-none, after-hyphen, after-other, after-end}
-use Rattle.reference.proofs.after.Statement.{statement}
-use Rattle.reference.proofs.after.Tie as tie
+use Rattle.reference.proofs.seek.Statement.{statement}
+use Rattle.reference.proofs.seek.Tie as tie
 
 abbrev Inv-loop : tie.InvT-loop
 Inv-loop s k left₀ i₀ left i = (i ≤ length s) × (0 < left) × (afterHyphens k s ≡ shifted i (afterHyphens left (drop i s)))
@@ -68,8 +68,8 @@ returns-3 c =
     let l = c .before .loop in
     after-end s (l .i) (l .left) (c .loop-test .left) (l .inv .0) (l .inv .1) ∙ sym (l .inv .2)
 
-pub after-spec : {M : Type 1} → statement M
-after-spec =
+pub seek-spec : {M : Type 1} → statement M
+seek-spec =
     tie.close
     (tie.spec
     Inv-loop

@@ -1,4 +1,4 @@
--- `reference::hyphens` meets its contract. The loop's invariant: the hyphens passed and those left from `i` on make up the whole.
+-- `reference::count_hyphens` meets its contract. The loop's invariant: the hyphens passed and those left from `i` on make up the whole.
 -- Assumes nothing.
 use Prim.Native.Nat.{_≤_, _+_, _-_}
 use mathlib.Core.Path.{_≡_, sym, _∙_}
@@ -7,8 +7,8 @@ use native.Mathlib.Nat.{zero-add}
 use lib.ListN.{length, drop}
 use Rattle.reference.specs.Groups.{hyphensIn}
 use Rattle.reference.proofs.Laws.{hyphens-more, hyphens-same, hyphens-end}
-use Rattle.reference.proofs.hyphens.Statement.{statement}
-use Rattle.reference.proofs.hyphens.Tie as tie
+use Rattle.reference.proofs.count_hyphens.Statement.{statement}
+use Rattle.reference.proofs.count_hyphens.Tie as tie
 
 abbrev Inv-loop : tie.InvT-loop
 Inv-loop s n₀ i₀ n i = (i ≤ length s) × (n ≤ i) × (hyphensIn s ≡ n + hyphensIn (drop i s))
@@ -54,8 +54,8 @@ returns c =
     let l = c .before .loop in
     hyphens-end (c .before .before .args .s .now) (l .i) (l .n) (omega arith) ∙ sym (l .inv .2)
 
-pub hyphens-spec : {M : Type 1} → statement M
-hyphens-spec =
+pub count-hyphens-spec : {M : Type 1} → statement M
+count-hyphens-spec =
     tie.close
     (tie.spec
     Inv-loop
