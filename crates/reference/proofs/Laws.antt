@@ -7,7 +7,7 @@ use mathlib.Core.Logic.{_⊎_, inl, inr, ⊎-elim}
 use Prim.Native.Nat.{ℕ, zero, suc, _+_, _-_, _≤_, _<_}
 use native.Mathlib.Numerals.{add-one}
 use native.Mathlib.Omega.{arith}
-use native.Mathlib.Nat.{add-zero, zero-add}
+use native.Mathlib.Nat.{add-zero, zero-add, suc-add}
 use lib.Dec.{eqb, leb, ltb, eqb·suc-zero, leb·suc-zero}
 use lib.ListN.{length, take, drop, getD, drop-of-length-le}
 use lib.Seq.{drop-cons, drop-length, drop-nil, take-nil}
@@ -30,7 +30,7 @@ use Rattle.text.specs.Split.{longer, split}
 use Rattle.reference.specs.Parts.{partsOf, partsFit, formed, joined, present, groupRight, groupsRight}
 use Rattle.reference.specs.Readers.{fitsNext, begun, digitRead, partRead, partsFound}
 use Rattle.reference.specs.Answers.{groupsAnswer, obeyAnswer, unformedAnswer, textAnswer}
-use Rattle.reference.specs.Groups.{afterHyphens, hyphensIn, stretchHolds, before, headHolds, heldFrom, groupHolds, groupsHold}
+use Rattle.reference.specs.Groups.{afterHyphens, hyphensIn, foundAt, stretchHolds, before, headHolds, heldFrom, groupHolds, groupsHold}
 
 -- ---------------------------------------------------------------------------
 -- The readers' turns
@@ -248,10 +248,6 @@ after-within (suc k) (b ∷ s) = within-later (length s) (cond (eqb b 45) (after
 pub found-within : (k : ℕ) (s : List ℕ) (a : ℕ) → At a ≡ afterHyphens k s → a ≤ length s
 found-within k s a e = rw (← e) at (after-within k s)
 
--- before a place that no hyphen stands before there is nothing to check
-pub none-holds : (rule : Rule) (s : List ℕ) (e : ℕ) → e ≡ 0 → true ≡ stretchHolds rule (before s (At e))
-none-holds rule s e h = rw h
-
 -- ---------------------------------------------------------------------------
 -- Hyphens counted
 
@@ -315,23 +311,112 @@ after-counted (suc k) (b ∷ s) = go (eqb b 45) (after-counted k s) (after-count
     go true f g = counted-later (suc (hyphensIn s)) (suc k) b s (afterHyphens k s) (counted-hyphen (hyphensIn s) k s (afterHyphens k s) f)
     go false f g = counted-later (hyphensIn s) (suc k) b s (afterHyphens (suc k) s) g
 
--- after k hyphens there are k fewer
-after-left : (k : ℕ) (s : List ℕ) (a : ℕ) → At a ≡ afterHyphens k s → hyphensIn s ≡ k + hyphensIn (drop a s)
-after-left k s a e = rw (← e) at (after-counted k s)
-
 -- no place stands after more hyphens than there are
-after-few : (k : ℕ) (s : List ℕ) → hyphensIn s < k → Nothing ≡ afterHyphens k s
+pub after-few : (k : ℕ) (s : List ℕ) → hyphensIn s < k → Nothing ≡ afterHyphens k s
 after-few k s h = go (afterHyphens k s) (after-counted k s)
   where
     go : (f : Found) → Counted (hyphensIn s) k s f → Nothing ≡ f
     go (At a) e = absurd (omega arith)
     go Nothing e = refl
 
--- a group after more hyphens than there are is not checked
-pub group-absent : (g : Group) (s : List ℕ) → hyphensIn s < g .skipped → true ≡ groupHolds g s
-group-absent g s h = ap (heldFrom g s) (after-few (g .skipped) s h)
+-- one stands after as many as there are, or fewer
+pub after-many : (k : ℕ) (s : List ℕ) → k ≤ hyphensIn s → At (foundAt (afterHyphens k s)) ≡ afterHyphens k s
+after-many k s h = go (afterHyphens k s) (after-counted k s)
+  where
+    go : (f : Found) → Counted (hyphensIn s) k s f → At (foundAt f) ≡ f
+    go (At a) e = refl
+    go Nothing e = absurd (omega arith)
 
--- nor is one that joins no part
+-- ---------------------------------------------------------------------------
+-- A group's end, looked for from the beginning of the text
+
+-- a place that was found in the text from place a on, and where it lies in the whole
+abbrev Beyond : ℕ → Found → Found → Type 0
+Beyond a (At b) (At z) = z ≡ a + b
+Beyond a (At b) Nothing = ⊥
+Beyond a Nothing (At z) = ⊥
+Beyond a Nothing Nothing = Unit
+
+beyond-none : (f : Found) → Beyond 0 f f
+beyond-none (At b) = sym (zero-add b)
+beyond-none Nothing = tt
+
+-- a byte more before it
+beyond-later : (a : ℕ) (f z : Found) → Beyond a f z → Beyond (suc a) f (later z)
+beyond-later a (At b) (At z) h = omega arith
+beyond-later a (At b) Nothing h = h
+beyond-later a Nothing (At z) h = h
+beyond-later a Nothing Nothing h = h
+
+-- z is the place that is found after j hyphens more than stand before a place
+abbrev More : ℕ → List ℕ → Found → Found → Type 0
+More j s z (At a) = Beyond a (afterHyphens j (drop a s)) z
+More j s z Nothing = Unit
+
+-- a byte more before both
+more-later : (j b : ℕ) (s : List ℕ) (z f : Found) → More j s z f → More j (b ∷ s) (later z) (later f)
+more-later j b s z (At a) h = beyond-later a (afterHyphens j (drop a s)) z h
+more-later j b s z Nothing h = h
+
+after-more : (k j : ℕ) (s : List ℕ) → More j s (afterHyphens (k + j) s) (afterHyphens k s)
+unfolding afterHyphens
+after-more zero j s = rw (zero-add j) (beyond-none (afterHyphens j s))
+after-more (suc k) j [] = tt
+after-more (suc k) j (b ∷ s) = rw (suc-add k j) (go (eqb b 45) (after-more k j s) (rw (suc-add k j) at (after-more (suc k) j s)))
+  where
+    go : (h : Bool) → More j s (afterHyphens (k + j) s) (afterHyphens k s) → More j s (afterHyphens (suc (k + j)) s) (afterHyphens (suc k) s) →
+        More j (b ∷ s) (later (cond h (afterHyphens (k + j) s) (afterHyphens (suc (k + j)) s))) (later (cond h (afterHyphens k s) (afterHyphens (suc k) s)))
+    go true f g = more-later j b s (afterHyphens (k + j) s) (afterHyphens k s) f
+    go false f g = more-later j b s (afterHyphens (suc (k + j)) s) (afterHyphens (suc k) s) g
+
+-- a place is not the first of the text
+abbrev Above : Found → Type 0
+Above (At a) = 0 < a
+Above Nothing = Unit
+
+above-later : (f : Found) → Above (later f)
+above-later (At a) = omega arith
+above-later Nothing = tt
+
+after-above : (k : ℕ) (s : List ℕ) → 0 < k → Above (afterHyphens k s)
+unfolding afterHyphens
+after-above zero s h = absurd (omega arith)
+after-above (suc k) [] h = tt
+after-above (suc k) (b ∷ s) h = above-later (cond (eqb b 45) (afterHyphens k s) (afterHyphens (suc k) s))
+
+-- from the place after k hyphens on
+module _ (k j : ℕ) (s : List ℕ) (a : ℕ) (e : At a ≡ afterHyphens k s) where
+  -- as seen from there
+  from-there : Beyond a (afterHyphens j (drop a s)) (afterHyphens (k + j) s)
+  from-there = rw (← e) at (after-more k j s)
+
+  -- the place after j hyphens more
+  module _ (z : ℕ) (f : At z ≡ afterHyphens (k + j) s) where
+    -- lies behind it
+    pub ends-above : 0 < j → a < z
+    ends-above h = go (afterHyphens j (drop a s)) (after-above j (drop a s) h) (rw (← f) at from-there)
+      where
+        go : (p : Found) → Above p → Beyond a p (At z) → a < z
+        go (At b) g i = omega arith
+        go Nothing g i = absurd i
+
+    -- and ends what stands before it
+    ends-before : take (z - 1 - a) (drop a s) ≡ before (drop a s) (afterHyphens j (drop a s))
+    ends-before = go (afterHyphens j (drop a s)) (rw (← f) at from-there)
+      where
+        go : (p : Found) → Beyond a p (At z) → take (z - 1 - a) (drop a s) ≡ before (drop a s) p
+        go (At b) i = let m : z - 1 - a ≡ b - 1 = omega arith in ap (λ (n : ℕ). take n (drop a s)) m
+        go Nothing i = absurd i
+
+  -- where there is none, nothing ends it
+  ends-nowhere : Nothing ≡ afterHyphens (k + j) s → drop a s ≡ before (drop a s) (afterHyphens j (drop a s))
+  ends-nowhere f = go (afterHyphens j (drop a s)) (rw (← f) at from-there)
+    where
+      go : (p : Found) → Beyond a p Nothing → drop a s ≡ before (drop a s) p
+      go (At b) i = absurd i
+      go Nothing i = refl
+
+-- a group that joins no part is not checked
 pub group-empty : (g : Group) (s : List ℕ) → g .joins ≡ 0 → true ≡ groupHolds g s
 unfolding afterHyphens
 group-empty g s h = go (afterHyphens (g .skipped) s)
@@ -342,15 +427,13 @@ group-empty g s h = go (afterHyphens (g .skipped) s)
 
 -- a group from place a on
 module _ (g : Group) (s : List ℕ) (a : ℕ) (r : Bool) (e : At a ≡ afterHyphens (g .skipped) s) where
-  -- is the head of what stands there
-  pub group-found : r ≡ headHolds (g .rule) (g .joins) (take (length s - a) (drop a s)) → r ≡ groupHolds g s
-  group-found h = h ∙ ap (headHolds (g .rule) (g .joins)) (to-the-end a s) ∙ ap (heldFrom g s) e
+  -- is what stands before the hyphen that ends it
+  pub group-ended : (z : ℕ) → At z ≡ afterHyphens (g .skipped + g .joins) s → r ≡ stretchHolds (g .rule) (take (z - 1 - a) (drop a s)) → r ≡ groupHolds g s
+  group-ended z f h = h ∙ ap (stretchHolds (g .rule)) (ends-before (g .skipped) (g .joins) s a e z f) ∙ ap (heldFrom g s) e
 
-  -- and the whole of it, where it has fewer hyphens than the group joins parts
-  pub group-last : hyphensIn s - g .skipped < g .joins → r ≡ stretchHolds (g .rule) (take (length s - a) (drop a s)) → r ≡ groupHolds g s
-  group-last f h =
-      let few : hyphensIn (drop a s) < g .joins = omega (arith, after-left (g .skipped) s a e) in
-      h ∙ ap (stretchHolds (g .rule)) (to-the-end a s) ∙ ap (λ (p : Found). stretchHolds (g .rule) (before (drop a s) p)) (after-few (g .joins) (drop a s) few) ∙ ap (heldFrom g s) e
+  -- and all that stands there, where none does
+  pub group-last : Nothing ≡ afterHyphens (g .skipped + g .joins) s → r ≡ stretchHolds (g .rule) (take (length s - a) (drop a s)) → r ≡ groupHolds g s
+  group-last f h = h ∙ ap (stretchHolds (g .rule)) (to-the-end a s ∙ ends-nowhere (g .skipped) (g .joins) s a e f) ∙ ap (heldFrom g s) e
 
 -- ---------------------------------------------------------------------------
 -- The groups, from group i on

@@ -12,10 +12,10 @@ use Rattle.reference.proofs.all_hold.Statement.{statement}
 use Rattle.reference.proofs.all_hold.Tie as tie
 
 abbrev Inv-loop : tie.InvT-loop
-Inv-loop hyphens s groups i₀ i = (i ≤ 4) × (groupsHold groups s ≡ groupsHold (drop i groups) s)
+Inv-loop h s groups i₀ i = (i ≤ 4) × (groupsHold groups s ≡ groupsHold (drop i groups) s)
 
 abbrev μ-loop : tie.MeasureT-loop
-μ-loop hyphens s groups i₀ i = 4 - i
+μ-loop h s groups i₀ i = 4 - i
 
 loop-holds : tie.Need-loop-holds Inv-loop μ-loop
 loop-holds c = (omega arith, refl)

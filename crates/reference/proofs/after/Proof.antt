@@ -1,0 +1,41 @@
+-- `reference::after` meets its contract: with fewer hyphens there is no place, and else the one that is known or sought. Assumes nothing.
+use mathlib.Core.Path.{_≡_, sym, ap, _∙_}
+use Prim.Native.Nat.{ℕ, _≤_}
+use mathlib.Core.List.{List}
+use native.Mathlib.Omega.{arith}
+use borrow.Author.Needs.{needs}
+use Rattle.text.specs.declared.Found.the-variants.{At}
+use Rattle.reference.specs.declared.Hyphens.{Hyphens}
+use Rattle.reference.specs.Groups.{afterHyphens, hyphensIn, foundAt, hyphensOf}
+use Rattle.reference.proofs.Laws.{after-few, after-many}
+use Rattle.reference.proofs.after.Statement.{statement}
+use Rattle.reference.proofs.after.Tie as tie
+
+returns : tie.Need-returns
+returns c =
+    let a = c .before .before in
+    after-few (a .args .k) (a .args .s .now) (rw (a .pre) at (c .if1 .taken))
+
+seek-requires : tie.Need-seek-requires
+seek-requires c κs = search needs
+
+returns-2 : tie.Need-returns-2
+returns-2 c =
+    let a = c .before .before .before in
+    ?
+
+returns-3 : tie.Need-returns-3
+returns-3 c =
+    let a = c .before .before .before in
+    ?
+
+returns-4 : tie.Need-returns-4
+returns-4 c =
+    let a = c .before .before .before in
+    ?
+
+returns-5 : tie.Need-returns-5
+returns-5 c = c .seek .ensures
+
+pub after-spec : {M : Type 1} → statement M
+after-spec = tie.close (tie.spec returns seek-requires returns-2 returns-3 returns-4 returns-5)
