@@ -20,19 +20,18 @@ seek-requires : tie.Need-seek-requires
 seek-requires c κs = search needs
 
 returns-2 : tie.Need-returns-2
-returns-2 c =
-    let a = c .before .before .before in
-    ?
+unfolding afterHyphens
+returns-2 c = rw (c .match .keys1)
 
 returns-3 : tie.Need-returns-3
 returns-3 c =
     let a = c .before .before .before in
-    ?
+    rw (c .match .keys2, a .pre) (after-many 1 (a .args .s .now) (rw (c .match .keys2, a .pre) at (c .before .if1 .left)))
 
 returns-4 : tie.Need-returns-4
 returns-4 c =
     let a = c .before .before .before in
-    ?
+    rw (c .match .keys3, a .pre) (after-many 2 (a .args .s .now) (rw (c .match .keys3, a .pre) at (c .before .if1 .left)))
 
 returns-5 : tie.Need-returns-5
 returns-5 c = c .seek .ensures

@@ -26,7 +26,7 @@ enum-known-a : tie.Need-enum-known-a
 enum-known-a c = search needs
 
 add-after : tie.Need-add-after
-add-after c = ?
+add-after c = omega arith
 
 after-requires-2 : tie.Need-after-requires-2
 after-requires-2 c κs = search needs
@@ -35,16 +35,27 @@ enum-known-e : tie.Need-enum-known-e
 enum-known-e c = search needs
 
 sub-stretch-holds : tie.Need-sub-stretch-holds
-sub-stretch-holds c = ?
+sub-stretch-holds c =
+    let n = c .before in
+    let d = n .before .before .before .before in
+    let behind = ends-above _ (d .before .before .before .before .wide2 .result) _ _ (sym (d .a .given .1) ∙ d .before .before .after .ensures) _ (sym (n .e .given .1) ∙ n .before .before .after2 .ensures) (omega arith) in
+    omega arith
 
 sub-stretch-holds-2 : tie.Need-sub-stretch-holds-2
-sub-stretch-holds-2 c = ?
+sub-stretch-holds-2 c =
+    let n = c .before in
+    let d = n .before .before .before .before in
+    let behind = ends-above _ (d .before .before .before .before .wide2 .result) _ _ (sym (d .a .given .1) ∙ d .before .before .after .ensures) _ (sym (n .e .given .1) ∙ n .before .before .after2 .ensures) (omega arith) in
+    omega arith
 
 part-stretch-holds-start : tie.Need-part-stretch-holds-start
-part-stretch-holds-start c = ?
+part-stretch-holds-start c = sub-stretch-holds-2 c
 
 part-stretch-holds-end : tie.Need-part-stretch-holds-end
-part-stretch-holds-end c = ?
+part-stretch-holds-end c =
+    let n = c .before in
+    let within = found-within _ _ _ (sym (n .e .given .1) ∙ n .before .before .after2 .ensures) in
+    omega arith
 
 stretch-holds-requires : tie.Need-stretch-holds-requires
 stretch-holds-requires c κs = search needs
@@ -68,7 +79,16 @@ enum-told-2 : tie.Need-enum-told-2
 enum-told-2 c = search needs
 
 returns-2 : tie.Need-returns-2
-returns-2 c = ?
+returns-2 c =
+    let n = c .before .before .before in
+    let d = n .before .before .before .before in
+    let w = d .before .before .before .before .before in
+    let a = w .before .before .args in
+    group-ended (a .g) (a .s .now) (d .a .given .0 .0) (c .stretch-holds .result)
+    (sym (d .a .given .1) ∙ (rw (w .wide .ensures) at (d .before .before .after .ensures)))
+    (n .e .given .0 .0)
+    (sym (n .e .given .1) ∙ (rw (w .wide .ensures, d .before .before .before .before .wide2 .ensures) at (n .before .before .after2 .ensures)))
+    (c .stretch-holds .ensures)
 
 returns-3 : tie.Need-returns-3
 returns-3 c =
