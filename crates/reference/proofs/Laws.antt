@@ -328,15 +328,16 @@ after-many k s h = go (afterHyphens k s) (after-counted k s)
     go Nothing e = absurd (omega arith)
 
 -- ---------------------------------------------------------------------------
--- A group's end, looked for from the beginning of the text
+-- The place after more hyphens, counted from the beginning of the text
 
--- a place that was found in the text from place a on, and where it lies in the whole
+-- a place that was found in the text from place a on, and the same in the whole
 abbrev Beyond : ℕ → Found → Found → Type 0
 Beyond a (At b) (At z) = z ≡ a + b
 Beyond a (At b) Nothing = ⊥
 Beyond a Nothing (At z) = ⊥
 Beyond a Nothing Nothing = Unit
 
+-- with no byte before it
 beyond-none : (f : Found) → Beyond 0 f f
 beyond-none (At b) = sym (zero-add b)
 beyond-none Nothing = tt
@@ -348,7 +349,7 @@ beyond-later a (At b) Nothing h = h
 beyond-later a Nothing (At z) h = h
 beyond-later a Nothing Nothing h = h
 
--- z is the place that is found after j hyphens more than stand before a place
+-- z is the place after j hyphens more than stand before another
 abbrev More : ℕ → List ℕ → Found → Found → Type 0
 More j s z (At a) = Beyond a (afterHyphens j (drop a s)) z
 More j s z Nothing = Unit
@@ -358,6 +359,7 @@ more-later : (j b : ℕ) (s : List ℕ) (z f : Found) → More j s z f → More 
 more-later j b s z (At a) h = beyond-later a (afterHyphens j (drop a s)) z h
 more-later j b s z Nothing h = h
 
+-- the place after k + j hyphens is that
 after-more : (k j : ℕ) (s : List ℕ) → More j s (afterHyphens (k + j) s) (afterHyphens k s)
 unfolding afterHyphens
 after-more zero j s = rw (zero-add j) (beyond-none (afterHyphens j s))
@@ -374,10 +376,12 @@ abbrev Above : Found → Type 0
 Above (At a) = 0 < a
 Above Nothing = Unit
 
+-- with a byte before it
 above-later : (f : Found) → Above (later f)
 above-later (At a) = omega arith
 above-later Nothing = tt
 
+-- the place after some hyphen
 after-above : (k : ℕ) (s : List ℕ) → 0 < k → Above (afterHyphens k s)
 unfolding afterHyphens
 after-above zero s h = absurd (omega arith)
@@ -386,13 +390,13 @@ after-above (suc k) (b ∷ s) h = above-later (cond (eqb b 45) (afterHyphens k s
 
 -- from the place after k hyphens on
 module _ (k j : ℕ) (s : List ℕ) (a : ℕ) (e : At a ≡ afterHyphens k s) where
-  -- as seen from there
+  -- the place after j hyphens more, as seen from there
   from-there : Beyond a (afterHyphens j (drop a s)) (afterHyphens (k + j) s)
   from-there = rw (← e) at (after-more k j s)
 
-  -- the place after j hyphens more
+  -- where there is such a place
   module _ (z : ℕ) (f : At z ≡ afterHyphens (k + j) s) where
-    -- lies behind it
+    -- it lies behind the first
     pub ends-above : 0 < j → a < z
     ends-above h = go (afterHyphens j (drop a s)) (after-above j (drop a s) h) (rw (← f) at from-there)
       where
@@ -400,7 +404,7 @@ module _ (k j : ℕ) (s : List ℕ) (a : ℕ) (e : At a ≡ afterHyphens k s) wh
         go (At b) g i = omega arith
         go Nothing g i = absurd i
 
-    -- and ends what stands before it
+    -- and what stands between the two is the text before the last of the j hyphens
     ends-before : take (z - 1 - a) (drop a s) ≡ before (drop a s) (afterHyphens j (drop a s))
     ends-before = go (afterHyphens j (drop a s)) (rw (← f) at from-there)
       where
@@ -408,13 +412,16 @@ module _ (k j : ℕ) (s : List ℕ) (a : ℕ) (e : At a ≡ afterHyphens k s) wh
         go (At b) i = let m : z - 1 - a ≡ b - 1 = omega arith in ap (λ (n : ℕ). take n (drop a s)) m
         go Nothing i = absurd i
 
-  -- where there is none, nothing ends it
+  -- where there is none, that text is all the rest
   ends-nowhere : Nothing ≡ afterHyphens (k + j) s → drop a s ≡ before (drop a s) (afterHyphens j (drop a s))
   ends-nowhere f = go (afterHyphens j (drop a s)) (rw (← f) at from-there)
     where
       go : (p : Found) → Beyond a p Nothing → drop a s ≡ before (drop a s) p
       go (At b) i = absurd i
       go Nothing i = refl
+
+-- ---------------------------------------------------------------------------
+-- A group by its beginning and its end
 
 -- a group that joins no part is not checked
 pub group-empty : (g : Group) (s : List ℕ) → g .joins ≡ 0 → true ≡ groupHolds g s

@@ -1,12 +1,6 @@
 -- `reference::after` meets its contract: with fewer hyphens there is no place, and else the one that is known or sought. Assumes nothing.
-use mathlib.Core.Path.{_≡_, sym, ap, _∙_}
-use Prim.Native.Nat.{ℕ, _≤_}
-use mathlib.Core.List.{List}
-use native.Mathlib.Omega.{arith}
 use borrow.Author.Needs.{needs}
-use Rattle.text.specs.declared.Found.the-variants.{At}
-use Rattle.reference.specs.declared.Hyphens.{Hyphens}
-use Rattle.reference.specs.Groups.{afterHyphens, hyphensIn, foundAt, hyphensOf}
+use Rattle.reference.specs.Groups.{afterHyphens}
 use Rattle.reference.proofs.Laws.{after-few, after-many}
 use Rattle.reference.proofs.after.Statement.{statement}
 use Rattle.reference.proofs.after.Tie as tie
