@@ -77,21 +77,36 @@ abbrev pub Bytes : List ℕ → Type 0
 Bytes xs = (i : ℕ) → Fits w8 (getD xs i 0)
 
 -- a part that fits has a byte's size
-pub fits-byte : (lengths : List ℕ) (n : ℕ) → Bytes lengths → fitsNext lengths n ≡ true → n < 256
+fits-byte : (lengths : List ℕ) (n : ℕ) → Bytes lengths → fitsNext lengths n ≡ true → n < 256
 fits-byte lengths n h e =
     let f = both-true (ltb 1 (length lengths)) (ltb 0 n && (leb (getD lengths 0 0) n && leb n (getD lengths 1 0))) e .1 in
     let g = both-true (ltb 0 n) (leb (getD lengths 0 0) n && leb n (getD lengths 1 0)) f .1 in
     omega (arith, h 1 .fits, leb-true n (getD lengths 1 0) (both-true (leb (getD lengths 0 0) n) (leb n (getD lengths 1 0)) g .1))
 
--- with its size there is room for those after it
-pub room-left : (lengths : List ℕ) (sizes n : ℕ) → Roomy lengths sizes → 1 < length lengths → n < 256 → Roomy (drop 2 lengths) (sizes * 256 + n)
-room-left lengths sizes n r h b =
-    let l : length (drop 2 lengths) ≡ length lengths - 2 = length-drop 2 lengths in
-    (omega (arith, r .0),
-    ((λ (g : 6 < length (drop 2 lengths)). absurd (omega (arith, r .0))),
-    ((λ (g : 4 < length (drop 2 lengths)). let z = r .1 .0 (omega arith) in omega arith),
-    ((λ (g : 2 < length (drop 2 lengths)). let z = r .1 .1 .0 (omega arith) in omega arith),
-    λ (g : 0 < length (drop 2 lengths)). let z = r .1 .1 .1 .0 (omega arith) in omega arith))))
+-- there is room for the size of a part that fits
+module _ (lengths : List ℕ) (n sizes : ℕ) (h : Bytes lengths) (r : Roomy lengths sizes) (e : fitsNext lengths n ≡ true) where
+  pub room-for : sizes * 256 + n < 4294967296
+  room-for =
+      let z = r .1 .1 .1 .1 (omega (arith, fits-lengths lengths n e)) in
+      omega (arith, fits-byte lengths n h e)
+
+  -- and then for those after it
+  pub room-left : Roomy (drop 2 lengths) (sizes * 256 + n)
+  room-left =
+      let b = fits-byte lengths n h e in
+      let l : length (drop 2 lengths) ≡ length lengths - 2 = length-drop 2 lengths in (
+        omega (arith, r .0),
+        (
+          (λ (g : 6 < length (drop 2 lengths)). absurd (omega (arith, r .0))),
+          (
+            (λ (g : 4 < length (drop 2 lengths)). let z = r .1 .0 (omega arith) in omega arith),
+            (
+              (λ (g : 2 < length (drop 2 lengths)). let z = r .1 .1 .0 (omega arith) in omega arith),
+              λ (g : 0 < length (drop 2 lengths)). let z = r .1 .1 .1 .0 (omega arith) in omega arith,
+            ),
+          ),
+        ),
+      )
 
 -- ---------------------------------------------------------------------------
 -- What the readers read are the parts

@@ -10,7 +10,7 @@ use lib.ListN.{length, drop, length-drop}
 use borrow.Author.Tests.{lt-ltb, le-ltb}
 use Rattle.text.proofs.Laws.{left, entered, to-the-end}
 use Rattle.reference.specs.Readers.{digitRead}
-use Rattle.reference.proofs.Laws.{fits-lengths, fits-byte, room-left, last-fits, last-breaks, hyphen-fits, hyphen-breaks, digit-reads, other-breaks}
+use Rattle.reference.proofs.Laws.{fits-lengths, room-for, room-left, last-fits, last-breaks, hyphen-fits, hyphen-breaks, digit-reads, other-breaks}
 use borrow.Fn.Kinds.{In}
 use borrow.Fn.PlainCycle.{Measures, is, falls, and}
 use Rattle.reference.proofs.digit.Reads as digit
@@ -76,14 +76,14 @@ pub +digit+part-spec : {M : Type 1} → statement M
     (λ c. fits-lengths (c .before .before .before .before .before .before .before .before .before .before .before .args .lengths .now) (c .before .before .before .before .before .before .before .before .loop .n) (sym (c .before .before .fits2 .ensures) ∙ c .before .if3 .taken))  -- digit-sub-part-2
     (λ c. fits-lengths (c .before .before .before .before .before .before .before .before .before .before .before .args .lengths .now) (c .before .before .before .before .before .before .before .before .loop .n) (sym (c .before .before .fits2 .ensures) ∙ c .before .if3 .taken))  -- digit-part-part-start-2
     (λ c. search needs)  -- digit-part-part-end-2
-    (λ c. let z = c .before .before .before .before .before .before .before .before .before .before .before .before in let a = z .args in let l = c .before .before .before .before .before .before .before .before .before .loop in let f = sym (c .before .before .before .fits2 .ensures) ∙ c .before .before .if3 .taken in let g = fits-lengths (a .lengths .now) (l .n) f in let b = fits-byte (a .lengths .now) (l .n) (c .before .before .before .before .before .before .before .before .before .before .shared-slice-known2 .given) f in let r = z .pre .1 .1 .1 .1 .1 (omega arith) in omega arith)  -- digit-mul-part
-    (λ c. let z = c .before .before .before .before .before .before .before .before .before .before .before .before in let a = z .args in let l = c .before .before .before .before .before .before .before .before .before .loop in let f = sym (c .before .before .before .fits2 .ensures) ∙ c .before .before .if3 .taken in let g = fits-lengths (a .lengths .now) (l .n) f in let b = fits-byte (a .lengths .now) (l .n) (c .before .before .before .before .before .before .before .before .before .before .shared-slice-known2 .given) f in let r = z .pre .1 .1 .1 .1 .1 (omega arith) in omega arith)  -- digit-add-part-2
-    (λ c κs. let z = c .before .before .before .before .before .before .before .before .before .before .before .before in let a = z .args in let l = c .before .before .before .before .before .before .before .before .before .loop in let f = sym (c .before .before .before .fits2 .ensures) ∙ c .before .before .if3 .taken in let g = fits-lengths (a .lengths .now) (l .n) f in let b = fits-byte (a .lengths .now) (l .n) (c .before .before .before .before .before .before .before .before .before .before .shared-slice-known2 .given) f in (rw (to-the-end (l .n + 1) (a .s .now), length-drop (l .n + 1) (a .s .now)) (omega arith), rw (to-the-end 2 (a .lengths .now)) (room-left (a .lengths .now) (a .sizes) (l .n) (z .pre .1) g b)))  -- digit-part-requires
+    (λ c. let z = c .before .before .before .before .before .before .before .before .before .before .before .before in let a = z .args in let l = c .before .before .before .before .before .before .before .before .before .loop in omega (arith, room-for (a .lengths .now) (l .n) (a .sizes) (c .before .before .before .before .before .before .before .before .before .before .shared-slice-known2 .given) (z .pre .1) (sym (c .before .before .before .fits2 .ensures) ∙ c .before .before .if3 .taken)))  -- digit-mul-part
+    (λ c. let z = c .before .before .before .before .before .before .before .before .before .before .before .before in let a = z .args in let l = c .before .before .before .before .before .before .before .before .before .loop in omega (arith, room-for (a .lengths .now) (l .n) (a .sizes) (c .before .before .before .before .before .before .before .before .before .before .shared-slice-known2 .given) (z .pre .1) (sym (c .before .before .before .fits2 .ensures) ∙ c .before .before .if3 .taken)))  -- digit-add-part-2
+    (λ c κs. let z = c .before .before .before .before .before .before .before .before .before .before .before .before in let a = z .args in let l = c .before .before .before .before .before .before .before .before .before .loop in (rw (to-the-end (l .n + 1) (a .s .now), length-drop (l .n + 1) (a .s .now)) (omega arith), rw (to-the-end 2 (a .lengths .now)) (room-left (a .lengths .now) (l .n) (a .sizes) (c .before .before .before .before .before .before .before .before .before .before .shared-slice-known2 .given) (z .pre .1) (sym (c .before .before .before .fits2 .ensures) ∙ c .before .before .if3 .taken))))  -- digit-part-requires
     (λ c. let a = c .before .before .before .before .before .before .before .before .before .before .before .before .before .args in let l = c .before .before .before .before .before .before .before .before .before .before .loop in hyphen-fits (a .lengths .now) (l .n) (a .sizes) (a .s .now) (c .before .before .before .before .before .before .before .before .before .loop-test .taken) _ (c .before .before .before .before .before .if2 .left) (sym (c .before .before .before .before .fits2 .ensures) ∙ c .before .before .before .if3 .taken) (c .part .ensures) ∙ sym (l .inv .1))  -- digit-returns-2
     (λ c. let a = c .before .before .before .before .before .before .before .before .before .before .args in let l = c .before .before .before .before .before .before .before .loop in hyphen-breaks (a .lengths .now) (l .n) (a .sizes) (a .s .now) (c .before .before .before .before .before .before .loop-test .taken) (c .before .before .if2 .left) (sym (c .before .fits2 .ensures) ∙ c .if3 .left) ∙ sym (l .inv .1))  -- digit-returns-3
     (λ c κs. search needs)  -- digit-fits-requires-2
-    (λ c. let z = c .before .before .before .before .before .before in let a = z .args in let l = c .before .before .before .loop in let f = sym (c .before .fits3 .ensures) ∙ c .if4 .taken in let g = fits-lengths (a .lengths .now) (l .n) f in let b = fits-byte (a .lengths .now) (l .n) (c .before .before .before .before .shared-slice-known2 .given) f in let r = z .pre .1 .1 .1 .1 .1 (omega arith) in omega arith)  -- digit-mul-result
-    (λ c. let z = c .before .before .before .before .before .before in let a = z .args in let l = c .before .before .before .loop in let f = sym (c .before .fits3 .ensures) ∙ c .if4 .taken in let g = fits-lengths (a .lengths .now) (l .n) f in let b = fits-byte (a .lengths .now) (l .n) (c .before .before .before .before .shared-slice-known2 .given) f in let r = z .pre .1 .1 .1 .1 .1 (omega arith) in omega arith)  -- digit-add-result
+    (λ c. let z = c .before .before .before .before .before .before in let a = z .args in let l = c .before .before .before .loop in omega (arith, room-for (a .lengths .now) (l .n) (a .sizes) (c .before .before .before .before .shared-slice-known2 .given) (z .pre .1) (sym (c .before .fits3 .ensures) ∙ c .if4 .taken)))  -- digit-mul-result
+    (λ c. let z = c .before .before .before .before .before .before in let a = z .args in let l = c .before .before .before .loop in omega (arith, room-for (a .lengths .now) (l .n) (a .sizes) (c .before .before .before .before .shared-slice-known2 .given) (z .pre .1) (sym (c .before .fits3 .ensures) ∙ c .if4 .taken)))  -- digit-add-result
     (λ c. let a = c .before .before .before .before .before .before .args in let l = c .before .before .before .loop in last-fits (a .lengths .now) (l .n) (a .sizes) (a .s .now) (c .before .before .loop-test .left) (sym (c .before .fits3 .ensures) ∙ c .if4 .taken) ∙ sym (l .inv .1))  -- digit-returns-4
     (λ c. let a = c .before .before .before .before .before .before .args in let l = c .before .before .before .loop in last-breaks (a .lengths .now) (l .n) (a .sizes) (a .s .now) (c .before .before .loop-test .left) (sym (c .before .fits3 .ensures) ∙ c .if4 .left) ∙ sym (l .inv .1)))  -- digit-returns-5
     λ t. part-lts.spec

@@ -1,5 +1,4 @@
 -- `reference::between` meets its contract: each return is the definition's on the tests that led there. Assumes nothing.
-use mathlib.Core.Path.{_∙_}
 use borrow.Author.Tests.{lt-ltb, le-ltb}
 use Rattle.text.proofs.Laws.{entered, left}
 use borrow.Author.Needs.{needs}

@@ -1,5 +1,5 @@
 -- `reference::judged_text` meets its contract: an empty text is the definition's choice on the fewest parts, what is formed has no byte
--- for 3 and a hyphen less than parts, and what is not formed fails by 3, 4 or 8. Assumes nothing.
+-- for 3 and its hyphens between its parts, and what is not formed fails by 3, 4 or 8. Assumes nothing.
 use mathlib.Core.Path.{_≡_, refl, _∙_}
 use Prim.Native.Nat.{_≤_}
 use native.Mathlib.Omega.{arith}
