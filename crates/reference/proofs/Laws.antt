@@ -4,20 +4,22 @@ use mathlib.Core.Path.{_≡_, refl, sym, ap, _∙_}
 use mathlib.Core.Bool.{Bool, true, false, cond, not, _&&_, and-true, and-false, and-assoc, false≢true}
 use mathlib.Core.List.{List, [], _∷_, _++_}
 use mathlib.Core.Logic.{_⊎_, inl, inr, ⊎-elim}
-use Prim.Native.Nat.{ℕ, zero, suc, _+_, _-_, _≤_, _<_}
+use Prim.Native.Nat.{ℕ, zero, suc, _+_, _*_, _-_, _/_, _%_, _≤_, _<_}
 use native.Mathlib.Numerals.{add-one}
 use native.Mathlib.Omega.{arith}
 use native.Mathlib.Nat.{add-zero, zero-add, suc-add}
 use lib.Dec.{eqb, leb, ltb, eqb·suc-zero, leb·suc-zero}
-use lib.ListN.{length, take, drop, getD, drop-of-length-le}
+use lib.ListN.{length, take, drop, getD, drop-of-length-le, length-drop}
 use lib.Seq.{drop-cons, drop-length, drop-nil, take-nil}
-use borrow.Author.Tests.{eq-eqb, ne-eqb, eqb-true, lt-ltb, le-leb, ltb-true}
+use mir.Syntax.{w8}
+use mir.Val.{Fits}
+use borrow.Author.Tests.{eq-eqb, ne-eqb, eqb-true, lt-ltb, le-ltb, le-leb, leb-true, ltb-true}
 use Rattle.text.specs.Bytes.{isDigit, allOf, later, firstBad}
 use Rattle.text.specs.Digits.{digitsOf}
 use Rattle.text.specs.declared.Class.the-variants.{Digits, Reference}
 use Rattle.text.specs.declared.Found.{Found}
 use Rattle.text.specs.declared.Found.the-variants.{At, Nothing}
-use Rattle.text.proofs.Laws.{to-the-end, taken, left, entered, both-true, digit-bounds, shifted, shifted-later}
+use Rattle.text.proofs.Laws.{to-the-end, taken, left, entered, both-true, digit-bounds, shifted, shifted-zero, shifted-later}
 use Rattle.check_digits.specs.declared.Rule.{Rule}
 use Rattle.check_digits.specs.CheckDigit.{checkDigit, passes}
 use Rattle.check_digits.proofs.Theorems.{passes-snoc}
@@ -27,10 +29,11 @@ use Rattle.refusal.specs.Refusal.{none}
 use Rattle.refusal.specs.declared.Answer.the-variants.{Accepted, Refused}
 use Rattle.refusal.specs.declared.Refusal.the-variants.{Parts as WrongParts, Digit}
 use Rattle.text.specs.Split.{longer, split}
+use Rattle.reference.specs.declared.Hyphens.{Hyphens}
 use Rattle.reference.specs.Parts.{partsOf, partsFit, formed, joined, present, groupRight, groupsRight}
-use Rattle.reference.specs.Readers.{fitsNext, begun, digitRead, partRead, partsFound}
+use Rattle.reference.specs.Readers.{fitsNext, begun, digitRead, partRead, Roomy, sizesFrom, partsFound, partsIn, hyphensBetween}
 use Rattle.reference.specs.Answers.{groupsAnswer, obeyAnswer, unformedAnswer, textAnswer}
-use Rattle.reference.specs.Groups.{afterHyphens, hyphensIn, foundAt, stretchHolds, before, headHolds, heldFrom, groupHolds, groupsHold}
+use Rattle.reference.specs.Groups.{afterHyphens, hyphensIn, foundAt, hyphensOf, stretchHolds, before, headHolds, heldFrom, groupHolds, groupsHold}
 
 -- ---------------------------------------------------------------------------
 -- The readers' turns
@@ -40,34 +43,70 @@ pub fits-lengths : (lengths : List ℕ) (n : ℕ) → fitsNext lengths n ≡ tru
 fits-lengths lengths n e = ltb-true 1 (length lengths) (both-true _ _ e .0)
 
 -- after n digits of a part
-module _ (lengths : List ℕ) (n count : ℕ) (s : List ℕ) where
+module _ (lengths : List ℕ) (n sizes : ℕ) (s : List ℕ) where
   -- the text is at its end
   module _ (h : length s ≤ n) where
-    pub last-fits : fitsNext lengths n ≡ true → count + 1 ≡ digitRead lengths n count (drop n s)
+    pub last-fits : fitsNext lengths n ≡ true → sizes * 256 + n ≡ digitRead lengths n sizes (drop n s)
     unfolding digitRead
     last-fits e = rw (drop-of-length-le s h) (taken _ _ _ e)
 
-    pub last-breaks : fitsNext lengths n ≡ false → 0 ≡ digitRead lengths n count (drop n s)
+    pub last-breaks : fitsNext lengths n ≡ false → 0 ≡ digitRead lengths n sizes (drop n s)
     unfolding digitRead
     last-breaks e = rw (drop-of-length-le s h) (left _ _ _ _ e refl)
 
   -- a byte more
   module _ (h : n < length s) where
-    pub hyphen-fits : (r : ℕ) → getD s n 0 ≡ 45 → fitsNext lengths n ≡ true → r ≡ partRead (take (length lengths - 2) (drop 2 lengths)) (count + 1) (take (length s - (n + 1)) (drop (n + 1) s)) → r ≡ digitRead lengths n count (drop n s)
+    pub hyphen-fits : (r : ℕ) → getD s n 0 ≡ 45 → fitsNext lengths n ≡ true → r ≡ partRead (take (length lengths - 2) (drop 2 lengths)) (sizes * 256 + n) (take (length s - (n + 1)) (drop (n + 1) s)) → r ≡ digitRead lengths n sizes (drop n s)
     unfolding digitRead
     hyphen-fits r g e f = rw (drop-cons s n 0 h) (entered _ _ _ _ (eq-eqb (getD s n 0) 45 g) (entered _ _ _ _ e (rw (to-the-end 2 lengths, to-the-end (n + 1) s, add-one n) at f)))
 
-    pub hyphen-breaks : getD s n 0 ≡ 45 → fitsNext lengths n ≡ false → 0 ≡ digitRead lengths n count (drop n s)
+    pub hyphen-breaks : getD s n 0 ≡ 45 → fitsNext lengths n ≡ false → 0 ≡ digitRead lengths n sizes (drop n s)
     unfolding digitRead
     hyphen-breaks g e = rw (drop-cons s n 0 h) (entered _ _ _ _ (eq-eqb (getD s n 0) 45 g) (left _ _ _ _ e refl))
 
-    pub digit-reads : isDigit (getD s n 0) ≡ true → digitRead lengths n count (drop n s) ≡ digitRead lengths (n + 1) count (drop (n + 1) s)
+    pub digit-reads : isDigit (getD s n 0) ≡ true → digitRead lengths n sizes (drop n s) ≡ digitRead lengths (n + 1) sizes (drop (n + 1) s)
     unfolding digitRead
     digit-reads e = let d = digit-bounds (getD s n 0) e in rw (drop-cons s n 0 h, ne-eqb (getD s n 0) 45 (λ (z : getD s n 0 ≡ 45). omega arith), e, add-one n)
 
-    pub other-breaks : (getD s n 0 ≡ 45 → ⊥) → isDigit (getD s n 0) ≡ false → 0 ≡ digitRead lengths n count (drop n s)
+    pub other-breaks : (getD s n 0 ≡ 45 → ⊥) → isDigit (getD s n 0) ≡ false → 0 ≡ digitRead lengths n sizes (drop n s)
     unfolding digitRead
     other-breaks g e = rw (drop-cons s n 0 h) (left _ _ _ _ (ne-eqb (getD s n 0) 45 g) (left _ _ _ _ e refl))
+
+-- each number is a byte's
+abbrev pub Bytes : List ℕ → Type 0
+Bytes xs = (i : ℕ) → Fits w8 (getD xs i 0)
+
+-- a part that fits has a byte's size
+fits-byte : (lengths : List ℕ) (n : ℕ) → Bytes lengths → fitsNext lengths n ≡ true → n < 256
+fits-byte lengths n h e =
+    let f = both-true (ltb 1 (length lengths)) (ltb 0 n && (leb (getD lengths 0 0) n && leb n (getD lengths 1 0))) e .1 in
+    let g = both-true (ltb 0 n) (leb (getD lengths 0 0) n && leb n (getD lengths 1 0)) f .1 in
+    omega (arith, h 1 .fits, leb-true n (getD lengths 1 0) (both-true (leb (getD lengths 0 0) n) (leb n (getD lengths 1 0)) g .1))
+
+-- there is room for the size of a part that fits
+module _ (lengths : List ℕ) (n sizes : ℕ) (h : Bytes lengths) (r : Roomy lengths sizes) (e : fitsNext lengths n ≡ true) where
+  pub room-for : sizes * 256 + n < 4294967296
+  room-for =
+      let z = r .1 .1 .1 .1 (omega (arith, fits-lengths lengths n e)) in
+      omega (arith, fits-byte lengths n h e)
+
+  -- and then for those after it
+  pub room-left : Roomy (drop 2 lengths) (sizes * 256 + n)
+  room-left =
+      let b = fits-byte lengths n h e in
+      let l : length (drop 2 lengths) ≡ length lengths - 2 = length-drop 2 lengths in (
+        omega (arith, r .0),
+        (
+          (λ (g : 6 < length (drop 2 lengths)). absurd (omega (arith, r .0))),
+          (
+            (λ (g : 4 < length (drop 2 lengths)). let z = r .1 .0 (omega arith) in omega arith),
+            (
+              (λ (g : 2 < length (drop 2 lengths)). let z = r .1 .1 .0 (omega arith) in omega arith),
+              λ (g : 0 < length (drop 2 lengths)). let z = r .1 .1 .1 .0 (omega arith) in omega arith,
+            ),
+          ),
+        ),
+      )
 
 -- ---------------------------------------------------------------------------
 -- What the readers read are the parts
@@ -76,6 +115,11 @@ module _ (lengths : List ℕ) (n count : ℕ) (s : List ℕ) where
 unfoldable restFits : List ℕ → ℕ → List (List ℕ) → Bool
 restFits lengths n [] = true
 restFits lengths n (p ∷ ps) = allOf Digits p && (fitsNext lengths (n + length p) && partsFit (drop 2 lengths) ps)
+
+-- the sizes of the parts after others, where n digits more stand before the first
+unfoldable restSizes : ℕ → ℕ → List (List ℕ) → ℕ
+restSizes sizes n [] = sizes
+restSizes sizes n (p ∷ ps) = sizesFrom (sizes * 256 + (n + length p)) ps
 
 -- a text has a first part
 pub first-part : (s : List ℕ) → (p : List ℕ) × (ps : List (List ℕ)) × (split 45 s ≡ p ∷ ps)
@@ -107,41 +151,47 @@ both true true x y z e = e
 both true false x y z e = refl
 both false u x y z e = refl
 
-module _ (lengths : List ℕ) (n count : ℕ) (b : ℕ) (s p : List ℕ) (ps : List (List ℕ)) (e : split 45 s ≡ p ∷ ps) where
+module _ (lengths : List ℕ) (n sizes : ℕ) (b : ℕ) (s p : List ℕ) (ps : List (List ℕ)) (e : split 45 s ≡ p ∷ ps) where
   -- a hyphen hands over to the next part
   read-hyphen :
-      digitRead (drop 2 lengths) 0 (count + 1) s ≡ cond (restFits (drop 2 lengths) 0 (split 45 s)) ((count + 1 + length (split 45 s))) 0 →
-      cond (fitsNext lengths n) (partRead (drop 2 lengths) (count + 1) s) 0 ≡ cond (restFits lengths n ([] ∷ split 45 s)) ((count + suc (length (split 45 s)))) 0
-  unfolding restFits allOf
+      digitRead (drop 2 lengths) 0 (sizes * 256 + n) s ≡ cond (restFits (drop 2 lengths) 0 (split 45 s)) (restSizes (sizes * 256 + n) 0 (split 45 s)) 0 →
+      cond (fitsNext lengths n) (partRead (drop 2 lengths) (sizes * 256 + n) s) 0 ≡ cond (restFits lengths n ([] ∷ split 45 s)) (restSizes sizes n ([] ∷ split 45 s)) 0
+  unfolding restFits restSizes sizesFrom allOf
   read-hyphen h =
-      let m : count + 1 + suc (length ps) ≡ count + suc (suc (length ps)) = omega arith in
-      rw (h, e, part-begins (drop 2 lengths) p ps, add-zero n) (both (fitsNext lengths n) (partsFit (drop 2 lengths) (p ∷ ps)) _ _ _ m)
+      rw (h, e, part-begins (drop 2 lengths) p ps, add-zero n, zero-add (length p)) (both (fitsNext lengths n) (partsFit (drop 2 lengths) (p ∷ ps)) _ _ _ refl)
 
   -- a digit is one more
   read-digit :
-      digitRead lengths (n + 1) count s ≡ cond (restFits lengths (n + 1) (split 45 s)) ((count + length (split 45 s))) 0 →
-      cond (isDigit b) (digitRead lengths (n + 1) count s) 0 ≡ cond (restFits lengths n (longer b (split 45 s))) ((count + length (longer b (split 45 s)))) 0
-  unfolding restFits allOf
+      digitRead lengths (n + 1) sizes s ≡ cond (restFits lengths (n + 1) (split 45 s)) (restSizes sizes (n + 1) (split 45 s)) 0 →
+      cond (isDigit b) (digitRead lengths (n + 1) sizes s) 0 ≡ cond (restFits lengths n (longer b (split 45 s))) (restSizes sizes n (longer b (split 45 s))) 0
+  unfolding restFits restSizes allOf
   read-digit h =
       let m : n + 1 + length p ≡ n + suc (length p) = omega arith in
       rw (h, e, m, and-assoc (isDigit b)) (both (isDigit b) (allOf Digits p && (fitsNext lengths (n + suc (length p)) && partsFit (drop 2 lengths) ps)) _ _ _ refl)
 
--- the digit reader counts the parts where they fit, with the digits that were read before
-read-parts : (lengths : List ℕ) (n count : ℕ) (s : List ℕ) → digitRead lengths n count s ≡ cond (restFits lengths n (split 45 s)) ((count + length (split 45 s))) 0
-unfolding digitRead restFits split partsFit allOf
-read-parts lengths n count [] = rw (add-zero n, and-true)
-read-parts lengths n count (b ∷ s) = go (eqb b 45) (first-part s) (read-parts (drop 2 lengths) 0 (count + 1) s) (read-parts lengths (n + 1) count s)
+-- the digit reader reads the sizes of the parts where they fit, with the digits that were read before
+read-parts : (lengths : List ℕ) (n sizes : ℕ) (s : List ℕ) → digitRead lengths n sizes s ≡ cond (restFits lengths n (split 45 s)) (restSizes sizes n (split 45 s)) 0
+unfolding digitRead restFits restSizes sizesFrom split partsFit allOf
+read-parts lengths n sizes [] = rw (add-zero n, and-true)
+read-parts lengths n sizes (b ∷ s) = go (eqb b 45) (first-part s) (read-parts (drop 2 lengths) 0 (sizes * 256 + n) s) (read-parts lengths (n + 1) sizes s)
   where
     go : (h : Bool) → (p : List ℕ) × (ps : List (List ℕ)) × (split 45 s ≡ p ∷ ps) →
-        digitRead (drop 2 lengths) 0 (count + 1) s ≡ cond (restFits (drop 2 lengths) 0 (split 45 s)) ((count + 1 + length (split 45 s))) 0 →
-        digitRead lengths (n + 1) count s ≡ cond (restFits lengths (n + 1) (split 45 s)) ((count + length (split 45 s))) 0 →
-        cond h (cond (fitsNext lengths n) (partRead (drop 2 lengths) (count + 1) s) 0) (cond (isDigit b) (digitRead lengths (n + 1) count s) 0) ≡ cond (restFits lengths n (cond h ([] ∷ split 45 s) (longer b (split 45 s)))) ((count + length (cond h ([] ∷ split 45 s) (longer b (split 45 s))))) 0
-    go true w f g = read-hyphen lengths n count b s (w .0) (w .1) (w .2) f
-    go false w f g = read-digit lengths n count b s (w .0) (w .1) (w .2) g
+        digitRead (drop 2 lengths) 0 (sizes * 256 + n) s ≡ cond (restFits (drop 2 lengths) 0 (split 45 s)) (restSizes (sizes * 256 + n) 0 (split 45 s)) 0 →
+        digitRead lengths (n + 1) sizes s ≡ cond (restFits lengths (n + 1) (split 45 s)) (restSizes sizes (n + 1) (split 45 s)) 0 →
+        cond h (cond (fitsNext lengths n) (partRead (drop 2 lengths) (sizes * 256 + n) s) 0) (cond (isDigit b) (digitRead lengths (n + 1) sizes s) 0) ≡ cond (restFits lengths n (cond h ([] ∷ split 45 s) (longer b (split 45 s)))) (restSizes sizes n (cond h ([] ∷ split 45 s) (longer b (split 45 s)))) 0
+    go true w f g = read-hyphen lengths n sizes b s (w .0) (w .1) (w .2) f
+    go false w f g = read-digit lengths n sizes b s (w .0) (w .1) (w .2) g
 
--- the part reader counts them where they fit
-read-part : (lengths : List ℕ) (s : List ℕ) → partRead lengths 0 s ≡ cond (partsFit lengths (split 45 s)) ((length (split 45 s))) 0
-read-part lengths s = let w = first-part s in rw (read-parts lengths 0 0 s, w .2, zero-add) (part-begins lengths (w .0) (w .1) ((suc (length (w .1)))))
+-- with no digit read before there are the sizes alone
+sizes-alone : (p : List ℕ) (ps : List (List ℕ)) → restSizes 0 0 (p ∷ ps) ≡ sizesFrom 0 (p ∷ ps)
+unfolding restSizes sizesFrom
+sizes-alone p ps = ap (λ (m : ℕ). sizesFrom (0 * 256 + m) ps) (zero-add (length p))
+
+-- the part reader reads the sizes where they fit
+read-part : (lengths : List ℕ) (s : List ℕ) → partRead lengths 0 s ≡ cond (partsFit lengths (split 45 s)) (sizesFrom 0 (split 45 s)) 0
+read-part lengths s =
+    let w = first-part s in
+    rw (read-parts lengths 0 0 s, w .2, sizes-alone (w .0) (w .1)) (part-begins lengths (w .0) (w .1) (sizesFrom 0 (w .0 ∷ w .1)))
 
 -- no byte is no part
 pub formed-none : (model : Model) (s : List ℕ) → length s ≡ 0 → eqb (model .fewest) 0 ≡ formed model s
@@ -159,36 +209,9 @@ either true n = refl
 either false n = refl
 
 pub found-none : (model : Model) (s : List ℕ) → length s ≡ 0 → 0 ≡ partsFound model s
-unfolding partsOf
+unfolding partsOf sizesFrom
 found-none model [] h = sym (either (formed model []) 0)
 found-none model (b ∷ s) h = absurd (omega arith)
-
--- what is read of a text, where it is as many as the model asks, is the number of its parts
-pub found-read : (model : Model) (s : List ℕ) → (length s ≡ 0 → ⊥) → (n : ℕ) → n ≡ partRead (model .lengths) 0 s → cond (leb (model .fewest) n && leb n (model .most)) n 0 ≡ partsFound model s
-unfolding formed partsOf
-found-read model [] h n e = absurd (h refl)
-found-read model (b ∷ s) h n e = rw (e, read-part (model .lengths) (b ∷ s)) (go (partsFit (model .lengths) (split 45 (b ∷ s))) (length (split 45 (b ∷ s))))
-  where
-    go : (t : Bool) (k : ℕ) → cond (leb (model .fewest) (cond t k 0) && leb (cond t k 0) (model .most)) (cond t k 0) 0 ≡ cond (leb (model .fewest) k && (leb k (model .most) && t)) k 0
-    go true k = rw and-true
-    go false k = rw (and-false, and-false) (either (leb (model .fewest) 0 && leb 0 (model .most)) 0)
-
--- a text of some bytes is formed where parts are found
-module _ (model : Model) (s : List ℕ) (h : length s ≡ 0 → ⊥) (n : ℕ) (e : n ≡ partsFound model s) where
-  pub formed-found : not (eqb n 0) ≡ formed model s
-  unfolding partsOf
-  formed-found = rw e (go s h (formed model s))
-    where
-      go : (r : List ℕ) → (length r ≡ 0 → ⊥) → (t : Bool) → not (eqb (cond t (length (partsOf r)) 0) 0) ≡ t
-      go [] f t = absurd (f refl)
-      go (b ∷ r) f true = rw (first-part (b ∷ r) .2, eqb·suc-zero (length (first-part (b ∷ r) .1)))
-      go (b ∷ r) f false = refl
-
-  pub some-formed : (n ≡ 0 → ⊥) → formed model s ≡ true
-  some-formed g = sym formed-found ∙ ap not (ne-eqb n 0 g)
-
-  pub none-unformed : n ≡ 0 → formed model s ≡ false
-  none-unformed g = sym formed-found ∙ ap not (eq-eqb n 0 g)
 
 -- ---------------------------------------------------------------------------
 -- The place after hyphens, from place i on
@@ -274,16 +297,6 @@ pieces-hyphens (b ∷ s) = go (eqb b 45) (first-part s) (pieces-hyphens s)
     go : (h : Bool) → (p : List ℕ) × (ps : List (List ℕ)) × (split 45 s ≡ p ∷ ps) → length (split 45 s) ≡ suc (hyphensIn s) → length (cond h ([] ∷ split 45 s) (longer b (split 45 s))) ≡ suc (cond h (suc (hyphensIn s)) (hyphensIn s))
     go true w e = ap suc e
     go false w e = ap (λ (ps : List (List ℕ)). length (longer b ps)) (w .2) ∙ sym (ap length (w .2)) ∙ e
-
--- so a formed text has a hyphen less than the parts that are found
-pub found-hyphens : (model : Model) (s : List ℕ) → (length s ≡ 0 → ⊥) → (n : ℕ) → n ≡ partsFound model s → (n ≡ 0 → ⊥) → n - 1 ≡ hyphensIn s
-unfolding partsOf
-found-hyphens model [] h n e g = absurd (h refl)
-found-hyphens model (b ∷ s) h n e g = go (formed model (b ∷ s)) e
-  where
-    go : (t : Bool) → n ≡ cond t (length (split 45 (b ∷ s))) 0 → n - 1 ≡ hyphensIn (b ∷ s)
-    go true f = let w = pieces-hyphens (b ∷ s) in omega arith
-    go false f = absurd (g f)
 
 -- of n hyphens k stand before a place, or there are fewer than k
 abbrev Counted : ℕ → ℕ → List ℕ → Found → Type 0
@@ -684,6 +697,192 @@ formed-fit model s e =
 -- so the groups of a formed text hold where its parts pass
 pub formed-groups : (model : Model) (s : List ℕ) → formed model s ≡ true → groupsHold (model .groups) s ≡ groupsRight (model .groups) (partsOf s)
 formed-groups model s e = groups-right (model .groups) s (fit-solid (model .lengths) (partsOf s) (formed-fit model s e))
+
+-- ---------------------------------------------------------------------------
+-- The sizes of the parts
+
+-- parts with a digit each have sizes
+sizes-some : (sizes : ℕ) (ps : List (List ℕ)) → Solid ps → 0 < sizes + length ps → 0 < sizesFrom sizes ps
+unfolding sizesFrom
+sizes-some sizes [] h g = omega arith
+sizes-some sizes (p ∷ ps) h g = sizes-some (sizes * 256 + length p) ps (h .1) (omega (arith, h .0))
+
+-- a text of some bytes is formed where parts are found
+module _ (model : Model) (s : List ℕ) (h : length s ≡ 0 → ⊥) (n : ℕ) (e : n ≡ partsFound model s) where
+  pub formed-found : not (eqb n 0) ≡ formed model s
+  unfolding partsOf
+  formed-found = rw e (go s h (formed model s) (λ f. fit-solid (model .lengths) (partsOf s) (formed-fit model s f)))
+    where
+      go : (r : List ℕ) → (length r ≡ 0 → ⊥) → (t : Bool) → (t ≡ true → Solid (partsOf r)) → not (eqb (cond t (sizesFrom 0 (partsOf r)) 0) 0) ≡ t
+      go [] f t w = absurd (f refl)
+      go (b ∷ r) f true w =
+          let g : 0 < sizesFrom 0 (split 45 (b ∷ r)) = sizes-some 0 (split 45 (b ∷ r)) (w refl) (rw (first-part (b ∷ r) .2) (omega arith)) in
+          ap not (ne-eqb (sizesFrom 0 (split 45 (b ∷ r))) 0 (λ (z : sizesFrom 0 (split 45 (b ∷ r)) ≡ 0). omega arith))
+      go (b ∷ r) f false w = refl
+
+  pub some-formed : (n ≡ 0 → ⊥) → formed model s ≡ true
+  some-formed g = sym formed-found ∙ ap not (ne-eqb n 0 g)
+
+  pub none-unformed : n ≡ 0 → formed model s ≡ false
+  none-unformed g = sym formed-found ∙ ap not (eq-eqb n 0 g)
+
+-- each part has a byte's size
+abbrev Sized : List (List ℕ) → Type 0
+Sized [] = Unit
+Sized (p ∷ ps) = (0 < length p) × (length p < 256) × Sized ps
+
+-- a part that fits is not longer than its most
+fit-most : (l m : ℕ) (ls p : List ℕ) (ps : List (List ℕ)) → partsFit (l ∷ (m ∷ ls)) (p ∷ ps) ≡ true → length p ≤ m
+unfolding partsFit
+fit-most l m ls p ps e =
+    let a = both-true (allOf Digits p) (ltb 0 (length p) && (leb l (length p) && (leb (length p) m && partsFit ls ps))) e .1 in
+    let b = both-true (ltb 0 (length p)) (leb l (length p) && (leb (length p) m && partsFit ls ps)) a .1 in
+    let c = both-true (leb l (length p)) (leb (length p) m && partsFit ls ps) b .1 in
+    leb-true (length p) m (both-true (leb (length p) m) (partsFit ls ps) c .0)
+
+-- parts that fit have a byte's size each
+fit-sized : (lengths : List ℕ) (ps : List (List ℕ)) → Bytes lengths → partsFit lengths ps ≡ true → Sized ps
+unfolding partsFit
+fit-sized lengths [] h e = tt
+fit-sized [] (p ∷ ps) h e = absurd (false≢true e)
+fit-sized (l ∷ []) (p ∷ ps) h e = absurd (false≢true e)
+fit-sized (l ∷ (m ∷ ls)) (p ∷ ps) h e =
+    let w = fit-first l m ls p ps e in
+    (w .1, omega (arith, fit-most l m ls p ps e, h 1 .fits), fit-sized ls ps (λ i. h (suc (suc i))) (w .2))
+
+-- and there are two lengths for each
+fit-few : (lengths : List ℕ) (ps : List (List ℕ)) → partsFit lengths ps ≡ true → length ps + length ps ≤ length lengths
+unfolding partsFit
+fit-few lengths [] e = omega arith
+fit-few [] (p ∷ ps) e = absurd (false≢true e)
+fit-few (l ∷ []) (p ∷ ps) e = absurd (false≢true e)
+fit-few (l ∷ (m ∷ ls)) (p ∷ ps) e = omega (arith, fit-few ls ps (fit-first l m ls p ps e .2))
+
+-- the place after k hyphens, by the parts
+unfoldable placeAfter : ℕ → List (List ℕ) → Found
+placeAfter zero ps = At 0
+placeAfter (suc k) [] = Nothing
+placeAfter (suc k) (p ∷ []) = Nothing
+placeAfter (suc k) (p ∷ (q ∷ ps)) = shifted (suc (length p)) (placeAfter k (q ∷ ps))
+
+-- where hyphens stand, by the parts
+abbrev hyphensAmong : List (List ℕ) → Hyphens
+hyphensAmong ps =
+    record { count = length ps - 1; first = foundAt (placeAfter 1 ps); second = foundAt (placeAfter 2 ps) }
+
+-- one place further on than i is suc i
+later-shifted : (i : ℕ) (f : Found) → later (shifted i f) ≡ shifted (suc i) f
+unfolding shifted
+later-shifted i (At k) = ap At (omega arith)
+later-shifted i Nothing = refl
+
+-- a hyphen more before the parts
+place-hyphen : (k : ℕ) (s : List ℕ) → later (placeAfter k (split 45 s)) ≡ placeAfter (suc k) ([] ∷ split 45 s)
+unfolding placeAfter
+place-hyphen k s = let w = first-part s in rw (w .2) (ap later (shifted-zero (placeAfter k (w .0 ∷ w .1))) ∙ later-shifted 0 (placeAfter k (w .0 ∷ w .1)))
+
+-- a byte more at the front of the first part
+place-longer : (b k : ℕ) (p : List ℕ) (ps : List (List ℕ)) → later (placeAfter (suc k) (p ∷ ps)) ≡ placeAfter (suc k) ((b ∷ p) ∷ ps)
+unfolding placeAfter
+place-longer b k p [] = refl
+place-longer b k p (q ∷ ps) = later-shifted (suc (length p)) (placeAfter k (q ∷ ps))
+
+after-place : (k : ℕ) (s : List ℕ) → afterHyphens k s ≡ placeAfter k (split 45 s)
+unfolding afterHyphens placeAfter split
+after-place zero s = refl
+after-place (suc k) [] = refl
+after-place (suc k) (b ∷ s) = go (eqb b 45) (first-part s) (after-place k s) (after-place (suc k) s)
+  where
+    go : (h : Bool) → (p : List ℕ) × (ps : List (List ℕ)) × (split 45 s ≡ p ∷ ps) → afterHyphens k s ≡ placeAfter k (split 45 s) → afterHyphens (suc k) s ≡ placeAfter (suc k) (split 45 s) →
+        later (cond h (afterHyphens k s) (afterHyphens (suc k) s)) ≡ placeAfter (suc k) (cond h ([] ∷ split 45 s) (longer b (split 45 s)))
+    go true w f g = ap later f ∙ place-hyphen k s
+    go false w f g = ap later g ∙ rw (w .2) (place-longer b k (w .0) (w .1))
+
+hyphens-among : (s : List ℕ) → hyphensAmong (split 45 s) ≡ hyphensOf s
+hyphens-among s =
+    let n : length (split 45 s) - 1 ≡ hyphensIn s = omega (arith, pieces-hyphens s) in
+    rw (n, ← (after-place 1 s), ← (after-place 2 s))
+
+-- a number of base 256 tells how many digits it has, and with them where hyphens stand
+abbrev Tells : ℕ → ℕ → ℕ → ℕ → Type 0
+Tells n k x y = (partsIn n ≡ suc k) × (hyphensBetween n ≡ record { count = k; first = x; second = y })
+
+one-tells : (a : ℕ) → a < 256 → Tells a 0 0 0
+one-tells a f = let t = lt-ltb a 256 f in (rw t, rw t)
+
+module _ (a b : ℕ) (f : 0 < a) (g : a < 256) (h : b < 256) (n : ℕ) where
+  two-tells : n ≡ a * 256 + b → (x : ℕ) → x ≡ a + 1 → Tells n 1 x 0
+  two-tells e x i =
+      let t = le-ltb n 256 (omega arith) in
+      let u = lt-ltb n 65536 (omega arith) in
+      let q : n / 256 ≡ a = omega arith in
+      (rw (t, u), rw (t, u, q, i))
+
+  three-tells : (c : ℕ) → c < 256 → n ≡ (a * 256 + b) * 256 + c → (x y : ℕ) → x ≡ a + 1 → y ≡ a + 1 + b + 1 → Tells n 2 x y
+  three-tells c j e x y i k =
+      let t = le-ltb n 256 (omega arith) in
+      let u = le-ltb n 65536 (omega arith) in
+      let v = lt-ltb n 16777216 (omega arith) in
+      let q : n / 65536 ≡ a = omega arith in
+      let r : n / 256 % 256 ≡ b = omega arith in
+      (rw (t, u, v), rw (t, u, v, q, r, i, k))
+
+  four-tells : (c d : ℕ) → c < 256 → d < 256 → n ≡ ((a * 256 + b) * 256 + c) * 256 + d → (x y : ℕ) → x ≡ a + 1 → y ≡ a + 1 + b + 1 → Tells n 3 x y
+  four-tells c d j l e x y i k =
+      let t = le-ltb n 256 (omega arith) in
+      let u = le-ltb n 65536 (omega arith) in
+      let v = le-ltb n 16777216 (omega arith) in
+      let q : n / 16777216 ≡ a = omega arith in
+      let r : n / 65536 % 256 ≡ b = omega arith in
+      (rw (t, u, v), rw (t, u, v, q, r, i, k))
+
+-- so the sizes of one to four parts do
+sizes-tell : (ps : List (List ℕ)) → Sized ps → 0 < length ps → length ps ≤ 4 → (partsIn (sizesFrom 0 ps) ≡ length ps) × (hyphensBetween (sizesFrom 0 ps) ≡ hyphensAmong ps)
+unfolding sizesFrom placeAfter shifted
+sizes-tell [] h g f = absurd (omega arith)
+sizes-tell (p ∷ []) h g f = rw (← (zero-add (length p))) at (one-tells (length p) (h .1))
+sizes-tell (p ∷ (q ∷ [])) h g f =
+    two-tells (length p) (length q) (h .0) (h .1) (h .2 .1) ((0 * 256 + length p) * 256 + length q) (omega arith) (suc (length p) + 0) (omega arith)
+sizes-tell (p ∷ (q ∷ (r ∷ []))) h g f =
+    three-tells (length p) (length q) (h .0) (h .1) (h .2 .1) (((0 * 256 + length p) * 256 + length q) * 256 + length r) (length r) (h .2 .2 .1) (omega arith) (suc (length p) + 0) (suc (length p) + (suc (length q) + 0)) (omega arith) (omega arith)
+sizes-tell (p ∷ (q ∷ (r ∷ (t ∷ [])))) h g f =
+    four-tells (length p) (length q) (h .0) (h .1) (h .2 .1) ((((0 * 256 + length p) * 256 + length q) * 256 + length r) * 256 + length t) (length r) (length t) (h .2 .2 .1) (h .2 .2 .2 .1) (omega arith) (suc (length p) + 0) (suc (length p) + (suc (length q) + 0)) (omega arith) (omega arith)
+sizes-tell (p ∷ (q ∷ (r ∷ (t ∷ (u ∷ ps))))) h g f = absurd (omega arith)
+
+-- so do those of a text's parts where they fit
+module _ (lengths : List ℕ) (h : Bytes lengths) (l : length lengths ≤ 8) (s : List ℕ) (e : partsFit lengths (split 45 s) ≡ true) where
+  fit-tell : (partsIn (sizesFrom 0 (split 45 s)) ≡ length (split 45 s)) × (hyphensBetween (sizesFrom 0 (split 45 s)) ≡ hyphensAmong (split 45 s))
+  fit-tell = sizes-tell (split 45 s) (fit-sized lengths (split 45 s) h e) (rw (first-part s .2) (omega arith)) (omega (arith, fit-few lengths (split 45 s) e))
+
+  sizes-in : partsIn (sizesFrom 0 (split 45 s)) ≡ length (split 45 s)
+  sizes-in = fit-tell .0
+
+  sizes-between : hyphensBetween (sizesFrom 0 (split 45 s)) ≡ hyphensOf s
+  sizes-between = fit-tell .1 ∙ hyphens-among s
+
+-- what is read of a text, where it is as many as the model asks, is the sizes of its parts
+module _ (model : Model) (b : Bytes (model .lengths)) (l : length (model .lengths) ≤ 8) (s : List ℕ) (h : length s ≡ 0 → ⊥) (n : ℕ) where
+  pub found-read : n ≡ partRead (model .lengths) 0 s → cond (leb (model .fewest) (partsIn n) && leb (partsIn n) (model .most)) n 0 ≡ partsFound model s
+  unfolding formed partsOf
+  found-read e = rw (e, read-part (model .lengths) s) (go s h (partsFit (model .lengths) (split 45 s)) refl)
+    where
+      go : (r : List ℕ) → (length r ≡ 0 → ⊥) → (t : Bool) → partsFit (model .lengths) (split 45 r) ≡ t → cond (leb (model .fewest) (partsIn (cond t (sizesFrom 0 (split 45 r)) 0)) && leb (partsIn (cond t (sizesFrom 0 (split 45 r)) 0)) (model .most)) (cond t (sizesFrom 0 (split 45 r)) 0) 0 ≡ partsFound model r
+      go [] g t f = absurd (g refl)
+      go (c ∷ r) g true f = rw (f, sizes-in (model .lengths) b l (c ∷ r) f, and-true)
+      go (c ∷ r) g false f = rw (f, and-false, and-false) (either (leb (model .fewest) 1 && leb 1 (model .most)) 0)
+
+  -- where nothing is read, nothing is found
+  pub read-none : n ≡ partRead (model .lengths) 0 s → n ≡ 0 → 0 ≡ partsFound model s
+  read-none e z = sym (either (leb (model .fewest) 1 && leb 1 (model .most)) 0) ∙ (rw z at (found-read e))
+
+  -- the sizes tell where its hyphens stand
+  pub found-between : n ≡ partsFound model s → (n ≡ 0 → ⊥) → hyphensBetween n ≡ hyphensOf s
+  unfolding partsOf
+  found-between e g = rw (e, some-formed model s h n e g) (go s h (formed-fit model s (some-formed model s h n e g)))
+    where
+      go : (r : List ℕ) → (length r ≡ 0 → ⊥) → partsFit (model .lengths) (partsOf r) ≡ true → hyphensBetween (sizesFrom 0 (partsOf r)) ≡ hyphensOf r
+      go [] i f = absurd (i refl)
+      go (c ∷ r) i f = sizes-between (model .lengths) b l (c ∷ r) f
 
 -- ---------------------------------------------------------------------------
 -- A formed text has no byte but digits and hyphens

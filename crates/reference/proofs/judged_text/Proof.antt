@@ -1,14 +1,25 @@
 -- `reference::judged_text` meets its contract: an empty text is the definition's choice on the fewest parts, what is formed has no byte
--- for 3 and a hyphen less than parts, and what is not formed fails by 3, 4 or 8. Assumes nothing.
-use mathlib.Core.Path.{refl, _∙_}
+-- for 3 and its hyphens between its parts, and what is not formed fails by 3, 4 or 8. Assumes nothing.
+use mathlib.Core.Path.{_≡_, refl, _∙_}
+use Prim.Native.Nat.{_≤_}
+use native.Mathlib.Omega.{arith}
+use lib.ListN.{length}
 use borrow.Author.Tests.{lt-leb, le-leb, eq-eqb, ne-eqb}
 use Rattle.text.specs.Bytes.{firstBad}
 use Rattle.text.specs.declared.Class.the-variants.{Reference}
 use Rattle.text.proofs.Laws.{taken, left, entered}
-use Rattle.reference.proofs.Laws.{some-formed, none-unformed, found-hyphens, empty-text, unformed-text, formed-answer, formed-text}
+use Rattle.reference.proofs.Laws.{some-formed, none-unformed, Bytes, found-between, empty-text, unformed-text, formed-answer, formed-text}
 use borrow.Author.Needs.{needs}
 use Rattle.reference.proofs.judged_text.Statement.{statement}
 use Rattle.reference.proofs.judged_text.Tie as tie
+
+-- the model's lengths are bytes
+bytes : (c : tie.Start) → Bytes (c .args .model .lengths)
+bytes c i = search needs
+
+-- and there are eight
+eight : (c : tie.Start) → length (c .args .model .lengths) ≤ 8
+eight c = let e : length (c .args .model .lengths) ≡ 8 = search needs in omega arith
 
 returns : tie.Need-returns
 returns c =
@@ -48,21 +59,23 @@ returns-4 c =
     (left _ _ _ _ (lt-leb _ _ (c .before .if4 .taken)) refl
     ∙ formed-text (a .model) (a .s .now) (some-formed (a .model) (a .s .now) (p .before .if1 .left) (p .parts .result) (p .parts .ensures) (c .before .before .if3 .left)))
 
-sub-checked : tie.Need-sub-checked
-sub-checked c = search needs
+between-requires : tie.Need-between-requires
+between-requires c κs = search needs
 
 checked-requires : tie.Need-checked-requires
 checked-requires c κs =
-    let p = c .before .before .before in
-    let a = p .before .before .before .args in
-    found-hyphens (a .model) (a .s .now) (p .before .if1 .left) (p .parts .result) (p .parts .ensures) (c .before .before .if3 .left)
+    let p = c .before .before .before .before in
+    let z = p .before .before .before in
+    let a = z .args in
+    c .between .ensures
+    ∙ found-between (a .model) (bytes z) (eight z) (a .s .now) (p .before .if1 .left) (p .parts .result) (p .parts .ensures) (c .before .before .before .if3 .left)
 
 returns-5 : tie.Need-returns-5
 returns-5 c =
-    let p = c .before .before .before .before in
+    let p = c .before .before .before .before .before in
     let a = p .before .before .before .args in
-    let e = some-formed (a .model) (a .s .now) (p .before .if1 .left) (p .parts .result) (p .parts .ensures) (c .before .before .before .if3 .left) in
-    entered _ _ _ _ (le-leb _ _ (c .before .before .if4 .left)) (c .checked .ensures ∙ formed-answer (a .model) (a .s .now) e)
+    let e = some-formed (a .model) (a .s .now) (p .before .if1 .left) (p .parts .result) (p .parts .ensures) (c .before .before .before .before .if3 .left) in
+    entered _ _ _ _ (le-leb _ _ (c .before .before .before .if4 .left)) (c .checked .ensures ∙ formed-answer (a .model) (a .s .now) e)
     ∙ formed-text (a .model) (a .s .now) e
 
 pub judged-text-spec : {M : Type 1} → statement M
@@ -77,6 +90,6 @@ judged-text-spec =
     returns-3
     nowhere-requires-2
     returns-4
-    sub-checked
+    between-requires
     checked-requires
     returns-5)
