@@ -10,7 +10,8 @@ ghost use lib.ListN.{length};
 ghost use Rattle.reference.specs.Parts.{formed};
 ghost use Rattle.reference.specs.Groups.{afterHyphens, hyphensIn, stretchHolds, headHolds, groupHolds, groupsHold};
 ghost use Rattle.reference.specs.Readers.{fitsNext, partRead, digitRead, partsFound};
-ghost use Rattle.reference.specs.Answers.{groupsAnswer, unformedAnswer, textAnswer, referenceAnswer};
+ghost use Rattle.reference.specs.Answers.{groupsAnswer, unformedAnswer, textAnswer, modelAnswer, referenceAnswer};
+ghost use Rattle.models.specs.Models.{modelOf};
 ghost use Rattle.text.specs.Bytes.{firstBad};
 use check_digits::Rule;
 use models::Group;
@@ -297,18 +298,23 @@ fn judged_text(model: Model, s: &[u8]) -> Answer
     checked(groups, found - 1, s)
 }
 
+// A reference by its model's number: 7, then 3 with its byte, 4, 8 and 9.
+pub fn numbered(n: usize, s: &[u8]) -> Answer
+    ensures { λ r. ⌜ r ≡ modelAnswer (now (s .entry)) (modelOf n) ⌝ }
+{
+    let m = models::rules(n);
+    if !m.handled {
+        return Answer::Refused(Refusal::Model(refusal::nowhere()));
+    }
+    judged_text(m, s)
+}
+
 // A reference by its model's text: 5 and 7 of the model, then 3 with its byte, 4, 8 and 9 of the reference.
 pub fn reference(model: &[u8], s: &[u8]) -> Answer
     ensures { λ r. ⌜ r ≡ referenceAnswer (now (model .entry)) (now (s .entry)) ⌝ }
 {
     match models::number(model) {
-        Found::At(n) => {
-            let m = models::rules(n);
-            if !m.handled {
-                return Answer::Refused(Refusal::Model(refusal::nowhere()));
-            }
-            judged_text(m, s)
-        }
+        Found::At(n) => numbered(n, s),
         Found::Nothing => Answer::Refused(Refusal::Form(refusal::nowhere())),
     }
 }

@@ -1,27 +1,9 @@
--- `reference::reference` meets its contract: 5, then 7, then what judging the text answers. Assumes nothing.
-use mathlib.Core.Path.{_≡_, refl, sym, ap, _∙_}
-use Prim.Native.Nat.{ℕ}
-use mathlib.Core.Bool.{true, false}
-use mathlib.Core.List.{List}
-use borrow.Author.Tests.{not-true, not-false}
-use Rattle.refusal.specs.Refusal.{none}
-use Rattle.refusal.specs.declared.Answer.{Answer}
-use Rattle.refusal.specs.declared.Answer.the-variants.{Refused}
-use Rattle.refusal.specs.declared.Refusal.the-variants.{Model}
-use Rattle.text.specs.Bytes.{firstBad}
-use Rattle.text.specs.declared.Class.the-variants.{Reference}
-use Rattle.models.specs.declared.Model as declared
-use Rattle.text.proofs.Laws.{left, entered}
-use Rattle.reference.specs.Answers.{textAnswer, modelAnswer, numberAnswer}
+-- `reference::reference` meets its contract: 5, then what the model's number answers. Assumes nothing.
+use mathlib.Core.Path.{sym, ap, _∙_}
+use Rattle.reference.specs.Answers.{numberAnswer}
 use borrow.Author.Needs.{needs}
 use Rattle.reference.proofs.reference.Statement.{statement}
 use Rattle.reference.proofs.reference.Tie as tie
-
-unhandled : (s : List ℕ) (m : declared.Model) → m .handled ≡ false → Refused (Model none) ≡ modelAnswer s m
-unhandled s m e = left (m .handled) (textAnswer m s (firstBad Reference s)) (Refused (Model none)) (Refused (Model none)) e refl
-
-judged : (s : List ℕ) (m : declared.Model) (r : Answer) → m .handled ≡ true → r ≡ textAnswer m s (firstBad Reference s) → r ≡ modelAnswer s m
-judged s m r e h = entered (m .handled) (textAnswer m s (firstBad Reference s)) (Refused (Model none)) r e h
 
 number-requires : tie.Need-number-requires
 number-requires c κs = search needs
@@ -29,40 +11,20 @@ number-requires c κs = search needs
 enum-known-n : tie.Need-enum-known-n
 enum-known-n c = search needs
 
-rules-requires : tie.Need-rules-requires
-rules-requires c κs = search needs
+numbered-requires : tie.Need-numbered-requires
+numbered-requires c κs = search needs
+
+enum-told : tie.Need-enum-told
+enum-told c = search needs
 
 nowhere-requires : tie.Need-nowhere-requires
 nowhere-requires c κs = search needs
 
 returns : tie.Need-returns
-returns c =
-    let a = c .before .before .before .before .before .before .before .before .before .before .args in
-    let m = c .before .before .before .rules .result in
-    rw (c .nowhere .ensures)
-    (unhandled (a .s .now) m (not-true (m .handled) (c .before .if1 .taken))
-    ∙ ap (modelAnswer (a .s .now)) (c .before .before .before .rules .ensures)
-    ∙ ap (numberAnswer (a .s .now)) (sym (c .before .before .before .before .before .n .given .1) ∙ c .before .before .before .before .before .before .before .number .ensures))
-
-judged-text-requires : tie.Need-judged-text-requires
-judged-text-requires c κs = search needs
-
-enum-told : tie.Need-enum-told
-enum-told c = search needs
-
-nowhere-requires-2 : tie.Need-nowhere-requires-2
-nowhere-requires-2 c κs = search needs
+returns c = c .numbered .ensures ∙ ap (numberAnswer _) (sym (c .before .before .n .given .1) ∙ c .before .before .before .before .number .ensures)
 
 returns-2 : tie.Need-returns-2
-returns-2 c =
-    let a = c .before .before .before .before .before .before .before .before .before .before .args in
-    let m = c .before .before .before .rules .result in
-    judged (a .s .now) m (c .judged-text .result) (not-false (m .handled) (c .before .if1 .left)) (c .judged-text .ensures)
-    ∙ ap (modelAnswer (a .s .now)) (c .before .before .before .rules .ensures)
-    ∙ ap (numberAnswer (a .s .now)) (sym (c .before .before .before .before .before .n .given .1) ∙ c .before .before .before .before .before .before .before .number .ensures)
-
-returns-3 : tie.Need-returns-3
-returns-3 c = rw (c .nowhere2 .ensures) (ap (numberAnswer (c .before .before .before .before .before .before .args .s .now)) (sym (c .before .enum-told .given .1) ∙ c .before .before .before .number .ensures))
+returns-2 c = rw (c .nowhere .ensures) (ap (numberAnswer (c .before .before .before .before .before .before .args .s .now)) (sym (c .before .enum-told .given .1) ∙ c .before .before .before .number .ensures))
 
 pub reference-spec : {M : Type 1} → statement M
 reference-spec =
@@ -70,11 +32,8 @@ reference-spec =
     (tie.spec
     number-requires
     enum-known-n
-    rules-requires
+    numbered-requires
+    enum-told
     nowhere-requires
     returns
-    judged-text-requires
-    enum-told
-    nowhere-requires-2
-    returns-2
-    returns-3)
+    returns-2)
