@@ -1,23 +1,24 @@
 -- An IBAN's number over 97, taken in three pieces as the code takes it; what an IBAN's form decides.
 -- Assumes nothing.
 use mathlib.Core.Path.{_≡_, refl, sym, ap, _∙_}
-use mathlib.Core.Bool.{true, false, cond, _&&_, and-false}
+use mathlib.Core.Bool.{Bool, true, false, cond, _&&_, and-false}
 use mathlib.Core.List.{List, [], _∷_}
-use Prim.Native.Nat.{ℕ, _+_, _*_, _/_, _%_, _<_}
+use Prim.Native.Nat.{ℕ, _+_, _-_, _*_, _/_, _%_, _≤_, _<_}
 use native.Mathlib.Nat.{div-add-mod, add-mul-mod-self-left}
 use native.Mathlib.Omega.{arith}
-use lib.Dec.{eqb}
+use lib.Dec.{eqb, leb}
 use lib.ListN.{length, take, drop, getD, List·getD-eq-default}
-use borrow.Author.Tests.{eqb-true, eq-eqb}
+use borrow.Author.Tests.{eqb-true, eq-eqb, lt-leb, le-leb}
 use Rattle.refusal.specs.Refusal.{none}
 use Rattle.refusal.specs.declared.Answer.{Answer}
 use Rattle.refusal.specs.declared.Answer.the-variants.{Accepted, Refused}
 use Rattle.refusal.specs.declared.Refusal.the-variants.{Check}
 use Rattle.text.specs.Bytes.{isDigit, firstBad, allOf}
 use Rattle.text.specs.declared.Class.the-variants.{Digits, Account}
-use Rattle.text.specs.declared.Found.the-variants.{Nothing}
+use Rattle.text.specs.declared.Found.{Found}
+use Rattle.text.specs.declared.Found.the-variants.{At, Nothing}
 use Rattle.text.specs.Digits.{digitsOf, valueFrom, valueOf, twoDigits}
-use Rattle.text.proofs.Laws.{value-append, and-first, both-true, entered}
+use Rattle.text.proofs.Laws.{value-append, and-first, both-true, entered, to-the-end}
 use Rattle.check_digits.proofs.Laws.{value-over-97}
 use Rattle.account.specs.Account.{inRange, rearranged, ibanFormed, ibanPasses}
 use Rattle.account.specs.Answers.{ibanAnswer}
@@ -39,13 +40,43 @@ unfolding valueFrom
 country-value v ds = ap (λ (x : ℕ). valueFrom x ds) (omega arith)
 
 -- the account's remainder, then the country and the check digits: the remainder of the whole number
-pub in-three-pieces : (s : List ℕ) (a r : ℕ) → a ≡ valueFrom 0 (digitsOf (drop 4 s)) % 97 → r ≡ valueFrom (a * 10000 + 1727) (digitsOf (take 2 (drop 2 s))) % 97 → r ≡ valueOf (rearranged s) % 97
+in-three-pieces : (s : List ℕ) (a r : ℕ) → a ≡ valueFrom 0 (digitsOf (drop 4 s)) % 97 → r ≡ valueFrom (a * 10000 + 1727) (digitsOf (take 2 (drop 2 s))) % 97 → r ≡ valueOf (rearranged s) % 97
 in-three-pieces s a r e f =
     let v = valueFrom 0 (digitsOf (drop 4 s)) in
     let ks = digitsOf (take 2 (drop 2 s)) in
     f
     ∙ value-over-97 (a * 10000 + 1727) (v * 10000 + 1727) ks (ap (λ (x : ℕ). (x * 10000 + 1727) % 97) e ∙ country-over-97 v)
     ∙ ap (λ (x : ℕ). x % 97) (country-value v ks ∙ sym (value-append 0 (digitsOf (drop 4 s)) (1 ∷ (7 ∷ (2 ∷ (7 ∷ ks))))))
+
+-- a number that was read, and no other
+abbrev Read : ℕ → Found → Type 0
+Read k (At n) = n ≡ k
+Read k Nothing = ⊥
+
+-- the number of two digits after another
+two-value : (v x y k : ℕ) → twoDigits x y ≡ At k → valueFrom v (digitsOf (x ∷ (y ∷ []))) ≡ v * 100 + k
+unfolding valueFrom digitsOf
+two-value v x y k e = go (isDigit x) (isDigit y) (rw e refl)
+  where
+    go : (t u : Bool) → Read k (cond (t && u) (At ((x - 48) * 10 + (y - 48))) Nothing) → valueFrom v (cond t ((x - 48) ∷ cond u ((y - 48) ∷ []) []) (cond u ((y - 48) ∷ []) [])) ≡ v * 100 + k
+    go true true f = omega arith
+    go true false f = absurd f
+    go false u f = absurd f
+
+-- the two bytes after `HR`
+check-bytes : (s : List ℕ) → 4 ≤ length s → take 2 (drop 2 s) ≡ getD s 2 0 ∷ (getD s 3 0 ∷ [])
+check-bytes (a ∷ (b ∷ (x ∷ (y ∷ s)))) h = refl
+check-bytes (a ∷ (b ∷ (x ∷ []))) h = absurd (omega arith)
+check-bytes (a ∷ (b ∷ [])) h = absurd (omega arith)
+check-bytes (a ∷ []) h = absurd (omega arith)
+check-bytes [] h = absurd (omega arith)
+
+-- the account's remainder, then the country and the check digits as they were read
+in-one-sum : (s : List ℕ) (a k : ℕ) → 4 ≤ length s → a ≡ valueFrom 0 (digitsOf (drop 4 s)) % 97 → twoDigits (getD s 2 0) (getD s 3 0) ≡ At k → (a * 1000000 + 172700 + k) % 97 ≡ valueOf (rearranged s) % 97
+in-one-sum s a k h e f =
+    in-three-pieces s a _ e
+    (ap (λ (x : ℕ). x % 97) (omega arith
+    ∙ sym (ap (λ (l : List ℕ). valueFrom (a * 10000 + 1727) (digitsOf l)) (check-bytes s h) ∙ two-value (a * 10000 + 1727) (getD s 2 0) (getD s 3 0) k f)))
 
 -- ---------------------------------------------------------------------------
 -- Texts too short to have check digits
@@ -56,6 +87,32 @@ short-fails s h = and-first (inRange (twoDigits (getD s 2 0) (getD s 3 0))) (eqb
   where
     no-digits : inRange (twoDigits (getD s 2 0) (getD s 3 0)) ≡ false
     no-digits = rw (List·getD-eq-default s 0 {n = 3} (omega arith), and-false (isDigit (getD s 2 0)))
+
+-- ---------------------------------------------------------------------------
+-- By the check digits that were read
+
+-- none
+pub unread-fails : (s : List ℕ) → Nothing ≡ twoDigits (getD s 2 0) (getD s 3 0) → false ≡ ibanPasses s
+unfolding ibanPasses
+unread-fails s e = rw (← e)
+
+module _ (s : List ℕ) (k : ℕ) (e : At k ≡ twoDigits (getD s 2 0) (getD s 3 0)) where
+  -- below 02
+  pub low-fails : k < 2 → false ≡ ibanPasses s
+  unfolding ibanPasses
+  low-fails h = rw (← e, lt-leb 2 k h)
+
+  -- above 98
+  pub high-fails : 98 < k → false ≡ ibanPasses s
+  unfolding ibanPasses
+  high-fails h = rw (← e, lt-leb k 98 h, and-false (leb 2 k))
+
+  -- in range: the number decides
+  pub number-decides : (a : ℕ) → 2 ≤ k → k ≤ 98 → 4 ≤ length s → a ≡ valueFrom 0 (digitsOf (take (length s - 4) (drop 4 s))) % 97 → eqb ((a * 1000000 + 172700 + k) % 97) 1 ≡ ibanPasses s
+  unfolding ibanPasses
+  number-decides a h g l f =
+      rw (← e, le-leb 2 k h, le-leb k 98 g)
+      (ap (λ (x : ℕ). eqb x 1) (in-one-sum s a k l (f ∙ ap (λ (t : List ℕ). valueFrom 0 (digitsOf t) % 97) (to-the-end 4 s)) (sym e)))
 
 -- ---------------------------------------------------------------------------
 -- Texts of an IBAN's form

@@ -3,7 +3,7 @@
 // Document 01, "Check digits". What an IBAN's check is stands in `iban_passes` alone: requests W3 and W7 change what is
 // behind that name, and whoever judges an IBAN goes by it.
 ghost use mathlib.Core.Path.{_≡_};
-ghost use Rattle.account.specs.Account.{inRange, ibanFormed, ibanPasses, oibPasses};
+ghost use Rattle.account.specs.Account.{ibanFormed, ibanPasses, oibPasses};
 ghost use Rattle.account.specs.Answers.{ibanCheckAnswer, ibanAnswer, oibAnswer};
 use check_digits::Rule;
 use refusal::Answer;
@@ -28,21 +28,6 @@ pub fn is_iban_formed(s: &[u8]) -> bool
     text::all_of(Class::Digits, &s[2..])
 }
 
-// Whether check digits lie in 02 to 98.
-fn is_in_range(digits: Found) -> bool
-    ensures { λ r. ⌜ r ≡ inRange digits ⌝ }
-{
-    match digits {
-        Found::At(k) => {
-            if k < 2 {
-                return false;
-            }
-            k <= 98
-        }
-        Found::Nothing => false,
-    }
-}
-
 // Whether an IBAN's check holds: its check digits lie in 02 to 98, and its number leaves 1 over 97.
 pub fn iban_passes(s: &[u8]) -> bool
     ensures { λ r. ⌜ r ≡ ibanPasses (now (s .entry)) ⌝ }
@@ -50,11 +35,19 @@ pub fn iban_passes(s: &[u8]) -> bool
     if s.len() < 4 {
         return false;
     }
-    if !is_in_range(text::two_digits(s[2], s[3])) {
-        return false;
+    match text::two_digits(s[2], s[3]) {
+        Found::At(k) => {
+            if k < 2 {
+                return false;
+            }
+            if 98 < k {
+                return false;
+            }
+            let account = check_digits::remainder97(0, &s[4..]);
+            ((account as usize) * 1000000 + 172700 + k) % 97 == 1
+        }
+        Found::Nothing => false,
     }
-    let account = check_digits::remainder97(0, &s[4..]);
-    check_digits::remainder97(account * 10000 + 1727, &s[2..4]) == 1
 }
 
 // 5 where a text has not an IBAN's form, then 6 where its check fails.

@@ -11,7 +11,7 @@ ghost use Rattle.refusal.specs.Refusal.{none};
 ghost use Rattle.text.specs.Bytes.{allOf};
 ghost use Rattle.account.specs.Answers.{ibanCheckAnswer};
 ghost use Rattle.codes.specs.Codes.{codePlace};
-ghost use Rattle.wage_contents.specs.Contents.{bytesAnswer, amongAnswer, oibPlaceAnswer, twoOfThree, employerAnswer, todayAnswer, laterAnswer, ibanPlaceAnswer, currencyAnswer, purposePlaceAnswer, signAnswer, modelPlaceAnswer, trimmed, unmodelledAnswer, referencePlaceAnswer, descriptionAnswer, isFound, codeAnswer};
+ghost use Rattle.wage_contents.specs.Contents.{bytesAnswer, amongAnswer, numericIn, oibPlaceAnswer, twoOfThree, employerAnswer, todayAnswer, laterAnswer, ibanPlaceAnswer, currencyAnswer, purposePlaceAnswer, signAnswer, modelPlaceAnswer, trimmed, unmodelledAnswer, referencePlaceAnswer, descriptionAnswer, isFound, codeAnswer};
 use refusal::Answer;
 use refusal::Place;
 use refusal::Refusal;
@@ -68,19 +68,48 @@ pub fn judge_among(a: u64, b: u64, c: u64, f: &[u8]) -> Answer
     }
 }
 
+// What a numeric field holds: a byte that is no digit, zeros for absent, or a number.
+pub enum Numeric {
+    Wrong,
+    Absent,
+    Present,
+}
+
+// What a numeric field holds, in one pass with no branch.
+fn read_numeric(f: &[u8]) -> Numeric
+    ensures { λ r. ⌜ r ≡ numericIn (now (f .entry)) ⌝ }
+{
+    let mut right = true;
+    let mut zeros = true;
+    let mut i = 0;
+    while i < f.len() {
+        let b = f[i];
+        right = right & ((48 <= b) & (b <= 57));
+        zeros = zeros & (b == 48);
+        i += 1;
+    }
+    if zeros {
+        return Numeric::Absent;
+    }
+    if right {
+        return Numeric::Present;
+    }
+    Numeric::Wrong
+}
+
 // An OIB, or zeros where they may stand for none: 3, 5, 6.
 pub fn judge_oib(absent: bool, f: &[u8]) -> Answer
     ensures { λ r. ⌜ r ≡ oibPlaceAnswer absent (now (f .entry)) ⌝ }
 {
-    match judge_bytes(Class::Digits, f) {
-        Answer::Refused(r) => Answer::Refused(r),
-        Answer::Accepted => {
-            if text::all_of(Class::Zeros, f) {
-                if absent {
-                    return Answer::Accepted;
-                }
-                return form();
+    match read_numeric(f) {
+        Numeric::Wrong => judge_bytes(Class::Digits, f),
+        Numeric::Absent => {
+            if absent {
+                return Answer::Accepted;
             }
+            form()
+        }
+        Numeric::Present => {
             if account::oib_passes(f) {
                 return Answer::Accepted;
             }
@@ -161,12 +190,25 @@ pub fn judge_later(day: u64, f: &[u8]) -> Answer
     }
 }
 
+// Whether a place is all blank; most are not at their first byte.
+fn is_blank(f: &[u8]) -> bool
+    ensures { λ r. ⌜ r ≡ allOf Class.Blanks (now (f .entry)) ⌝ }
+{
+    if f.len() == 0 {
+        return true;
+    }
+    if f[0] != 32 {
+        return false;
+    }
+    text::all_of(Class::Blanks, &f[1..])
+}
+
 // Whether a place is all blank where it may be.
 fn is_left_blank(blank: bool, f: &[u8]) -> bool
     ensures { λ r. ⌜ r ≡ (blank && allOf Class.Blanks (now (f .entry))) ⌝ }
 {
     if blank {
-        return text::all_of(Class::Blanks, f);
+        return is_blank(f);
     }
     false
 }
@@ -184,29 +226,27 @@ fn judge_account(f: &[u8]) -> Answer
     form()
 }
 
-// An IBAN's place, all blank where it may be, one rule after the other: 3, 5, 6.
-fn judge_iban_place(blank: bool, f: &[u8]) -> Answer
-    ensures { λ r. ⌜ r ≡ ibanPlaceAnswer blank (now (f .entry)) ⌝ }
-{
-    match judge_bytes(Class::Place, f) {
-        Answer::Refused(r) => Answer::Refused(r),
-        Answer::Accepted => {
-            if is_left_blank(blank, f) {
-                return Answer::Accepted;
-            }
-            judge_account(f)
-        }
-    }
-}
-
-// An IBAN's place, all blank where it may be: 3, 5, 6. Nearly every place holds an IBAN, so that comes first.
-pub fn judge_iban(blank: bool, f: &[u8]) -> Answer
-    ensures { λ r. ⌜ r ≡ ibanPlaceAnswer blank (now (f .entry)) ⌝ }
+// An IBAN's place that is not left blank: 3, 5, 6. Nearly every one holds an IBAN, so that comes first.
+fn judge_filled(f: &[u8]) -> Answer
+    ensures { λ r. ⌜ r ≡ ibanPlaceAnswer false (now (f .entry)) ⌝ }
 {
     match judge_account(f) {
         Answer::Accepted => Answer::Accepted,
-        Answer::Refused(_) => judge_iban_place(blank, f),
+        Answer::Refused(r) => match judge_bytes(Class::Place, f) {
+            Answer::Refused(q) => Answer::Refused(q),
+            Answer::Accepted => Answer::Refused(r),
+        },
     }
+}
+
+// An IBAN's place, all blank where it may be: 3, 5, 6.
+pub fn judge_iban(blank: bool, f: &[u8]) -> Answer
+    ensures { λ r. ⌜ r ≡ ibanPlaceAnswer blank (now (f .entry)) ⌝ }
+{
+    if is_left_blank(blank, f) {
+        return Answer::Accepted;
+    }
+    judge_filled(f)
 }
 
 // `EUR`, or blank where that may be: 5.
@@ -306,51 +346,45 @@ fn judge_unmodelled(g: &[u8]) -> Answer
 pub fn judge_reference(m: &[u8], f: &[u8]) -> Answer
     ensures { λ r. ⌜ r ≡ referencePlaceAnswer (now (m .entry)) (now (f .entry)) ⌝ }
 {
-    if text::all_of(Class::Blanks, m) {
-        return judge_unmodelled(trim(f));
+    match models::number(m) {
+        Found::At(n) => reference::numbered(n, trim(f)),
+        Found::Nothing => {
+            if text::all_of(Class::Blanks, m) {
+                return judge_unmodelled(trim(f));
+            }
+            form()
+        }
     }
-    reference::reference(m, trim(f))
 }
 
-// Whether a description permits every byte. Most are blank from their 64th byte on. One that is not is tested from its 44th on,
-// some bytes a second time: 96 bytes of a place of 140 leave none over where the compiler takes 32 at a time.
-fn is_described(f: &[u8]) -> bool
-    ensures { λ r. ⌜ r ≡ allOf Class.Description (now (f .entry)) ⌝ }
-{
-    if f.len() < 64 {
-        return text::all_described(f);
-    }
-    if !text::all_described(&f[..64]) {
-        return false;
-    }
-    if text::all_of(Class::Blanks, &f[64..]) {
-        return true;
-    }
-    text::all_described(&f[44..])
-}
-
-// Whether a place is all blank; most are not at their first byte.
-fn is_blank(f: &[u8]) -> bool
-    ensures { λ r. ⌜ r ≡ allOf Class.Blanks (now (f .entry)) ⌝ }
-{
-    if f.len() == 0 {
-        return true;
-    }
-    if f[0] != 32 {
-        return false;
-    }
-    text::all_of(Class::Blanks, f)
-}
-
-// A description: 3, 5. Its bytes are tested as a whole, and only one that is wrong is looked for.
-pub fn judge_description(f: &[u8]) -> Answer
+// A description of at most 64 bytes, or the first 64 of one that is blank after them: 3, 5.
+fn judge_short(f: &[u8]) -> Answer
     ensures { λ r. ⌜ r ≡ descriptionAnswer (now (f .entry)) ⌝ }
 {
-    if is_described(f) {
+    if text::all_described(f) {
         if is_blank(f) {
             return form();
         }
         return Answer::Accepted;
+    }
+    judge_bytes(Class::Description, f)
+}
+
+// A description: 3, 5. Most are blank from their 64th byte on. One that is not is tested from its 44th on, some bytes a second
+// time: 96 bytes of a place of 140 leave none over where the compiler takes 32 at a time.
+pub fn judge_description(f: &[u8]) -> Answer
+    ensures { λ r. ⌜ r ≡ descriptionAnswer (now (f .entry)) ⌝ }
+{
+    if f.len() <= 64 {
+        return judge_short(f);
+    }
+    if text::all_of(Class::Blanks, &f[64..]) {
+        return judge_short(&f[..64]);
+    }
+    if text::all_described(&f[..64]) {
+        if text::all_described(&f[44..]) {
+            return Answer::Accepted;
+        }
     }
     judge_bytes(Class::Description, f)
 }
@@ -375,7 +409,7 @@ fn is_unmodelled_loan(kind: u64, v: u64, m: &[u8]) -> bool
     if v != 500 {
         return false;
     }
-    text::all_of(Class::Blanks, m)
+    is_blank(m)
 }
 
 // A code of 004's list, after the recipient's model: 3, 5.

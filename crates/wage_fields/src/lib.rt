@@ -164,8 +164,8 @@ fn order_part(k: usize, s: &[u8]) -> &[u8]
     wage_line::part(wage_line::spot_at(LineType::Order, k), s)
 }
 
-// The first five places, to the payer's reference; the second, field 2, is not judged. The size is asked first, here and below, so that the
-// compiler knows each place to lie within the line.
+// The first five places, to the payer's reference; the second, field 2, is not judged, and a reference that is right has a right model.
+// The size is asked first, here and below, so that the compiler knows each place to lie within the line.
 fn is_payer_right(s: &[u8]) -> bool
     ensures { λ r. ⌜ (r ≡ true → (kind : ℕ) → OrderRight kind (take 5 (spots LineType.Order)) (now (s .entry))) ⌝ }
 {
@@ -176,9 +176,6 @@ fn is_payer_right(s: &[u8]) -> bool
         return false;
     }
     if !is_accepted(wage_contents::judge_among(0, 191, 191, order_part(2, s))) {
-        return false;
-    }
-    if !is_accepted(wage_contents::judge_model(order_part(3, s))) {
         return false;
     }
     is_accepted(wage_contents::judge_reference(order_part(3, s), order_part(4, s)))
@@ -198,9 +195,6 @@ fn is_recipient_right(s: &[u8]) -> bool
         return false;
     }
     if !is_accepted(wage_contents::judge_bytes(Class::Digits, order_part(7, s))) {
-        return false;
-    }
-    if !is_accepted(wage_contents::judge_model(order_part(8, s))) {
         return false;
     }
     is_accepted(wage_contents::judge_reference(order_part(8, s), order_part(9, s)))

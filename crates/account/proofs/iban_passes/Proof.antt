@@ -1,14 +1,7 @@
--- `account::iban_passes` meets its contract: the number is taken in three pieces. Assumes nothing.
-use mathlib.Core.Path.{sym, ap, _∙_}
-use Prim.Native.Nat.{ℕ, _%_}
-use mathlib.Core.List.{List}
-use Rattle.text.specs.Digits.{digitsOf, valueFrom}
-use lib.Dec.{eqb}
-use borrow.Author.Tests.{not-true, not-false}
-use Rattle.text.proofs.Laws.{and-first, and-second}
-use Rattle.account.specs.Account.{inRange, ibanPasses}
-use Rattle.text.proofs.Laws.{to-the-end}
-use Rattle.account.proofs.Laws.{short-fails, in-three-pieces}
+-- `account::iban_passes` meets its contract: the number is the account's remainder, the country and the check digits. Assumes nothing.
+use mathlib.Core.Path.{sym, _∙_}
+use native.Mathlib.Omega.{arith}
+use Rattle.account.proofs.Laws.{short-fails, unread-fails, low-fails, high-fails, number-decides}
 use borrow.Author.Needs.{needs}
 use Rattle.account.proofs.iban_passes.Statement.{statement}
 use Rattle.account.proofs.iban_passes.Tie as tie
@@ -25,12 +18,14 @@ shared-slice-read-two-digits-2 c = search needs
 two-digits-requires : tie.Need-two-digits-requires
 two-digits-requires c κs = search needs
 
-is-in-range-requires : tie.Need-is-in-range-requires
-is-in-range-requires c κs = search needs
+enum-known-k : tie.Need-enum-known-k
+enum-known-k c = search needs
 
 returns-2 : tie.Need-returns-2
-unfolding ibanPasses
-returns-2 c = and-first _ _ (sym (c .before .is-in-range .ensures ∙ ap inRange (c .before .before .two-digits .ensures)) ∙ not-true _ (c .if2 .taken))
+returns-2 c = let d = c .before .before in low-fails _ (d .k .given .0 .0) (sym (d .k .given .1) ∙ d .before .before .two-digits .ensures) (c .if2 .taken)
+
+returns-3 : tie.Need-returns-3
+returns-3 c = let d = c .before .before .before in high-fails _ (d .k .given .0 .0) (sym (d .k .given .1) ∙ d .before .before .two-digits .ensures) (c .if3 .taken)
 
 sub-remainder97 : tie.Need-sub-remainder97
 sub-remainder97 c = search needs
@@ -44,30 +39,28 @@ part-remainder97-end c = search needs
 remainder97-requires : tie.Need-remainder97-requires
 remainder97-requires c κs = search needs
 
-mul-remainder97 : tie.Need-mul-remainder97
-mul-remainder97 c = search needs
+cast-result : tie.Need-cast-result
+cast-result c = search needs
 
-add-remainder97 : tie.Need-add-remainder97
-add-remainder97 c = search needs
+mul-result : tie.Need-mul-result
+mul-result c = omega arith
 
-sub-remainder97-2 : tie.Need-sub-remainder97-2
-sub-remainder97-2 c = search needs
+add-result : tie.Need-add-result
+add-result c = omega arith
 
-part-remainder97-start-2 : tie.Need-part-remainder97-start-2
-part-remainder97-start-2 c = search needs
+add-result-2 : tie.Need-add-result-2
+add-result-2 c = omega arith
 
-part-remainder97-end-2 : tie.Need-part-remainder97-end-2
-part-remainder97-end-2 c = search needs
+enum-told : tie.Need-enum-told
+enum-told c = search needs
 
-remainder97-requires-2 : tie.Need-remainder97-requires-2
-remainder97-requires-2 c κs = search needs
+returns-4 : tie.Need-returns-4
+returns-4 c =
+    let d = c .before .before .before .before .before in
+    number-decides _ (d .k .given .0 .0) (sym (d .k .given .1) ∙ d .before .before .two-digits .ensures) _ (omega arith) (omega arith) (omega arith) (c .remainder97 .ensures)
 
-returns-3 : tie.Need-returns-3
-unfolding ibanPasses
-returns-3 c =
-    let s = c .before .before .before .before .before .before .before .before .before .before .before .args .s .now in
-    and-second _ _ _ (sym (c .before .before .before .before .before .is-in-range .ensures ∙ ap inRange (c .before .before .before .before .before .before .two-digits .ensures)) ∙ not-false _ (c .before .before .before .before .if2 .left))
-    (ap (λ (n : ℕ). eqb n 1) (in-three-pieces s _ _ (c .before .before .remainder97 .ensures ∙ ap (λ (l : List ℕ). valueFrom 0 (digitsOf l) % 97) (to-the-end 4 s)) (c .remainder972 .ensures)))
+returns-5 : tie.Need-returns-5
+returns-5 c = unread-fails _ (sym (c .enum-told .given .1) ∙ c .before .before .two-digits .ensures)
 
 pub iban-passes-spec : {M : Type 1} → statement M
 iban-passes-spec =
@@ -77,16 +70,17 @@ iban-passes-spec =
     shared-slice-read-two-digits
     shared-slice-read-two-digits-2
     two-digits-requires
-    is-in-range-requires
+    enum-known-k
     returns-2
+    returns-3
     sub-remainder97
     part-remainder97-start
     part-remainder97-end
     remainder97-requires
-    mul-remainder97
-    add-remainder97
-    sub-remainder97-2
-    part-remainder97-start-2
-    part-remainder97-end-2
-    remainder97-requires-2
-    returns-3)
+    cast-result
+    mul-result
+    add-result
+    add-result-2
+    enum-told
+    returns-4
+    returns-5)

@@ -1,7 +1,8 @@
 -- `wage_fields::is_payer_right` meets its contract: each answer is that of its place's rule, and field 2 has none. Assumes nothing.
-use mathlib.Core.Path.{refl}
+use mathlib.Core.Path.{refl, sym, _∙_}
 use borrow.Author.Tests.{not-false}
 use Rattle.wage_line.specs.Places.{spots, spotIn}
+use Rattle.wage_contents.proofs.Laws.{reference-of-model}
 use Rattle.wage_fields.specs.Rules.{orderRule, paymentRule}
 use Rattle.wage_fields.proofs.Laws.{untrue, right-place, right-none}
 use borrow.Author.Needs.{needs}
@@ -38,39 +39,27 @@ returns-3 c = untrue
 order-part-requires-3 : tie.Need-order-part-requires-3
 order-part-requires-3 c κs = search needs
 
-judge-model-requires : tie.Need-judge-model-requires
-judge-model-requires c κs = search needs
+order-part-requires-4 : tie.Need-order-part-requires-4
+order-part-requires-4 c κs = search needs
+
+judge-reference-requires : tie.Need-judge-reference-requires
+judge-reference-requires c κs = search needs
 
 is-accepted-requires-3 : tie.Need-is-accepted-requires-3
 is-accepted-requires-3 c κs = search needs
 
 returns-4 : tie.Need-returns-4
-returns-4 c = untrue
-
-order-part-requires-4 : tie.Need-order-part-requires-4
-order-part-requires-4 c κs = search needs
-
-order-part-requires-5 : tie.Need-order-part-requires-5
-order-part-requires-5 c κs = search needs
-
-judge-reference-requires : tie.Need-judge-reference-requires
-judge-reference-requires c κs = search needs
-
-is-accepted-requires-4 : tie.Need-is-accepted-requires-4
-is-accepted-requires-4 c κs = search needs
-
-returns-5 : tie.Need-returns-5
 unfolding spots spotIn orderRule paymentRule
-returns-5 c = λ e kind.
-    let model = c .before .before .before .before in
-    let country = model .before .before .before .before in
+returns-4 c = λ e kind.
+    let country = c .before .before .before .before in
     let iban = country .before .before .before .before in
     let s = iban .before .before .before .before .before .before .args .s .now in
+    let r = c .is-accepted3 .ensures e in
     right-place kind s _ _ _ _ (iban .before .before .before .order-part .ensures) (iban .before .before .judge-iban .ensures) (iban .before .is-accepted .ensures (not-false _ (iban .if2 .left)))
     (right-place kind s _ _ _ _ refl refl refl
     (right-place kind s _ _ _ _ (country .before .before .before .order-part2 .ensures) (country .before .before .judge-among .ensures) (country .before .is-accepted2 .ensures (not-false _ (country .if3 .left)))
-    (right-place kind s _ _ _ _ (model .before .before .before .order-part3 .ensures) (model .before .before .judge-model .ensures) (model .before .is-accepted3 .ensures (not-false _ (model .if4 .left)))
-    (right-place kind s _ _ _ _ (c .before .before .order-part5 .ensures) (rw (← c .before .before .before .order-part4 .ensures) (c .before .judge-reference .ensures)) (c .is-accepted4 .ensures e)
+    (right-place kind s _ _ _ _ (c .before .before .before .order-part3 .ensures) refl (reference-of-model _ _ (sym (c .before .judge-reference .ensures) ∙ r))
+    (right-place kind s _ _ _ _ (c .before .before .order-part4 .ensures) (rw (← c .before .before .before .order-part3 .ensures) (c .before .judge-reference .ensures)) r
     (right-none kind s)))))
 
 pub is-payer-right-spec : {M : Type 1} → statement M
@@ -87,11 +76,7 @@ is-payer-right-spec =
     is-accepted-requires-2
     returns-3
     order-part-requires-3
-    judge-model-requires
-    is-accepted-requires-3
-    returns-4
     order-part-requires-4
-    order-part-requires-5
     judge-reference-requires
-    is-accepted-requires-4
-    returns-5)
+    is-accepted-requires-3
+    returns-4)

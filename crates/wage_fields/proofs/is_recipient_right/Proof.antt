@@ -1,6 +1,8 @@
 -- `wage_fields::is_recipient_right` meets its contract: each answer is that of its place's rule. Assumes nothing.
+use mathlib.Core.Path.{refl, sym, _∙_}
 use borrow.Author.Tests.{not-false}
 use Rattle.wage_line.specs.Places.{spots, spotIn}
+use Rattle.wage_contents.proofs.Laws.{reference-of-model}
 use Rattle.wage_fields.specs.Rules.{orderRule}
 use Rattle.wage_fields.proofs.Laws.{untrue, right-place, right-none}
 use borrow.Author.Needs.{needs}
@@ -49,40 +51,28 @@ returns-4 c = untrue
 order-part-requires-4 : tie.Need-order-part-requires-4
 order-part-requires-4 c κs = search needs
 
-judge-model-requires : tie.Need-judge-model-requires
-judge-model-requires c κs = search needs
+order-part-requires-5 : tie.Need-order-part-requires-5
+order-part-requires-5 c κs = search needs
+
+judge-reference-requires : tie.Need-judge-reference-requires
+judge-reference-requires c κs = search needs
 
 is-accepted-requires-4 : tie.Need-is-accepted-requires-4
 is-accepted-requires-4 c κs = search needs
 
 returns-5 : tie.Need-returns-5
-returns-5 c = untrue
-
-order-part-requires-5 : tie.Need-order-part-requires-5
-order-part-requires-5 c κs = search needs
-
-order-part-requires-6 : tie.Need-order-part-requires-6
-order-part-requires-6 c κs = search needs
-
-judge-reference-requires : tie.Need-judge-reference-requires
-judge-reference-requires c κs = search needs
-
-is-accepted-requires-5 : tie.Need-is-accepted-requires-5
-is-accepted-requires-5 c κs = search needs
-
-returns-6 : tie.Need-returns-6
 unfolding spots spotIn orderRule
-returns-6 c = λ e kind.
-    let model = c .before .before .before .before in
-    let amount = model .before .before .before .before in
+returns-5 c = λ e kind.
+    let amount = c .before .before .before .before in
     let description = amount .before .before .before .before in
     let purpose = description .before .before .before .before in
     let s = purpose .before .before .before .before .before .before .args .s .now in
+    let r = c .is-accepted4 .ensures e in
     right-place kind s _ _ _ _ (purpose .before .before .before .order-part .ensures) (purpose .before .before .judge-purpose .ensures) (purpose .before .is-accepted .ensures (not-false _ (purpose .if2 .left)))
     (right-place kind s _ _ _ _ (description .before .before .before .order-part2 .ensures) (description .before .before .judge-description .ensures) (description .before .is-accepted2 .ensures (not-false _ (description .if3 .left)))
     (right-place kind s _ _ _ _ (amount .before .before .before .order-part3 .ensures) (amount .before .before .judge-bytes .ensures) (amount .before .is-accepted3 .ensures (not-false _ (amount .if4 .left)))
-    (right-place kind s _ _ _ _ (model .before .before .before .order-part4 .ensures) (model .before .before .judge-model .ensures) (model .before .is-accepted4 .ensures (not-false _ (model .if5 .left)))
-    (right-place kind s _ _ _ _ (c .before .before .order-part6 .ensures) (rw (← c .before .before .before .order-part5 .ensures) (c .before .judge-reference .ensures)) (c .is-accepted5 .ensures e)
+    (right-place kind s _ _ _ _ (c .before .before .before .order-part4 .ensures) refl (reference-of-model _ _ (sym (c .before .judge-reference .ensures) ∙ r))
+    (right-place kind s _ _ _ _ (c .before .before .order-part5 .ensures) (rw (← c .before .before .before .order-part4 .ensures) (c .before .judge-reference .ensures)) r
     (right-none kind s)))))
 
 pub is-recipient-right-spec : {M : Type 1} → statement M
@@ -103,11 +93,7 @@ is-recipient-right-spec =
     is-accepted-requires-3
     returns-4
     order-part-requires-4
-    judge-model-requires
-    is-accepted-requires-4
-    returns-5
     order-part-requires-5
-    order-part-requires-6
     judge-reference-requires
-    is-accepted-requires-5
-    returns-6)
+    is-accepted-requires-4
+    returns-5)
