@@ -115,7 +115,7 @@ rest-decides k m n f h e =
     let front = both-true (allOf k (take m (take n f))) (allOf k (drop m (take n f))) (sym (all-apart k m (take n f)) ∙ e) in
     and-second (allOf k (take m f)) (allOf k (drop m f)) _ (ap (allOf k) (sym (take-take m n f h)) ∙ front .0) refl ∙ sym (all-apart k m f)
 
--- no byte is all blank; what begins with another byte is not
+-- no byte is all blank; what begins with another byte is not; after a blank the rest decides
 pub blank-none : (f : List ℕ) → length f ≡ 0 → true ≡ allOf Blanks f
 unfolding allOf
 blank-none [] e = refl
@@ -125,6 +125,11 @@ pub begins-otherwise : (f : List ℕ) → 0 < length f → (getD f 0 0 ≡ 32 �
 unfolding allOf
 begins-otherwise [] h n = absurd (omega arith)
 begins-otherwise (b ∷ f) h n = and-first (eqb b 32) (allOf Blanks f) (ne-eqb b 32 n)
+
+pub begins-blank : (f : List ℕ) → 0 < length f → getD f 0 0 ≡ 32 → allOf Blanks (drop 1 f) ≡ allOf Blanks f
+unfolding allOf
+begins-blank [] h e = absurd (omega arith)
+begins-blank (b ∷ f) h e = and-second (eqb b 32) (allOf Blanks f) (allOf Blanks f) (eq-eqb b 32 e) refl
 
 -- ---------------------------------------------------------------------------
 -- The blanks at a text's end
