@@ -1,4 +1,4 @@
--- Laws that this crate's proofs share: of answers joined, of one of three numbers, of an IBAN's place, of a
+-- Laws that this crate's proofs share: of answers joined, of one of three numbers, of a numeric field, of an IBAN's place, of a
 -- description tested in parts, and of the blanks at a text's end.
 -- Assumes nothing.
 use mathlib.Core.Path.{_≡_, refl, sym, ap, _∙_}
@@ -17,11 +17,12 @@ use Rattle.refusal.specs.declared.Refusal.{Refusal}
 use Rattle.refusal.specs.declared.Refusal.the-variants.{Form}
 use Rattle.text.specs.Bytes.{isDigit, isLetter, allOf}
 use Rattle.text.specs.declared.Class.{Class}
-use Rattle.text.specs.declared.Class.the-variants.{Digits, Blanks, Place, Description}
+use Rattle.text.specs.declared.Class.the-variants.{Digits, Blanks, Zeros, Place, Description}
 use Rattle.account.specs.Account.{ibanFormed, ibanPasses}
 use Rattle.account.specs.Answers.{ibanCheckAnswer}
 use Rattle.text.proofs.Laws.{taken, left, or-first, or-second, and-first, and-second, both-true, all-append, all-joined, all-wider}
-use Rattle.wage_contents.specs.Contents.{andThen, onlyIf, trimmed}
+use Rattle.wage_contents.specs.Contents.{andThen, onlyIf, numericIn, trimmed}
+use Rattle.wage_contents.specs.declared.Numeric.the-variants.{Wrong, Absent, Present}
 
 -- ---------------------------------------------------------------------------
 -- Answers joined: j is what the call answered, x what it is defined to answer
@@ -62,6 +63,40 @@ module _ (v w a b c : ℕ) (made : v ≡ w) (r : Refusal) where
 pub first-of-none : (f : List ℕ) → length f ≡ 0 → 0 ≡ getD f 0 0
 first-of-none [] e = refl
 first-of-none (b ∷ f) e = absurd (omega arith)
+
+-- ---------------------------------------------------------------------------
+-- What a numeric field holds, told by two tests of it
+
+-- absent: zeros
+told-absent : (z d : Bool) → cond z Absent (cond d Present Wrong) ≡ Absent → z ≡ true
+told-absent true d e = refl
+told-absent false true e = let n : _≡_ {A = ℕ} 0 1 = cc in absurd (omega arith)
+told-absent false false e = let n : _≡_ {A = ℕ} 0 1 = cc in absurd (omega arith)
+
+-- present: digits, not all of them zeros
+told-present : (z d : Bool) → cond z Absent (cond d Present Wrong) ≡ Present → (z ≡ false) × (d ≡ true)
+told-present true d e = let n : _≡_ {A = ℕ} 0 1 = cc in absurd (omega arith)
+told-present false true e = (refl, refl)
+told-present false false e = let n : _≡_ {A = ℕ} 0 1 = cc in absurd (omega arith)
+
+-- wrong: no digits
+told-wrong : (z d : Bool) → cond z Absent (cond d Present Wrong) ≡ Wrong → d ≡ false
+told-wrong true d e = let n : _≡_ {A = ℕ} 0 1 = cc in absurd (omega arith)
+told-wrong false true e = let n : _≡_ {A = ℕ} 0 1 = cc in absurd (omega arith)
+told-wrong false false e = refl
+
+module _ (f : List ℕ) where
+  -- zeros are digits
+  pub absent-digits : numericIn f ≡ Absent → (allOf Zeros f ≡ true) × (allOf Digits f ≡ true)
+  absent-digits e =
+      let z = told-absent (allOf Zeros f) (allOf Digits f) e in
+      (z, all-wider Zeros Digits (λ b h. rw (eqb-true b 48 h)) f z)
+
+  pub present-digits : numericIn f ≡ Present → (allOf Zeros f ≡ false) × (allOf Digits f ≡ true)
+  present-digits e = told-present (allOf Zeros f) (allOf Digits f) e
+
+  pub wrong-digits : numericIn f ≡ Wrong → allOf Digits f ≡ false
+  wrong-digits e = told-wrong (allOf Zeros f) (allOf Digits f) e
 
 -- ---------------------------------------------------------------------------
 -- An IBAN's place

@@ -3,7 +3,8 @@
 use mathlib.Core.Path.{refl, sym, _∙_}
 use Rattle.text.proofs.Laws.{taken, left, entered}
 use Rattle.wage_contents.specs.Contents.{oibPlaceAnswer}
-use Rattle.wage_contents.proofs.Laws.{passed}
+use Rattle.wage_contents.proofs.Laws.{passed, absent-digits, present-digits, wrong-digits}
+use Rattle.wage_contents.proofs.Accepted.{stands, digits-accepted}
 use borrow.Author.Needs.{needs}
 use Rattle.wage_contents.proofs.judge_oib.Statement.{statement}
 use Rattle.wage_contents.proofs.judge_oib.Tie as tie
@@ -22,7 +23,10 @@ enum-told-2 c = search needs
 
 returns : tie.Need-returns
 unfolding oibPlaceAnswer
-returns c = ?
+returns c =
+    let f = c .before .before .before .before .before .args .f .now in
+    let d = absent-digits f (sym (c .before .before .before .read-numeric .ensures) ∙ c .before .enum-told2 .given .1) in
+    passed _ _ _ refl _ (digits-accepted f .1 (d .1)) (entered _ _ _ _ (d .0) (taken _ _ _ (c .if1 .taken)))
 
 form-requires : tie.Need-form-requires
 form-requires c κs = search needs
@@ -35,22 +39,34 @@ oib-passes-requires c κs = search needs
 
 returns-2 : tie.Need-returns-2
 unfolding oibPlaceAnswer
-returns-2 c = ?
+returns-2 c =
+    let f = c .before .before .before .before .before .before .args .f .now in
+    let d = present-digits f (sym (c .before .before .before .before .read-numeric .ensures) ∙ c .before .before .enum-told3 .given .1) in
+    passed _ _ _ refl _ (digits-accepted f .1 (d .1)) (left _ _ _ _ (d .0) (taken _ _ _ (sym (c .before .oib-passes .ensures) ∙ c .if2 .taken)))
 
 nowhere-requires : tie.Need-nowhere-requires
 nowhere-requires c κs = search needs
 
 returns-3 : tie.Need-returns-3
 unfolding oibPlaceAnswer
-returns-3 c = ?
+returns-3 c =
+    let f = c .before .before .before .before .before .args .f .now in
+    c .judge-bytes .ensures ∙ stands _ _ _ (digits-accepted f) (wrong-digits f (sym (c .before .before .before .read-numeric .ensures) ∙ c .before .enum-told .given .1))
 
 returns-4 : tie.Need-returns-4
 unfolding oibPlaceAnswer
-returns-4 c = ?
+returns-4 c =
+    let f = c .before .before .before .before .before .before .args .f .now in
+    let d = absent-digits f (sym (c .before .before .before .before .read-numeric .ensures) ∙ c .before .before .enum-told2 .given .1) in
+    passed _ _ _ refl _ (digits-accepted f .1 (d .1)) (entered _ _ _ _ (d .0) (left _ _ _ _ (c .before .if1 .left) (c .form .ensures)))
 
 returns-5 : tie.Need-returns-5
 unfolding oibPlaceAnswer
-returns-5 c = ?
+returns-5 c =
+    let f = c .before .before .before .before .before .before .before .args .f .now in
+    let d = present-digits f (sym (c .before .before .before .before .before .read-numeric .ensures) ∙ c .before .before .before .enum-told3 .given .1) in
+    rw (c .nowhere .ensures)
+    (passed _ _ _ refl _ (digits-accepted f .1 (d .1)) (left _ _ _ _ (d .0) (left _ _ _ _ (sym (c .before .before .oib-passes .ensures) ∙ c .before .if2 .left) refl)))
 
 pub judge-oib-spec : {M : Type 1} → statement M
 judge-oib-spec =
