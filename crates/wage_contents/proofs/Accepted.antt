@@ -19,7 +19,7 @@ use Rattle.text.specs.declared.Class.{Class}
 use Rattle.text.specs.declared.Class.the-variants.{Digits, Reference, Letters, Blanks, Zeros, Place, Description}
 use Rattle.text.specs.declared.Found.{Found}
 use Rattle.text.specs.declared.Found.the-variants.{At, Nothing}
-use Rattle.text.proofs.Laws.{isNothing, all-of-nothing, both-true, and-second}
+use Rattle.text.proofs.Laws.{isNothing, all-of-nothing, both-true, or-first, and-second}
 use Rattle.account.specs.Account.{ibanFormed, ibanPasses, oibPasses}
 use Rattle.account.specs.Answers.{isIban, ibanCheckAnswer}
 use Rattle.account.proofs.Theorems.{iban-accepted-exactly}
@@ -27,7 +27,7 @@ use Rattle.dates.specs.Dates.{isDate}
 use Rattle.codes.specs.Codes.{codePlace}
 use Rattle.reference.specs.Answers.{referenceAnswer}
 use Rattle.wage_contents.specs.Contents.{andThen, onlyIf, found, numberIn, twoOfThree, euro, trimmed, unmodelledAnswer, isFound, bytesAnswer, amongAnswer, oibPlaceAnswer, employerAnswer, todayAnswer, laterAnswer, ibanPlaceAnswer, currencyAnswer, purposePlaceAnswer, signAnswer, referencePlaceAnswer, descriptionAnswer, codeAnswer}
-use Rattle.wage_contents.proofs.Laws.{account-placed}
+use Rattle.wage_contents.proofs.Laws.{blanks-placed, account-placed}
 
 -- accepted exactly when a test holds
 abbrev pub Exactly : Answer → Bool → Type 0
@@ -144,6 +144,12 @@ account-accepted blank f e =
     iban-place-accepted blank f .1
     (sym (and-second (allOf Place f) _ true (account-placed f (g .0) (i .0))
     (sym (ap (λ (b : Bool). (blank && allOf Blanks f) || b) h ∙ or-true (blank && allOf Blanks f)))))
+
+-- a place left blank where it may be is accepted
+pub blank-accepted : (blank : Bool) (f : List ℕ) → (blank && allOf Blanks f) ≡ true → ibanPlaceAnswer blank f ≡ Accepted
+blank-accepted blank f e =
+    iban-place-accepted blank f .1
+    (sym (and-second (allOf Place f) _ true (blanks-placed f (both-true blank (allOf Blanks f) e .1)) (or-first (blank && allOf Blanks f) _ e)))
 
 -- `EUR`, or blank where that may be
 pub currency-accepted : (blank : Bool) (f : List ℕ) → Exactly (currencyAnswer blank f) ((blank && allOf Blanks f) || same euro f)

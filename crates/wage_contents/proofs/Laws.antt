@@ -1,8 +1,8 @@
--- Laws that this crate's proofs share: of answers joined, of one of three numbers, of an IBAN's place, of a
--- description tested in parts, and of the blanks at a text's end.
+-- Laws that this crate's proofs share: of answers joined, of one of three numbers, of a numeric field, of an IBAN's place, of a
+-- description tested in parts, of a model's place, and of the blanks at a text's end.
 -- Assumes nothing.
 use mathlib.Core.Path.{_≡_, refl, sym, ap, _∙_}
-use mathlib.Core.Bool.{Bool, true, false, cond, _&&_, _||_}
+use mathlib.Core.Bool.{Bool, true, false, cond, _&&_, _||_, and-true, and-false}
 use mathlib.Core.List.{List, [], _∷_, _++_}
 use Prim.Native.Nat.{ℕ, suc, _-_, _≤_, _<_}
 use native.Mathlib.Omega.{arith}
@@ -14,14 +14,20 @@ use Rattle.refusal.specs.Refusal.{none}
 use Rattle.refusal.specs.declared.Answer.{Answer}
 use Rattle.refusal.specs.declared.Answer.the-variants.{Accepted, Refused}
 use Rattle.refusal.specs.declared.Refusal.{Refusal}
-use Rattle.refusal.specs.declared.Refusal.the-variants.{Form}
-use Rattle.text.specs.Bytes.{isDigit, isLetter, allOf}
+use Rattle.refusal.specs.declared.Refusal.the-variants.{Form, Model}
+use Rattle.text.specs.Bytes.{isDigit, isLetter, permits, later, firstBad, allOf}
 use Rattle.text.specs.declared.Class.{Class}
-use Rattle.text.specs.declared.Class.the-variants.{Digits, Blanks, Place, Description}
+use Rattle.text.specs.declared.Class.the-variants.{Digits, Reference, Blanks, Zeros, Place, Description}
+use Rattle.text.specs.declared.Found.{Found}
+use Rattle.text.specs.declared.Found.the-variants.{At, Nothing}
+use Rattle.text.specs.Digits.{twoDigits}
 use Rattle.account.specs.Account.{ibanFormed, ibanPasses}
 use Rattle.account.specs.Answers.{ibanCheckAnswer}
-use Rattle.text.proofs.Laws.{taken, left, or-first, or-second, and-first, and-second, both-true, all-append, all-joined, all-wider}
-use Rattle.wage_contents.specs.Contents.{andThen, onlyIf, trimmed}
+use Rattle.models.specs.Models.{modelNumber, modelOf, modelFrom}
+use Rattle.reference.specs.Answers.{textAnswer, numberAnswer}
+use Rattle.text.proofs.Laws.{isNothing, all-of-nothing, taken, left, or-first, or-second, and-first, and-second, both-true, all-append, all-joined, all-wider}
+use Rattle.wage_contents.specs.Contents.{andThen, onlyIf, bytesAnswer, numericIn, ibanPlaceAnswer, modelPlaceAnswer, trimmed, unmodelledAnswer, referencePlaceAnswer, descriptionAnswer}
+use Rattle.wage_contents.specs.declared.Numeric.the-variants.{Wrong, Absent, Present}
 
 -- ---------------------------------------------------------------------------
 -- Answers joined: j is what the call answered, x what it is defined to answer
@@ -64,6 +70,40 @@ first-of-none [] e = refl
 first-of-none (b ∷ f) e = absurd (omega arith)
 
 -- ---------------------------------------------------------------------------
+-- What a numeric field holds, told by two tests of it
+
+-- absent: zeros
+told-absent : (z d : Bool) → cond z Absent (cond d Present Wrong) ≡ Absent → z ≡ true
+told-absent true d e = refl
+told-absent false true e = let n : _≡_ {A = ℕ} 0 1 = cc in absurd (omega arith)
+told-absent false false e = let n : _≡_ {A = ℕ} 0 1 = cc in absurd (omega arith)
+
+-- present: digits, not all of them zeros
+told-present : (z d : Bool) → cond z Absent (cond d Present Wrong) ≡ Present → (z ≡ false) × (d ≡ true)
+told-present true d e = let n : _≡_ {A = ℕ} 0 1 = cc in absurd (omega arith)
+told-present false true e = (refl, refl)
+told-present false false e = let n : _≡_ {A = ℕ} 0 1 = cc in absurd (omega arith)
+
+-- wrong: no digits
+told-wrong : (z d : Bool) → cond z Absent (cond d Present Wrong) ≡ Wrong → d ≡ false
+told-wrong true d e = let n : _≡_ {A = ℕ} 0 1 = cc in absurd (omega arith)
+told-wrong false true e = let n : _≡_ {A = ℕ} 0 1 = cc in absurd (omega arith)
+told-wrong false false e = refl
+
+module _ (f : List ℕ) where
+  -- zeros are digits
+  pub absent-digits : numericIn f ≡ Absent → (allOf Zeros f ≡ true) × (allOf Digits f ≡ true)
+  absent-digits e =
+      let z = told-absent (allOf Zeros f) (allOf Digits f) e in
+      (z, all-wider Zeros Digits (λ b h. rw (eqb-true b 48 h)) f z)
+
+  pub present-digits : numericIn f ≡ Present → (allOf Zeros f ≡ false) × (allOf Digits f ≡ true)
+  present-digits e = told-present (allOf Zeros f) (allOf Digits f) e
+
+  pub wrong-digits : numericIn f ≡ Wrong → allOf Digits f ≡ false
+  wrong-digits e = told-wrong (allOf Zeros f) (allOf Digits f) e
+
+-- ---------------------------------------------------------------------------
 -- An IBAN's place
 
 -- a place too short for an IBAN
@@ -85,12 +125,21 @@ formed-placed (a ∷ (b ∷ s)) e =
     rw (eqb-true a 72 (g .0), eqb-true b 82 (h .0))
     (all-wider Digits Place (λ x d. sym (or-first _ (eqb x 32) (sym (or-first (isDigit x) (isLetter x) d)))) s (h .1))
 
+-- blanks are bytes that an IBAN's place permits
+pub blanks-placed : (f : List ℕ) → allOf Blanks f ≡ true → allOf Place f ≡ true
+blanks-placed f e = all-wider Blanks Place (λ x b. rw (eqb-true x 32 b)) f e
+
 -- an IBAN with blanks behind it is bytes that its place permits
 pub account-placed : (f : List ℕ) → allOf Blanks (drop 21 f) ≡ true → ibanFormed (take 21 f) ≡ true → allOf Place f ≡ true
 account-placed f e g =
     sym (ap (allOf Place) (take-append-drop 21 f))
     ∙ all-joined Place (take 21 f) (drop 21 f) (formed-placed (take 21 f) g)
-    (all-wider Blanks Place (λ x b. rw (eqb-true x 32 b)) (drop 21 f) e)
+    (blanks-placed (drop 21 f) e)
+
+-- a place that is not left blank is judged as one that may not be
+pub as-filled : (blank : Bool) (f : List ℕ) → (blank && allOf Blanks f) ≡ false → ibanPlaceAnswer false f ≡ ibanPlaceAnswer blank f
+unfolding ibanPlaceAnswer
+as-filled blank f e = rw e
 
 -- ---------------------------------------------------------------------------
 -- A description's bytes, tested in two parts
@@ -99,23 +148,45 @@ account-placed f e g =
 all-apart : (k : Class) (n : ℕ) (f : List ℕ) → allOf k f ≡ (allOf k (take n f) && allOf k (drop n f))
 all-apart k n f = sym (ap (allOf k) (take-append-drop n f)) ∙ all-append k (take n f) (drop n f)
 
--- a front that is not permitted decides
-pub front-wrong : (k : Class) (n : ℕ) (f : List ℕ) → allOf k (take n f) ≡ false → false ≡ allOf k f
-front-wrong k n f e = and-first _ (allOf k (drop n f)) e ∙ sym (all-apart k n f)
-
--- behind one that is, blanks are a description's
-pub blank-behind : (n : ℕ) (f : List ℕ) → allOf Description (take n f) ≡ true → allOf Blanks (drop n f) ≡ true → true ≡ allOf Description f
-blank-behind n f e g =
-    and-second _ (allOf Description (drop n f)) true e (sym (all-wider Blanks Description (λ x b. rw (eqb-true x 32 b)) (drop n f) g))
-    ∙ sym (all-apart Description n f)
-
--- and what stands behind a shorter front decides
+-- a front that is permitted, and what stands behind a shorter one, decide
 pub rest-decides : (k : Class) (m n : ℕ) (f : List ℕ) → m ≤ n → allOf k (take n f) ≡ true → allOf k (drop m f) ≡ allOf k f
 rest-decides k m n f h e =
     let front = both-true (allOf k (take m (take n f))) (allOf k (drop m (take n f))) (sym (all-apart k m (take n f)) ∙ e) in
     and-second (allOf k (take m f)) (allOf k (drop m f)) _ (ap (allOf k) (sym (take-take m n f h)) ∙ front .0) refl ∙ sym (all-apart k m f)
 
--- no byte is all blank; what begins with another byte is not
+-- nothing is wrong where every byte is permitted
+none-bad : (k : Class) (f : List ℕ) → allOf k f ≡ true → firstBad k f ≡ Nothing
+unfolding isNothing
+none-bad k f e = go (firstBad k f) (all-of-nothing k f ∙ e)
+  where
+    go : (x : Found) → isNothing x ≡ true → x ≡ Nothing
+    go (At i) h = let z : _≡_ {A = ℕ} 0 1 = cc in absurd (omega arith)
+    go Nothing h = refl
+
+-- bytes that are permitted behind a text are no wrong ones of it
+bad-before : (k : Class) (s t : List ℕ) → allOf k t ≡ true → firstBad k (s ++ t) ≡ firstBad k s
+unfolding firstBad
+bad-before k [] t e = none-bad k t e
+bad-before k (b ∷ s) t e = ap (λ (x : Found). cond (permits k b) (later x) (At 0)) (bad-before k s t e)
+
+-- a description that is blank behind its front is judged by its front
+pub by-front : (n : ℕ) (f : List ℕ) → allOf Blanks (drop n f) ≡ true → descriptionAnswer (take n f) ≡ descriptionAnswer f
+unfolding descriptionAnswer bytesAnswer
+by-front n f e =
+    let bytes = ap (firstBad Description) (sym (take-append-drop n f)) ∙ bad-before Description (take n f) (drop n f) (all-wider Blanks Description (λ x b. rw (eqb-true x 32 b)) (drop n f) e) in
+    let blank = all-apart Blanks n f ∙ ap (λ (t : Bool). allOf Blanks (take n f) && t) e ∙ and-true (allOf Blanks (take n f)) in
+    rw (bytes, blank)
+
+-- one that is not blank there is judged by its bytes alone
+pub by-bytes : (n : ℕ) (f : List ℕ) → allOf Blanks (drop n f) ≡ false → bytesAnswer Description f ≡ descriptionAnswer f
+unfolding descriptionAnswer
+by-bytes n f e = rw (all-apart Blanks n f ∙ ap (λ (t : Bool). allOf Blanks (take n f) && t) e ∙ and-false (allOf Blanks (take n f))) (go (bytesAnswer Description f))
+  where
+    go : (x : Answer) → x ≡ andThen x Accepted
+    go Accepted = refl
+    go (Refused r) = refl
+
+-- no byte is all blank; what begins with another byte is not; after a blank the rest decides
 pub blank-none : (f : List ℕ) → length f ≡ 0 → true ≡ allOf Blanks f
 unfolding allOf
 blank-none [] e = refl
@@ -125,6 +196,45 @@ pub begins-otherwise : (f : List ℕ) → 0 < length f → (getD f 0 0 ≡ 32 �
 unfolding allOf
 begins-otherwise [] h n = absurd (omega arith)
 begins-otherwise (b ∷ f) h n = and-first (eqb b 32) (allOf Blanks f) (ne-eqb b 32 n)
+
+pub begins-blank : (f : List ℕ) → 0 < length f → getD f 0 0 ≡ 32 → allOf Blanks (drop 1 f) ≡ allOf Blanks f
+unfolding allOf
+begins-blank [] h e = absurd (omega arith)
+begins-blank (b ∷ f) h e = and-second (eqb b 32) (allOf Blanks f) (allOf Blanks f) (eq-eqb b 32 e) refl
+
+-- ---------------------------------------------------------------------------
+-- A model's place
+
+-- a model that has a number begins with `H`
+numbered-begins : (m : List ℕ) (n : ℕ) → modelNumber m ≡ At n → eqb (getD m 0 0) 72 ≡ true
+numbered-begins m n e = go (eqb (length m) 4) (eqb (getD m 0 0) 72) (eqb (getD m 1 0) 82) (twoDigits (getD m 2 0) (getD m 3 0)) e
+  where
+    go : (t u v : Bool) (x : Found) → cond (t && (u && v)) x Nothing ≡ At n → u ≡ true
+    go t true v x h = refl
+    go true false v x h = let z : _≡_ {A = ℕ} 0 1 = cc in absurd (omega arith)
+    go false false v x h = let z : _≡_ {A = ℕ} 0 1 = cc in absurd (omega arith)
+
+-- so it is not blank
+pub numbered-not-blank : (m : List ℕ) (n : ℕ) → modelNumber m ≡ At n → allOf Blanks m ≡ false
+unfolding allOf
+numbered-not-blank [] n e = let h = eqb-true 0 72 (numbered-begins [] n e) in absurd (omega arith)
+numbered-not-blank (b ∷ m) n e =
+    let h = eqb-true b 72 (numbered-begins (b ∷ m) n e) in
+    sym (and-first (eqb b 32) (allOf Blanks m) (ne-eqb b 32 (λ z. omega arith)))
+
+-- a reference that is accepted has a model that is
+pub reference-of-model : (m f : List ℕ) → referencePlaceAnswer m f ≡ Accepted → modelPlaceAnswer m ≡ Accepted
+unfolding referencePlaceAnswer modelPlaceAnswer
+reference-of-model m f e = go (allOf Blanks m) (modelNumber m) e
+  where
+    handled : (t : Bool) (x : Answer) (q r : Refusal) → cond t x (Refused q) ≡ Accepted → cond t Accepted (Refused r) ≡ Accepted
+    handled true x q r h = refl
+    handled false x q r h = let z : _≡_ {A = ℕ} 0 1 = cc in absurd (omega arith)
+
+    go : (t : Bool) (x : Found) → cond t (unmodelledAnswer (trimmed f)) (numberAnswer (trimmed f) x) ≡ Accepted → cond t Accepted (modelFrom x) ≡ Accepted
+    go true x h = refl
+    go false (At n) h = handled (modelOf n .handled) (textAnswer (modelOf n) (trimmed f) (firstBad Reference (trimmed f))) (Model none) (Model none) h
+    go false Nothing h = let z : _≡_ {A = ℕ} 0 1 = cc in absurd (omega arith)
 
 -- ---------------------------------------------------------------------------
 -- The blanks at a text's end

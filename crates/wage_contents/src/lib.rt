@@ -4,7 +4,7 @@
 // IBAN goes by `account::iban_check`: W7 changes what is behind that name. Which place holds what is the crate
 // `wage_fields`.
 ghost use mathlib.Core.Path.{_≡_};
-ghost use mathlib.Core.Bool.{cond, _&&_};
+ghost use mathlib.Core.Bool.{false, cond, _&&_};
 ghost use lib.Dec.{eqb};
 ghost use lib.ListN.{getD, take, drop};
 ghost use Rattle.refusal.specs.Refusal.{none};

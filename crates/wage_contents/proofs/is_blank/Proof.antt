@@ -1,6 +1,10 @@
--- `wage_contents::is_blank` meets its contract: a first byte that is no blank decides. Assumes nothing.
+-- `wage_contents::is_blank` meets its contract: a first byte that is no blank decides, after a blank the rest does. Assumes nothing.
+use mathlib.Core.Path.{ap, _∙_}
 use native.Mathlib.Omega.{arith}
-use Rattle.wage_contents.proofs.Laws.{begins-otherwise, blank-none}
+use Rattle.text.specs.Bytes.{allOf}
+use Rattle.text.specs.declared.Class.the-variants.{Blanks}
+use Rattle.text.proofs.Laws.{to-the-end}
+use Rattle.wage_contents.proofs.Laws.{begins-otherwise, begins-blank, blank-none}
 use borrow.Author.Needs.{needs}
 use Rattle.wage_contents.proofs.is_blank.Statement.{statement}
 use Rattle.wage_contents.proofs.is_blank.Tie as tie
@@ -14,12 +18,23 @@ shared-slice-read-if2 c = omega arith
 returns-2 : tie.Need-returns-2
 returns-2 c = begins-otherwise _ (omega arith) (c .if2 .taken)
 
+sub-all-of : tie.Need-sub-all-of
+sub-all-of c = omega arith
+
+part-all-of-start : tie.Need-part-all-of-start
+part-all-of-start c = search needs
+
+part-all-of-end : tie.Need-part-all-of-end
+part-all-of-end c = search needs
+
 all-of-requires : tie.Need-all-of-requires
 all-of-requires c κs = search needs
 
 returns-3 : tie.Need-returns-3
-returns-3 c = search needs
+returns-3 c =
+    let f = c .before .before .before .before .before .before .args .f .now in
+    c .all-of .ensures ∙ ap (allOf Blanks) (to-the-end 1 f) ∙ begins-blank f (omega arith) (c .before .before .if2 .left)
 
 pub is-blank-spec : {M : Type 1} → statement M
 is-blank-spec =
-    tie.close (tie.spec returns shared-slice-read-if2 returns-2 all-of-requires returns-3)
+    tie.close (tie.spec returns shared-slice-read-if2 returns-2 sub-all-of part-all-of-start part-all-of-end all-of-requires returns-3)

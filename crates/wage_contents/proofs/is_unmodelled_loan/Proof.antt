@@ -11,11 +11,11 @@ returns c = and-first _ _ (ne-eqb _ _ (c .if1 .taken))
 returns-2 : tie.Need-returns-2
 returns-2 c = and-second _ _ _ (eq-eqb _ _ (c .before .if1 .left)) (and-first _ _ (ne-eqb _ _ (c .if2 .taken)))
 
-all-of-requires : tie.Need-all-of-requires
-all-of-requires c κs = search needs
+is-blank-requires : tie.Need-is-blank-requires
+is-blank-requires c κs = search needs
 
 returns-3 : tie.Need-returns-3
-returns-3 c = and-second _ _ _ (eq-eqb _ _ (c .before .before .if1 .left)) (and-second _ _ _ (eq-eqb _ _ (c .before .if2 .left)) (c .all-of .ensures))
+returns-3 c = and-second _ _ _ (eq-eqb _ _ (c .before .before .if1 .left)) (and-second _ _ _ (eq-eqb _ _ (c .before .if2 .left)) (c .is-blank .ensures))
 
 pub is-unmodelled-loan-spec : {M : Type 1} → statement M
-is-unmodelled-loan-spec = tie.close (tie.spec returns returns-2 all-of-requires returns-3)
+is-unmodelled-loan-spec = tie.close (tie.spec returns returns-2 is-blank-requires returns-3)

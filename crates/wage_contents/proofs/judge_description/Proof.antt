@@ -1,56 +1,99 @@
--- `wage_contents::judge_description` meets its contract: where every byte is permitted there is no 3, then not all blank; else 3 stands.
--- Assumes nothing.
-use mathlib.Core.Path.{refl, sym, ap, _∙_}
-use mathlib.Core.Bool.{not}
-use Rattle.text.specs.declared.Class.the-variants.{Description}
-use Rattle.text.proofs.Laws.{taken, left}
-use Rattle.wage_contents.specs.Contents.{descriptionAnswer}
-use Rattle.wage_contents.proofs.Laws.{passed}
-use Rattle.wage_contents.proofs.Accepted.{bytes-accepted, stands}
+-- `wage_contents::judge_description` meets its contract: one that is blank from its 64th byte on is judged by its front; another
+-- is not all blank, so its bytes decide. Assumes nothing.
+use mathlib.Core.Path.{sym, ap, _∙_}
+use native.Mathlib.Omega.{arith}
+use lib.Seq.{length-take-le}
+use Rattle.text.specs.Bytes.{allOf}
+use Rattle.text.specs.declared.Class.the-variants.{Blanks, Description}
+use Rattle.text.proofs.Laws.{to-the-end}
+use Rattle.wage_contents.proofs.Laws.{rest-decides, by-front, by-bytes}
+use Rattle.wage_contents.proofs.Accepted.{bytes-accepted}
 use borrow.Author.Needs.{needs}
 use Rattle.wage_contents.proofs.judge_description.Statement.{statement}
 use Rattle.wage_contents.proofs.judge_description.Tie as tie
 
-is-described-requires : tie.Need-is-described-requires
-is-described-requires c κs = search needs
-
-is-blank-requires : tie.Need-is-blank-requires
-is-blank-requires c κs = search needs
-
-form-requires : tie.Need-form-requires
-form-requires c κs = search needs
+judge-short-requires : tie.Need-judge-short-requires
+judge-short-requires c κs = search needs
 
 returns : tie.Need-returns
-unfolding descriptionAnswer
-returns c =
-    let f = c .before .before .before .before .before .before .args .f .now in
-    passed _ _ _ refl _ (bytes-accepted Description f .1 (sym (c .before .before .before .before .is-described .ensures) ∙ c .before .before .before .if1 .taken))
-    (left _ _ _ _ (ap not (sym (c .before .before .is-blank .ensures) ∙ c .before .if2 .taken)) (c .form .ensures))
+returns c = search needs
+
+sub-all-of : tie.Need-sub-all-of
+sub-all-of c = search needs
+
+part-all-of-start : tie.Need-part-all-of-start
+part-all-of-start c = search needs
+
+part-all-of-end : tie.Need-part-all-of-end
+part-all-of-end c = search needs
+
+all-of-requires : tie.Need-all-of-requires
+all-of-requires c κs = search needs
+
+slice-aggregate-judge-short : tie.Need-slice-aggregate-judge-short
+slice-aggregate-judge-short c = sym (length-take-le 64 (c .before .before .before .before .before .before .args .f .now) (omega arith))
+
+judge-short-requires-2 : tie.Need-judge-short-requires-2
+judge-short-requires-2 c κs = search needs
 
 returns-2 : tie.Need-returns-2
-unfolding descriptionAnswer
 returns-2 c =
-    let f = c .before .before .before .before .before .args .f .now in
-    passed _ _ _ refl _ (bytes-accepted Description f .1 (sym (c .before .before .before .is-described .ensures) ∙ c .before .before .if1 .taken))
-    (taken _ _ _ (ap not (sym (c .before .is-blank .ensures) ∙ c .if2 .left)))
+    let f = c .before .before .before .before .before .before .before .args .f .now in
+    c .judge-short2 .ensures ∙ by-front 64 f (ap (allOf Blanks) (sym (to-the-end 64 f)) ∙ sym (c .before .before .before .all-of .ensures) ∙ c .before .before .if2 .taken)
+
+slice-aggregate-all-described : tie.Need-slice-aggregate-all-described
+slice-aggregate-all-described c = sym (length-take-le 64 (c .before .before .before .before .before .before .args .f .now) (omega arith))
+
+all-described-requires : tie.Need-all-described-requires
+all-described-requires c κs = search needs
+
+sub-all-described : tie.Need-sub-all-described
+sub-all-described c = search needs
+
+part-all-described-start : tie.Need-part-all-described-start
+part-all-described-start c = search needs
+
+part-all-described-end : tie.Need-part-all-described-end
+part-all-described-end c = search needs
+
+all-described-requires-2 : tie.Need-all-described-requires-2
+all-described-requires-2 c κs = search needs
+
+returns-3 : tie.Need-returns-3
+returns-3 c =
+    let f = c .before .before .before .before .before .before .before .before .before .before .before .args .f .now in
+    let front = sym (c .before .before .before .before .all-described .ensures) ∙ c .before .before .before .if3 .taken in
+    let rest = ap (allOf Description) (sym (to-the-end 44 f)) ∙ sym (c .before .all-described2 .ensures) ∙ c .if4 .taken in
+    sym (bytes-accepted Description f .1 (sym (rest-decides Description 44 64 f (omega arith) front) ∙ rest))
+    ∙ by-bytes 64 f (ap (allOf Blanks) (sym (to-the-end 64 f)) ∙ sym (c .before .before .before .before .before .before .before .all-of .ensures) ∙ c .before .before .before .before .before .before .if2 .left)
 
 judge-bytes-requires : tie.Need-judge-bytes-requires
 judge-bytes-requires c κs = search needs
 
-returns-3 : tie.Need-returns-3
-unfolding descriptionAnswer
-returns-3 c =
-    let f = c .before .before .before .before .args .f .now in
-    c .judge-bytes .ensures ∙ stands _ _ _ (bytes-accepted Description f) (sym (c .before .before .is-described .ensures) ∙ c .before .if1 .left)
+returns-4 : tie.Need-returns-4
+returns-4 c =
+    let f = c .before .before .before .before .before .before .before .before .before .args .f .now in
+    c .judge-bytes .ensures ∙ by-bytes 64 f (ap (allOf Blanks) (sym (to-the-end 64 f)) ∙ sym (c .before .before .before .before .before .all-of .ensures) ∙ c .before .before .before .before .if2 .left)
 
 pub judge-description-spec : {M : Type 1} → statement M
 judge-description-spec =
     tie.close
     (tie.spec
-    is-described-requires
-    is-blank-requires
-    form-requires
+    judge-short-requires
     returns
+    sub-all-of
+    part-all-of-start
+    part-all-of-end
+    all-of-requires
+    slice-aggregate-judge-short
+    judge-short-requires-2
     returns-2
+    slice-aggregate-all-described
+    all-described-requires
+    sub-all-described
+    part-all-described-start
+    part-all-described-end
+    all-described-requires-2
+    returns-3
     judge-bytes-requires
-    returns-3)
+    returns-4)

@@ -1,44 +1,82 @@
--- `wage_contents::judge_reference` meets its contract: what is left without its last blanks, by a blank model or by its model.
+-- `wage_contents::judge_reference` meets its contract: what is left without its last blanks, by its model's number or by a blank model.
 -- Assumes nothing.
-use mathlib.Core.Path.{sym, ap, _∙_}
-use Rattle.reference.specs.Answers.{referenceAnswer}
+use mathlib.Core.Path.{_≡_, sym, ap, _∙_}
+use mathlib.Core.List.{List}
+use Prim.Native.Nat.{ℕ}
+use Rattle.reference.specs.Answers.{modelAnswer, numberAnswer}
+use Rattle.models.specs.Models.{modelNumber, modelOf}
+use Rattle.refusal.specs.declared.Answer.{Answer}
+use Rattle.text.specs.Bytes.{allOf}
+use Rattle.text.specs.declared.Class.the-variants.{Blanks}
+use Rattle.text.specs.declared.Found.the-variants.{At}
 use Rattle.text.proofs.Laws.{left, entered}
-use Rattle.wage_contents.specs.Contents.{unmodelledAnswer, referencePlaceAnswer}
+use Rattle.wage_contents.specs.Contents.{trimmed, unmodelledAnswer, referencePlaceAnswer}
+use Rattle.wage_contents.proofs.Laws.{numbered-not-blank}
 use borrow.Author.Needs.{needs}
 use Rattle.wage_contents.proofs.judge_reference.Statement.{statement}
 use Rattle.wage_contents.proofs.judge_reference.Tie as tie
 
-all-of-requires : tie.Need-all-of-requires
-all-of-requires c κs = search needs
+-- a model that has a number judges what is left
+by-number : (m f g : List ℕ) (n : ℕ) (r : Answer) → modelNumber m ≡ At n → g ≡ trimmed f → r ≡ modelAnswer g (modelOf n) → r ≡ referencePlaceAnswer m f
+unfolding referencePlaceAnswer
+by-number m f g n r e t h =
+    left (allOf Blanks m) (unmodelledAnswer (trimmed f)) _ r (numbered-not-blank m n e)
+    (h ∙ ap (λ (s : List ℕ). modelAnswer s (modelOf n)) t ∙ ap (numberAnswer (trimmed f)) (sym e))
+
+number-requires : tie.Need-number-requires
+number-requires c κs = search needs
+
+enum-known-n : tie.Need-enum-known-n
+enum-known-n c = search needs
 
 trim-requires : tie.Need-trim-requires
 trim-requires c κs = search needs
+
+numbered-requires : tie.Need-numbered-requires
+numbered-requires c κs = search needs
+
+enum-told : tie.Need-enum-told
+enum-told c = search needs
+
+all-of-requires : tie.Need-all-of-requires
+all-of-requires c κs = search needs
+
+trim-requires-2 : tie.Need-trim-requires-2
+trim-requires-2 c κs = search needs
 
 judge-unmodelled-requires : tie.Need-judge-unmodelled-requires
 judge-unmodelled-requires c κs = search needs
 
 returns : tie.Need-returns
 unfolding referencePlaceAnswer
-returns c = entered _ _ _ _ (sym (c .before .before .before .all-of .ensures) ∙ c .before .before .if1 .taken) (c .judge-unmodelled .ensures ∙ ap unmodelledAnswer (c .before .trim .ensures))
+returns c = entered _ _ _ _ (sym (c .before .before .before .all-of .ensures) ∙ c .before .before .if1 .taken) (c .judge-unmodelled .ensures ∙ ap unmodelledAnswer (c .before .trim2 .ensures))
 
-trim-requires-2 : tie.Need-trim-requires-2
-trim-requires-2 c κs = search needs
-
-reference-requires : tie.Need-reference-requires
-reference-requires c κs = search needs
+form-requires : tie.Need-form-requires
+form-requires c κs = search needs
 
 returns-2 : tie.Need-returns-2
+returns-2 c = by-number _ _ _ _ _ (sym (c .before .before .before .before .before .number .ensures) ∙ c .before .before .before .n .given .1) (c .before .trim .ensures) (c .numbered .ensures)
+
+returns-3 : tie.Need-returns-3
 unfolding referencePlaceAnswer
-returns-2 c = left _ _ _ _ (sym (c .before .before .before .all-of .ensures) ∙ c .before .before .if1 .left) (c .reference .ensures ∙ ap (referenceAnswer (c .before .before .before .before .before .before .args .m .now)) (c .before .trim2 .ensures))
+returns-3 c =
+    let a = c .before .before .before .before .before .before .before .before .args in
+    let e = sym (c .before .before .before .before .before .number .ensures) ∙ c .before .before .before .enum-told .given .1 in
+    left _ _ _ _ (sym (c .before .before .all-of .ensures) ∙ c .before .if1 .left) (c .form .ensures ∙ ap (numberAnswer (trimmed (a .f .now))) (sym e))
 
 pub judge-reference-spec : {M : Type 1} → statement M
 judge-reference-spec =
     tie.close
     (tie.spec
-    all-of-requires
+    number-requires
+    enum-known-n
     trim-requires
+    numbered-requires
+    enum-told
+    all-of-requires
+    trim-requires-2
     judge-unmodelled-requires
     returns
-    trim-requires-2
-    reference-requires
-    returns-2)
+    form-requires
+    returns-2
+    returns-3)
