@@ -218,6 +218,13 @@ fn all_within(least: u8, most: u8, s: &[u8]) -> bool
     right
 }
 
+// Whether every byte is a blank: `all_of` of that class, which is asked most often.
+pub fn all_blank(s: &[u8]) -> bool
+    ensures { λ r. ⌜ r ≡ allOf Class.Blanks (now (s .entry)) ⌝ }
+{
+    all_within(32, 32, s)
+}
+
 // Whether the class permits every byte: in one go where it permits those between two.
 pub fn all_of(class: Class, s: &[u8]) -> bool
     ensures { λ r. ⌜ r ≡ allOf class (now (s .entry)) ⌝ }
@@ -229,7 +236,7 @@ pub fn all_of(class: Class, s: &[u8]) -> bool
         return all_within(65, 90, s);
     }
     if let Class::Blanks = class {
-        return all_within(32, 32, s);
+        return all_blank(s);
     }
     if let Class::Zeros = class {
         return all_within(48, 48, s);

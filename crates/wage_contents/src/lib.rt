@@ -200,7 +200,7 @@ fn is_blank(f: &[u8]) -> bool
     if f[0] != 32 {
         return false;
     }
-    text::all_of(Class::Blanks, &f[1..])
+    text::all_blank(&f[1..])
 }
 
 // Whether a place is all blank where it may be.
@@ -220,7 +220,7 @@ fn judge_account(f: &[u8]) -> Answer
     if f.len() < 21 {
         return form();
     }
-    if text::all_of(Class::Blanks, &f[21..]) {
+    if text::all_blank(&f[21..]) {
         return account::iban_check(&f[..21]);
     }
     form()
@@ -349,7 +349,7 @@ pub fn judge_reference(m: &[u8], f: &[u8]) -> Answer
     match models::number(m) {
         Found::At(n) => reference::numbered(n, trim(f)),
         Found::Nothing => {
-            if text::all_of(Class::Blanks, m) {
+            if is_blank(m) {
                 return judge_unmodelled(trim(f));
             }
             form()
@@ -378,7 +378,7 @@ pub fn judge_description(f: &[u8]) -> Answer
     if f.len() <= 64 {
         return judge_short(f);
     }
-    if text::all_of(Class::Blanks, &f[64..]) {
+    if text::all_blank(&f[64..]) {
         return judge_short(&f[..64]);
     }
     if text::all_described(&f[..64]) {

@@ -1,7 +1,7 @@
 -- `text::all_of` meets its contract: a class that permits the bytes between two by `all_within`; of another, every byte is permitted where
 -- nothing was found. Assumes nothing.
 use mathlib.Core.Path.{refl, sym, ap, _∙_}
-use Rattle.text.specs.declared.Class.the-variants.{Digits, Letters, Blanks, Zeros}
+use Rattle.text.specs.declared.Class.the-variants.{Digits, Letters, Zeros}
 use Rattle.text.proofs.Laws.{isNothing, all-of-nothing, alone-between}
 use borrow.Author.Needs.{needs}
 use Rattle.text.proofs.all_of.Statement.{statement}
@@ -28,20 +28,20 @@ returns-2 c = rw (c .before .enum-told2 .given .1) (c .all-within2 .ensures Lett
 enum-told-3 : tie.Need-enum-told-3
 enum-told-3 c = search needs
 
-all-within-requires-3 : tie.Need-all-within-requires-3
-all-within-requires-3 c κs = search needs
+all-blank-requires : tie.Need-all-blank-requires
+all-blank-requires c κs = search needs
 
 returns-3 : tie.Need-returns-3
-returns-3 c = rw (c .before .enum-told3 .given .1) (c .all-within3 .ensures Blanks (alone-between 32))
+returns-3 c = rw (c .before .enum-told3 .given .1) (c .all-blank .ensures)
 
 enum-told-4 : tie.Need-enum-told-4
 enum-told-4 c = search needs
 
-all-within-requires-4 : tie.Need-all-within-requires-4
-all-within-requires-4 c κs = search needs
+all-within-requires-3 : tie.Need-all-within-requires-3
+all-within-requires-3 c κs = search needs
 
 returns-4 : tie.Need-returns-4
-returns-4 c = rw (c .before .enum-told4 .given .1) (c .all-within4 .ensures Zeros (alone-between 48))
+returns-4 c = rw (c .before .enum-told4 .given .1) (c .all-within3 .ensures Zeros (alone-between 48))
 
 first-bad-requires : tie.Need-first-bad-requires
 first-bad-requires c κs = search needs
@@ -71,10 +71,10 @@ all-of-spec =
     all-within-requires-2
     returns-2
     enum-told-3
-    all-within-requires-3
+    all-blank-requires
     returns-3
     enum-told-4
-    all-within-requires-4
+    all-within-requires-3
     returns-4
     first-bad-requires
     enum-told-5

@@ -18,23 +18,23 @@ shared-slice-read-if2 c = omega arith
 returns-2 : tie.Need-returns-2
 returns-2 c = begins-otherwise _ (omega arith) (c .if2 .taken)
 
-sub-all-of : tie.Need-sub-all-of
-sub-all-of c = omega arith
+sub-all-blank : tie.Need-sub-all-blank
+sub-all-blank c = omega arith
 
-part-all-of-start : tie.Need-part-all-of-start
-part-all-of-start c = search needs
+part-all-blank-start : tie.Need-part-all-blank-start
+part-all-blank-start c = search needs
 
-part-all-of-end : tie.Need-part-all-of-end
-part-all-of-end c = search needs
+part-all-blank-end : tie.Need-part-all-blank-end
+part-all-blank-end c = search needs
 
-all-of-requires : tie.Need-all-of-requires
-all-of-requires c κs = search needs
+all-blank-requires : tie.Need-all-blank-requires
+all-blank-requires c κs = search needs
 
 returns-3 : tie.Need-returns-3
 returns-3 c =
     let f = c .before .before .before .before .before .before .args .f .now in
-    c .all-of .ensures ∙ ap (allOf Blanks) (to-the-end 1 f) ∙ begins-blank f (omega arith) (c .before .before .if2 .left)
+    c .all-blank .ensures ∙ ap (allOf Blanks) (to-the-end 1 f) ∙ begins-blank f (omega arith) (c .before .before .if2 .left)
 
 pub is-blank-spec : {M : Type 1} → statement M
 is-blank-spec =
-    tie.close (tie.spec returns shared-slice-read-if2 returns-2 sub-all-of part-all-of-start part-all-of-end all-of-requires returns-3)
+    tie.close (tie.spec returns shared-slice-read-if2 returns-2 sub-all-blank part-all-blank-start part-all-blank-end all-blank-requires returns-3)

@@ -17,17 +17,17 @@ form-requires c κs = search needs
 returns : tie.Need-returns
 returns c = c .form .ensures ∙ short-account (c .before .before .before .args .f .now) (allOf Blanks (drop 21 (c .before .before .before .args .f .now))) (c .before .if1 .taken)
 
-sub-all-of : tie.Need-sub-all-of
-sub-all-of c = search needs
+sub-all-blank : tie.Need-sub-all-blank
+sub-all-blank c = search needs
 
-part-all-of-start : tie.Need-part-all-of-start
-part-all-of-start c = search needs
+part-all-blank-start : tie.Need-part-all-blank-start
+part-all-blank-start c = search needs
 
-part-all-of-end : tie.Need-part-all-of-end
-part-all-of-end c = search needs
+part-all-blank-end : tie.Need-part-all-blank-end
+part-all-blank-end c = search needs
 
-all-of-requires : tie.Need-all-of-requires
-all-of-requires c κs = search needs
+all-blank-requires : tie.Need-all-blank-requires
+all-blank-requires c κs = search needs
 
 slice-aggregate-iban-check : tie.Need-slice-aggregate-iban-check
 slice-aggregate-iban-check c = sym (length-take-le 21 (c .before .before .before .before .before .before .args .f .now) (omega arith))
@@ -36,13 +36,13 @@ iban-check-requires : tie.Need-iban-check-requires
 iban-check-requires c κs = search needs
 
 returns-2 : tie.Need-returns-2
-returns-2 c = entered _ _ _ _ (ap (allOf Blanks) (sym (to-the-end 21 (c .before .before .before .before .before .before .before .args .f .now))) ∙ sym (c .before .before .before .all-of .ensures) ∙ c .before .before .if2 .taken) (c .iban-check .ensures)
+returns-2 c = entered _ _ _ _ (ap (allOf Blanks) (sym (to-the-end 21 (c .before .before .before .before .before .before .before .args .f .now))) ∙ sym (c .before .before .before .all-blank .ensures) ∙ c .before .before .if2 .taken) (c .iban-check .ensures)
 
 form-requires-2 : tie.Need-form-requires-2
 form-requires-2 c κs = search needs
 
 returns-3 : tie.Need-returns-3
-returns-3 c = left _ _ _ _ (ap (allOf Blanks) (sym (to-the-end 21 (c .before .before .before .before .before .before .args .f .now))) ∙ sym (c .before .before .all-of .ensures) ∙ c .before .if2 .left) (c .form2 .ensures)
+returns-3 c = left _ _ _ _ (ap (allOf Blanks) (sym (to-the-end 21 (c .before .before .before .before .before .before .args .f .now))) ∙ sym (c .before .before .all-blank .ensures) ∙ c .before .if2 .left) (c .form2 .ensures)
 
 pub judge-account-spec : {M : Type 1} → statement M
 judge-account-spec =
@@ -50,10 +50,10 @@ judge-account-spec =
     (tie.spec
     form-requires
     returns
-    sub-all-of
-    part-all-of-start
-    part-all-of-end
-    all-of-requires
+    sub-all-blank
+    part-all-blank-start
+    part-all-blank-end
+    all-blank-requires
     slice-aggregate-iban-check
     iban-check-requires
     returns-2

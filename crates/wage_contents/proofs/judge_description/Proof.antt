@@ -18,17 +18,17 @@ judge-short-requires c κs = search needs
 returns : tie.Need-returns
 returns c = search needs
 
-sub-all-of : tie.Need-sub-all-of
-sub-all-of c = search needs
+sub-all-blank : tie.Need-sub-all-blank
+sub-all-blank c = search needs
 
-part-all-of-start : tie.Need-part-all-of-start
-part-all-of-start c = search needs
+part-all-blank-start : tie.Need-part-all-blank-start
+part-all-blank-start c = search needs
 
-part-all-of-end : tie.Need-part-all-of-end
-part-all-of-end c = search needs
+part-all-blank-end : tie.Need-part-all-blank-end
+part-all-blank-end c = search needs
 
-all-of-requires : tie.Need-all-of-requires
-all-of-requires c κs = search needs
+all-blank-requires : tie.Need-all-blank-requires
+all-blank-requires c κs = search needs
 
 slice-aggregate-judge-short : tie.Need-slice-aggregate-judge-short
 slice-aggregate-judge-short c = sym (length-take-le 64 (c .before .before .before .before .before .before .args .f .now) (omega arith))
@@ -39,7 +39,7 @@ judge-short-requires-2 c κs = search needs
 returns-2 : tie.Need-returns-2
 returns-2 c =
     let f = c .before .before .before .before .before .before .before .args .f .now in
-    c .judge-short2 .ensures ∙ by-front 64 f (ap (allOf Blanks) (sym (to-the-end 64 f)) ∙ sym (c .before .before .before .all-of .ensures) ∙ c .before .before .if2 .taken)
+    c .judge-short2 .ensures ∙ by-front 64 f (ap (allOf Blanks) (sym (to-the-end 64 f)) ∙ sym (c .before .before .before .all-blank .ensures) ∙ c .before .before .if2 .taken)
 
 slice-aggregate-all-described : tie.Need-slice-aggregate-all-described
 slice-aggregate-all-described c = sym (length-take-le 64 (c .before .before .before .before .before .before .args .f .now) (omega arith))
@@ -65,7 +65,7 @@ returns-3 c =
     let front = sym (c .before .before .before .before .all-described .ensures) ∙ c .before .before .before .if3 .taken in
     let rest = ap (allOf Description) (sym (to-the-end 44 f)) ∙ sym (c .before .all-described2 .ensures) ∙ c .if4 .taken in
     sym (bytes-accepted Description f .1 (sym (rest-decides Description 44 64 f (omega arith) front) ∙ rest))
-    ∙ by-bytes 64 f (ap (allOf Blanks) (sym (to-the-end 64 f)) ∙ sym (c .before .before .before .before .before .before .before .all-of .ensures) ∙ c .before .before .before .before .before .before .if2 .left)
+    ∙ by-bytes 64 f (ap (allOf Blanks) (sym (to-the-end 64 f)) ∙ sym (c .before .before .before .before .before .before .before .all-blank .ensures) ∙ c .before .before .before .before .before .before .if2 .left)
 
 judge-bytes-requires : tie.Need-judge-bytes-requires
 judge-bytes-requires c κs = search needs
@@ -73,7 +73,7 @@ judge-bytes-requires c κs = search needs
 returns-4 : tie.Need-returns-4
 returns-4 c =
     let f = c .before .before .before .before .before .before .before .before .before .args .f .now in
-    c .judge-bytes .ensures ∙ by-bytes 64 f (ap (allOf Blanks) (sym (to-the-end 64 f)) ∙ sym (c .before .before .before .before .before .all-of .ensures) ∙ c .before .before .before .before .if2 .left)
+    c .judge-bytes .ensures ∙ by-bytes 64 f (ap (allOf Blanks) (sym (to-the-end 64 f)) ∙ sym (c .before .before .before .before .before .all-blank .ensures) ∙ c .before .before .before .before .if2 .left)
 
 pub judge-description-spec : {M : Type 1} → statement M
 judge-description-spec =
@@ -81,10 +81,10 @@ judge-description-spec =
     (tie.spec
     judge-short-requires
     returns
-    sub-all-of
-    part-all-of-start
-    part-all-of-end
-    all-of-requires
+    sub-all-blank
+    part-all-blank-start
+    part-all-blank-end
+    all-blank-requires
     slice-aggregate-judge-short
     judge-short-requires-2
     returns-2

@@ -38,8 +38,8 @@ numbered-requires c κs = search needs
 enum-told : tie.Need-enum-told
 enum-told c = search needs
 
-all-of-requires : tie.Need-all-of-requires
-all-of-requires c κs = search needs
+is-blank-requires : tie.Need-is-blank-requires
+is-blank-requires c κs = search needs
 
 trim-requires-2 : tie.Need-trim-requires-2
 trim-requires-2 c κs = search needs
@@ -49,7 +49,7 @@ judge-unmodelled-requires c κs = search needs
 
 returns : tie.Need-returns
 unfolding referencePlaceAnswer
-returns c = entered _ _ _ _ (sym (c .before .before .before .all-of .ensures) ∙ c .before .before .if1 .taken) (c .judge-unmodelled .ensures ∙ ap unmodelledAnswer (c .before .trim2 .ensures))
+returns c = entered _ _ _ _ (sym (c .before .before .before .is-blank .ensures) ∙ c .before .before .if1 .taken) (c .judge-unmodelled .ensures ∙ ap unmodelledAnswer (c .before .trim2 .ensures))
 
 form-requires : tie.Need-form-requires
 form-requires c κs = search needs
@@ -62,7 +62,7 @@ unfolding referencePlaceAnswer
 returns-3 c =
     let a = c .before .before .before .before .before .before .before .before .args in
     let e = sym (c .before .before .before .before .before .number .ensures) ∙ c .before .before .before .enum-told .given .1 in
-    left _ _ _ _ (sym (c .before .before .all-of .ensures) ∙ c .before .if1 .left) (c .form .ensures ∙ ap (numberAnswer (trimmed (a .f .now))) (sym e))
+    left _ _ _ _ (sym (c .before .before .is-blank .ensures) ∙ c .before .if1 .left) (c .form .ensures ∙ ap (numberAnswer (trimmed (a .f .now))) (sym e))
 
 pub judge-reference-spec : {M : Type 1} → statement M
 judge-reference-spec =
@@ -73,7 +73,7 @@ judge-reference-spec =
     trim-requires
     numbered-requires
     enum-told
-    all-of-requires
+    is-blank-requires
     trim-requires-2
     judge-unmodelled-requires
     returns
