@@ -3,6 +3,7 @@
 // Document 01, "Check digits". What an IBAN's check is stands in `iban_passes` alone: requests W3 and W7 change what is
 // behind that name, and whoever judges an IBAN goes by it.
 ghost use mathlib.Core.Path.{_≡_};
+ghost use mathlib.Core.Bool.{_&&_};
 ghost use Rattle.account.specs.Account.{ibanFormed, ibanPasses, oibPasses};
 ghost use Rattle.account.specs.Answers.{ibanCheckAnswer, ibanAnswer, oibAnswer};
 use check_digits::Rule;
@@ -48,6 +49,16 @@ pub fn iban_passes(s: &[u8]) -> bool
         }
         Found::Nothing => false,
     }
+}
+
+// Whether a text is an IBAN: its form, then its check.
+pub fn is_iban(s: &[u8]) -> bool
+    ensures { λ r. ⌜ r ≡ (ibanFormed (now (s .entry)) && ibanPasses (now (s .entry))) ⌝ }
+{
+    if !is_iban_formed(s) {
+        return false;
+    }
+    iban_passes(s)
 }
 
 // 5 where a text has not an IBAN's form, then 6 where its check fails.

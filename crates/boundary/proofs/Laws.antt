@@ -9,7 +9,7 @@ use lib.Dec.{leb}
 use lib.ListN.{length, take, drop, getD, length-drop}
 use lib.Seq.{length-take-le}
 use borrow.Author.Tests.{le-leb, lt-leb}
-use Rattle.refusal.specs.Refusal.{numberOf, placeOf, neededOf}
+use Rattle.refusal.specs.Refusal.{numberOf, placeOf, neededOf, isAccepted}
 use Rattle.refusal.specs.declared.Place.{Place}
 use Rattle.refusal.specs.declared.Refusal.{Refusal}
 use Rattle.text.specs.Bytes.{firstBad}
@@ -17,7 +17,7 @@ use Rattle.text.specs.Split.{split}
 use Rattle.text.specs.declared.Class.the-variants.{Line}
 use Rattle.text.specs.declared.Found.the-variants.{At, Nothing}
 use Rattle.text.proofs.Laws.{left, entered, and-first, and-second}
-use Rattle.slip.specs.Slip.{slipAnswer, isAccepted, pieceOf, fieldOf}
+use Rattle.slip.specs.Slip.{slipAnswer, pieceOf, fieldOf}
 use Rattle.slip.proofs.Laws.{first-piece, next-piece, last-piece, field-handed}
 use Rattle.wage_draft.specs.Fields.{fieldsOf, behind}
 use Rattle.boundary.specs.declared.Part.{Part}

@@ -8,7 +8,7 @@ use native.Mathlib.Omega.{arith}
 use lib.Dec.{leb}
 use lib.ListN.{length, take, drop}
 use lib.Seq.{length-take-le, take-all, drop-drop}
-use Rattle.refusal.specs.Refusal.{numberOf, refusalOf, numbers-tell-all}
+use Rattle.refusal.specs.Refusal.{numberOf, refusalOf, numbers-tell-all, isAccepted}
 use Rattle.refusal.specs.declared.Answer.{Answer}
 use Rattle.refusal.specs.declared.Answer.the-variants.{Accepted, Refused}
 use Rattle.refusal.specs.declared.Refusal.{Refusal}
@@ -18,7 +18,7 @@ use Rattle.text.specs.Split.{split}
 use Rattle.text.specs.declared.Class.the-variants as class
 use Rattle.text.specs.declared.Found.{Found}
 use Rattle.text.specs.declared.Found.the-variants.{At, Nothing}
-use Rattle.slip.specs.Slip.{slipAnswer, isAccepted, pieceOf, fieldOf}
+use Rattle.slip.specs.Slip.{slipAnswer, pieceOf, fieldOf}
 use Rattle.slip.proofs.Laws.{split-at, split-whole}
 use Rattle.wage_line.specs.declared.Typed.{Typed}
 use Rattle.wage_line.specs.declared.Typed.the-variants as typed

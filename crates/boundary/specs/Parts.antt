@@ -5,7 +5,8 @@ use mathlib.Core.List.{List, [], _∷_}
 use lib.Dec.{leb}
 use lib.ListN.{length, getD}
 use Rattle.text.specs.Split.{split}
-use Rattle.slip.specs.Slip.{slipAnswer, isAccepted, pieceOf}
+use Rattle.refusal.specs.Refusal.{isAccepted}
+use Rattle.slip.specs.Slip.{slipAnswer, pieceOf}
 use Rattle.wage_line.specs.declared.Typed.{Typed}
 use Rattle.wage_line.specs.declared.Typed.the-variants.{Line, Refused}
 use Rattle.wage_line.specs.Places.{spotOf}

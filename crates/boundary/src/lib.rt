@@ -4,9 +4,9 @@
 // A record of any numbers stands for a judge: one that the judge did not make gets an answer too.
 ghost use mathlib.Core.Path.{_≡_};
 ghost use lib.ListN.{getD, take};
-ghost use Rattle.refusal.specs.Refusal.{refusalOf};
+ghost use Rattle.refusal.specs.Refusal.{refusalOf, isAccepted};
 ghost use Rattle.text.specs.Split.{split};
-ghost use Rattle.slip.specs.Slip.{slipAnswer, isAccepted};
+ghost use Rattle.slip.specs.Slip.{slipAnswer};
 ghost use Rattle.boundary.specs.Told.{accepted, refusal, toldOf, madeOf, listedOf, centsTold, writtenOf, endedOf, valued};
 ghost use Rattle.boundary.specs.Record.{conditionOf, judgeOf, recordOf, conditionNumber, conditionTold};
 ghost use Rattle.boundary.specs.Parts.{startOf, fieldPart, placePart, givenOf};

@@ -10,6 +10,7 @@ ghost use Rattle.reference.specs.Groups.{afterHyphens, hyphensIn, foundA
 ghost use Rattle.reference.specs.Readers.{fitsNext, Roomy, partRead, digitRead, partsIn, partsFound, hyphensBetween};
 ghost use Rattle.reference.specs.Answers.{groupsAnswer, unformedAnswer, textAnswer, modelAnswer, referenceAnswer};
 ghost use Rattle.models.specs.Models.{modelOf};
+ghost use Rattle.refusal.specs.Refusal.{isAccepted};
 ghost use Rattle.text.specs.Bytes.{firstBad};
 use check_digits::Rule;
 use models::Group;
@@ -374,6 +375,13 @@ pub fn numbered(n: usize, s: &[u8]) -> Answer
         return Answer::Refused(Refusal::Model(refusal::nowhere()));
     }
     judged_text(m, s)
+}
+
+// Whether a reference is right by its model's number.
+pub fn is_right(n: usize, s: &[u8]) -> bool
+    ensures { λ r. ⌜ r ≡ isAccepted (modelAnswer (now (s .entry)) (modelOf n)) ⌝ }
+{
+    refusal::is_accepted(numbered(n, s))
 }
 
 // A reference by its model's text: 5 and 7 of the model, then 3 with its byte, 4, 8 and 9 of the reference.

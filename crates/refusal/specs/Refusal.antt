@@ -1,7 +1,7 @@
 -- Document 01, "Refusal numbers": what the paper's number, place and needed number of each refusal are.
 use Prim.Native.Nat.{ℕ}
 use mathlib.Core.Path.{_≡_, refl}
-use mathlib.Core.Bool.{cond}
+use mathlib.Core.Bool.{Bool, true, false, cond}
 use lib.Dec.{eqb}
 use Rattle.refusal.specs.declared.Place.{Place}
 use Rattle.refusal.specs.declared.Refusal.{Refusal}
@@ -147,3 +147,8 @@ byteAt i = Refused (Byte (record { line = 0; field = 0; byte = i }))
 abbrev pub placed : Place → Answer → Answer
 placed q Accepted = Accepted
 placed q (Refused r) = Refused (moved q r)
+
+-- an answer refuses nothing
+abbrev pub isAccepted : Answer → Bool
+isAccepted Accepted = true
+isAccepted (Refused r) = false

@@ -3,7 +3,7 @@
 // What the paper's number, place and needed count of a refusal are is said once, in specs/Refusal.antt,
 // and every promise above speaks of refusals through it. A request of document 02 adds a case here.
 ghost use mathlib.Core.Path.{_≡_};
-ghost use Rattle.refusal.specs.Refusal.{none, numberOf, placeOf, neededOf, moved};
+ghost use Rattle.refusal.specs.Refusal.{none, numberOf, placeOf, neededOf, moved, isAccepted};
 
 // Where a refusal stands. Lines and fields count from 1, bytes from 0; 0 stands for "none".
 pub struct Place {
@@ -148,5 +148,15 @@ pub fn put(refusal: Refusal, place: Place) -> Refusal
         Refusal::Room(_, n) => Refusal::Room(place, n),
         Refusal::Marks(_) => Refusal::Marks(place),
         Refusal::Beyond(_) => Refusal::Beyond(place),
+    }
+}
+
+// Whether an answer refuses nothing.
+pub fn is_accepted(a: Answer) -> bool
+    ensures { λ r. ⌜ r ≡ isAccepted a ⌝ }
+{
+    match a {
+        Answer::Accepted => true,
+        Answer::Refused(_) => false,
     }
 }

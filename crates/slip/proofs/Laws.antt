@@ -11,7 +11,7 @@ use lib.Dec.{eqb, leb}
 use lib.ListN.{length, take, drop, getD, length-drop}
 use lib.Seq.{drop-cons, drop-drop, drop-length, length-take-le}
 use borrow.Author.Tests.{ne-eqb, eq-eqb, le-leb, lt-leb}
-use Rattle.refusal.specs.Refusal.{none, placeOf}
+use Rattle.refusal.specs.Refusal.{none, placeOf, isAccepted}
 use Rattle.refusal.specs.declared.Answer.{Answer}
 use Rattle.refusal.specs.declared.Answer.the-variants.{Accepted, Refused}
 use Rattle.refusal.specs.declared.Refusal.{Refusal}
@@ -30,7 +30,7 @@ use Rattle.account.proofs.ByteWithin.{iban-within}
 use Rattle.models.proofs.ByteWithin.{model-within}
 use Rattle.reference.proofs.ByteWithin.{reference-within}
 use Rattle.slip_fields.specs.Fields.{fieldAnswer, hrvhub30, eur, amountFrom, purposeFrom, mostOf}
-use Rattle.slip.specs.Slip.{countOf, slipEnds, judged, fieldsAnswer, slipAnswer, isAccepted, pieceOf, fieldOf}
+use Rattle.slip.specs.Slip.{countOf, slipEnds, judged, fieldsAnswer, slipAnswer, pieceOf, fieldOf}
 
 -- ---------------------------------------------------------------------------
 -- The pieces between the bytes c

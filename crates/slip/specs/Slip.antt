@@ -1,10 +1,10 @@
 -- Document 01, "The slip's fourteen fields": what reading a slip answers, and its fields.
 use Prim.Native.Nat.{ℕ, suc, _+_, _-_}
-use mathlib.Core.Bool.{Bool, true, false, cond, _&&_}
+use mathlib.Core.Bool.{Bool, cond, _&&_}
 use mathlib.Core.List.{List, [], _∷_}
 use lib.Dec.{eqb, leb}
 use lib.ListN.{length, getD}
-use Rattle.refusal.specs.Refusal.{none, placeOf, moved}
+use Rattle.refusal.specs.Refusal.{none, placeOf, moved, isAccepted}
 use Rattle.refusal.specs.declared.Answer.{Answer}
 use Rattle.refusal.specs.declared.Answer.the-variants.{Accepted, Refused}
 use Rattle.refusal.specs.declared.Refusal.{Refusal}
@@ -55,10 +55,6 @@ slipAnswer s =
 
 -- ---------------------------------------------------------------------------
 -- A field of a slip
-
-abbrev pub isAccepted : Answer → Bool
-isAccepted Accepted = true
-isAccepted (Refused r) = false
 
 -- the piece at a place, counted from 0; nothing past the end
 unfoldable pub pieceOf : ℕ → List (List ℕ) → List ℕ

@@ -7,7 +7,7 @@ ghost use mathlib.Core.Path.{_≡_};
 ghost use mathlib.Core.Bool.{false, cond, _&&_};
 ghost use lib.Dec.{eqb};
 ghost use lib.ListN.{getD, take, drop};
-ghost use Rattle.refusal.specs.Refusal.{none};
+ghost use Rattle.refusal.specs.Refusal.{none, isAccepted};
 ghost use Rattle.text.specs.Bytes.{allOf};
 ghost use Rattle.account.specs.Answers.{ibanCheckAnswer};
 ghost use Rattle.codes.specs.Codes.{codePlace};
@@ -249,6 +249,13 @@ pub fn judge_iban(blank: bool, f: &[u8]) -> Answer
     judge_filled(f)
 }
 
+// Whether a place holds an IBAN with blanks behind it.
+pub fn is_iban(f: &[u8]) -> bool
+    ensures { λ r. ⌜ r ≡ isAccepted (ibanPlaceAnswer false (now (f .entry))) ⌝ }
+{
+    refusal::is_accepted(judge_iban(false, f))
+}
+
 // `EUR`, or blank where that may be: 5.
 pub fn judge_currency(blank: bool, f: &[u8]) -> Answer
     ensures { λ r. ⌜ r ≡ currencyAnswer blank (now (f .entry)) ⌝ }
@@ -357,6 +364,13 @@ pub fn judge_reference(m: &[u8], f: &[u8]) -> Answer
     }
 }
 
+// Whether a reference is right after its model's place.
+pub fn is_reference(m: &[u8], f: &[u8]) -> bool
+    ensures { λ r. ⌜ r ≡ isAccepted (referencePlaceAnswer (now (m .entry)) (now (f .entry))) ⌝ }
+{
+    refusal::is_accepted(judge_reference(m, f))
+}
+
 // A description of at most 64 bytes, or the first 64 of one that is blank after them: 3, 5.
 fn judge_short(f: &[u8]) -> Answer
     ensures { λ r. ⌜ r ≡ descriptionAnswer (now (f .entry)) ⌝ }
@@ -387,6 +401,13 @@ pub fn judge_description(f: &[u8]) -> Answer
         }
     }
     judge_bytes(Class::Description, f)
+}
+
+// Whether a description is right.
+pub fn is_description(f: &[u8]) -> bool
+    ensures { λ r. ⌜ r ≡ isAccepted (descriptionAnswer (now (f .entry))) ⌝ }
+{
+    refusal::is_accepted(judge_description(f))
 }
 
 // Whether a number is a code of 004's list.
