@@ -11,7 +11,7 @@ use lib.Dec.{eqb, ltb}
 use lib.ListN.{length, drop, getD, length-take, drop-of-length-le, List·getD-eq-default}
 use lib.Seq.{drop-cons}
 use borrow.Author.Tests.{ltb-true, ltb-false}
-use Rattle.refusal.specs.Refusal.{placeOf}
+use Rattle.refusal.specs.Refusal.{placeOf, isAccepted}
 use Rattle.refusal.specs.declared.Answer.{Answer}
 use Rattle.refusal.specs.declared.Answer.the-variants.{Accepted, Refused}
 use Rattle.refusal.specs.declared.Refusal.{Refusal}
@@ -204,6 +204,11 @@ module _ (day kind : ℕ) (t : LineType) (s : List ℕ) (r : Refusal) where
 -- false is not true, so whatever was promised of true
 pub untrue : {A : Type 0} → false ≡ true → A
 untrue e = let z : _≡_ {A = ℕ} 0 1 = cc in absurd (omega arith)
+
+-- an answer that was told to refuse nothing
+pub told-right : (a : Answer) (r : Bool) → r ≡ isAccepted a → r ≡ true → a ≡ Accepted
+told-right Accepted r e f = refl
+told-right (Refused q) r e f = untrue (sym e ∙ f)
 
 module _ (kind : ℕ) (s : List ℕ) where
   -- a place whose rule's answer is Accepted, before places that are right

@@ -147,16 +147,6 @@ pub fn judge_place(day: u64, kind: u64, t: LineType, k: usize, s: &[u8]) -> Answ
 // Nearly every line of a file is a 309, and nearly every 309 is right. Its places are asked here one behind the other, each with its rule
 // written beside it, so that neither is looked for by its number; a line that is not right goes on to the loop, which finds what to refuse.
 
-// Whether an answer refuses nothing.
-fn is_accepted(a: Answer) -> bool
-    ensures { λ r. ⌜ (r ≡ true → a ≡ Answer.Accepted) ⌝ }
-{
-    match a {
-        Answer::Accepted => true,
-        Answer::Refused(_) => false,
-    }
-}
-
 // The bytes of a 309's place, by its order.
 fn order_part(k: usize, s: &[u8]) -> &[u8]
     ensures { λ r. ⌜ now r ≡ partAt (getD (spots LineType.Order) k noSpot) (now (s .entry)) ⌝ }
@@ -172,13 +162,13 @@ fn is_payer_right(s: &[u8]) -> bool
     if s.len() != 1002 {
         return false;
     }
-    if !is_accepted(wage_contents::judge_iban(false, order_part(0, s))) {
+    if !wage_contents::is_iban(order_part(0, s)) {
         return false;
     }
-    if !is_accepted(wage_contents::judge_among(0, 191, 191, order_part(2, s))) {
+    if !refusal::is_accepted(wage_contents::judge_among(0, 191, 191, order_part(2, s))) {
         return false;
     }
-    is_accepted(wage_contents::judge_reference(order_part(3, s), order_part(4, s)))
+    wage_contents::is_reference(order_part(3, s), order_part(4, s))
 }
 
 // The next five, from the purpose to the recipient's reference.
@@ -188,16 +178,16 @@ fn is_recipient_right(s: &[u8]) -> bool
     if s.len() != 1002 {
         return false;
     }
-    if !is_accepted(wage_contents::judge_purpose(order_part(5, s))) {
+    if !refusal::is_accepted(wage_contents::judge_purpose(order_part(5, s))) {
         return false;
     }
-    if !is_accepted(wage_contents::judge_description(order_part(6, s))) {
+    if !wage_contents::is_description(order_part(6, s)) {
         return false;
     }
-    if !is_accepted(wage_contents::judge_bytes(Class::Digits, order_part(7, s))) {
+    if !refusal::is_accepted(wage_contents::judge_bytes(Class::Digits, order_part(7, s))) {
         return false;
     }
-    is_accepted(wage_contents::judge_reference(order_part(8, s), order_part(9, s)))
+    wage_contents::is_reference(order_part(8, s), order_part(9, s))
 }
 
 // The last six, those of `payment_rule`.
@@ -207,22 +197,22 @@ fn is_payment_right(kind: u64, s: &[u8]) -> bool
     if s.len() != 1002 {
         return false;
     }
-    if !is_accepted(wage_contents::judge_among(0, 1, 2, order_part(10, s))) {
+    if !refusal::is_accepted(wage_contents::judge_among(0, 1, 2, order_part(10, s))) {
         return false;
     }
-    if !is_accepted(wage_contents::judge_currency(true, order_part(11, s))) {
+    if !refusal::is_accepted(wage_contents::judge_currency(true, order_part(11, s))) {
         return false;
     }
-    if !is_accepted(wage_contents::judge_sign(32, 48, 51, order_part(12, s))) {
+    if !refusal::is_accepted(wage_contents::judge_sign(32, 48, 51, order_part(12, s))) {
         return false;
     }
-    if !is_accepted(wage_contents::judge_sign(32, 48, 48, order_part(13, s))) {
+    if !refusal::is_accepted(wage_contents::judge_sign(32, 48, 48, order_part(13, s))) {
         return false;
     }
-    if !is_accepted(wage_contents::judge_code(kind, order_part(8, s), order_part(14, s))) {
+    if !refusal::is_accepted(wage_contents::judge_code(kind, order_part(8, s), order_part(14, s))) {
         return false;
     }
-    is_accepted(wage_contents::judge_oib(kind != 5, order_part(15, s)))
+    refusal::is_accepted(wage_contents::judge_oib(kind != 5, order_part(15, s)))
 }
 
 // Whether a line is a 309 and its places are right.
@@ -249,12 +239,9 @@ fn is_right_order(kind: u64, t: LineType, s: &[u8]) -> bool
 // A line's places in order
 
 // A line's places in order: the first refusal, with its field and byte.
-pub fn judge_places(day: u64, kind: u64, t: LineType, s: &[u8]) -> Answer
+fn judge_in_order(day: u64, kind: u64, t: LineType, s: &[u8]) -> Answer
     ensures { λ r. ⌜ r ≡ placesAnswer day kind t (now (s .entry)) ⌝ }
 {
-    if is_right_order(kind, t, s) {
-        return Answer::Accepted;
-    }
     let n = wage_line::count(t);
     let mut k = 0;
     'places: loop {
@@ -270,4 +257,15 @@ pub fn judge_places(day: u64, kind: u64, t: LineType, s: &[u8]) -> Answer
             }
         }
     }
+}
+
+// A line's places: the first refusal, with its field and byte. A line handed on whole would be copied before it is known to be
+// wrong: its part from the first byte on is not.
+pub fn judge_places(day: u64, kind: u64, t: LineType, s: &[u8]) -> Answer
+    ensures { λ r. ⌜ r ≡ placesAnswer day kind t (now (s .entry)) ⌝ }
+{
+    if is_right_order(kind, t, s) {
+        return Answer::Accepted;
+    }
+    judge_in_order(day, kind, t, &s[0..])
 }

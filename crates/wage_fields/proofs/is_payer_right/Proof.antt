@@ -1,10 +1,11 @@
--- `wage_fields::is_payer_right` meets its contract: each answer is that of its place's rule, and field 2 has none. Assumes nothing.
+-- `wage_fields::is_payer_right` meets its contract: each answer is that of its place's rule, field 2 has none, and a right reference has a
+-- right model. Assumes nothing.
 use mathlib.Core.Path.{refl, sym, _∙_}
 use borrow.Author.Tests.{not-false}
 use Rattle.wage_line.specs.Places.{spots, spotIn}
 use Rattle.wage_contents.proofs.Laws.{reference-of-model}
 use Rattle.wage_fields.specs.Rules.{orderRule, paymentRule}
-use Rattle.wage_fields.proofs.Laws.{untrue, right-place, right-none}
+use Rattle.wage_fields.proofs.Laws.{untrue, told-right, right-place, right-none}
 use borrow.Author.Needs.{needs}
 use Rattle.wage_fields.proofs.is_payer_right.Statement.{statement}
 use Rattle.wage_fields.proofs.is_payer_right.Tie as tie
@@ -15,11 +16,8 @@ returns c = untrue
 order-part-requires : tie.Need-order-part-requires
 order-part-requires c κs = search needs
 
-judge-iban-requires : tie.Need-judge-iban-requires
-judge-iban-requires c κs = search needs
-
-is-accepted-requires : tie.Need-is-accepted-requires
-is-accepted-requires c κs = search needs
+is-iban-requires : tie.Need-is-iban-requires
+is-iban-requires c κs = search needs
 
 returns-2 : tie.Need-returns-2
 returns-2 c = untrue
@@ -30,8 +28,8 @@ order-part-requires-2 c κs = search needs
 judge-among-requires : tie.Need-judge-among-requires
 judge-among-requires c κs = search needs
 
-is-accepted-requires-2 : tie.Need-is-accepted-requires-2
-is-accepted-requires-2 c κs = search needs
+is-accepted-requires : tie.Need-is-accepted-requires
+is-accepted-requires c κs = search needs
 
 returns-3 : tie.Need-returns-3
 returns-3 c = untrue
@@ -42,24 +40,21 @@ order-part-requires-3 c κs = search needs
 order-part-requires-4 : tie.Need-order-part-requires-4
 order-part-requires-4 c κs = search needs
 
-judge-reference-requires : tie.Need-judge-reference-requires
-judge-reference-requires c κs = search needs
-
-is-accepted-requires-3 : tie.Need-is-accepted-requires-3
-is-accepted-requires-3 c κs = search needs
+is-reference-requires : tie.Need-is-reference-requires
+is-reference-requires c κs = search needs
 
 returns-4 : tie.Need-returns-4
 unfolding spots spotIn orderRule paymentRule
 returns-4 c = λ e kind.
-    let country = c .before .before .before .before in
+    let country = c .before .before .before in
     let iban = country .before .before .before .before in
-    let s = iban .before .before .before .before .before .before .args .s .now in
-    let r = c .is-accepted3 .ensures e in
-    right-place kind s _ _ _ _ (iban .before .before .before .order-part .ensures) (iban .before .before .judge-iban .ensures) (iban .before .is-accepted .ensures (not-false _ (iban .if2 .left)))
+    let s = iban .before .before .before .before .before .args .s .now in
+    let r = told-right _ _ (c .is-reference .ensures) e in
+    right-place kind s _ _ _ _ (iban .before .before .order-part .ensures) refl (told-right _ _ (iban .before .is-iban .ensures) (not-false _ (iban .if2 .left)))
     (right-place kind s _ _ _ _ refl refl refl
-    (right-place kind s _ _ _ _ (country .before .before .before .order-part2 .ensures) (country .before .before .judge-among .ensures) (country .before .is-accepted2 .ensures (not-false _ (country .if3 .left)))
-    (right-place kind s _ _ _ _ (c .before .before .before .order-part3 .ensures) refl (reference-of-model _ _ (sym (c .before .judge-reference .ensures) ∙ r))
-    (right-place kind s _ _ _ _ (c .before .before .order-part4 .ensures) (rw (← c .before .before .before .order-part3 .ensures) (c .before .judge-reference .ensures)) r
+    (right-place kind s _ _ _ _ (country .before .before .before .order-part2 .ensures) (country .before .before .judge-among .ensures) (told-right _ _ (country .before .is-accepted .ensures) (not-false _ (country .if3 .left)))
+    (right-place kind s _ _ _ _ (c .before .before .order-part3 .ensures) refl (reference-of-model _ _ r)
+    (right-place kind s _ _ _ _ (c .before .order-part4 .ensures) (rw (← c .before .before .order-part3 .ensures)) r
     (right-none kind s)))))
 
 pub is-payer-right-spec : {M : Type 1} → statement M
@@ -68,15 +63,13 @@ is-payer-right-spec =
     (tie.spec
     returns
     order-part-requires
-    judge-iban-requires
-    is-accepted-requires
+    is-iban-requires
     returns-2
     order-part-requires-2
     judge-among-requires
-    is-accepted-requires-2
+    is-accepted-requires
     returns-3
     order-part-requires-3
     order-part-requires-4
-    judge-reference-requires
-    is-accepted-requires-3
+    is-reference-requires
     returns-4)

@@ -2,7 +2,7 @@
 use borrow.Author.Tests.{not-false}
 use Rattle.wage_line.specs.Places.{spots, spotIn}
 use Rattle.wage_fields.specs.Rules.{orderRule, paymentRule}
-use Rattle.wage_fields.proofs.Laws.{untrue, right-place, right-none}
+use Rattle.wage_fields.proofs.Laws.{untrue, told-right, right-place, right-none}
 use borrow.Author.Needs.{needs}
 use Rattle.wage_fields.proofs.is_payment_right.Statement.{statement}
 use Rattle.wage_fields.proofs.is_payment_right.Tie as tie
@@ -93,12 +93,12 @@ returns-7 c = λ e.
     let a = person .before .before .before .before .before .before .args in
     let kind = a .kind in
     let s = a .s .now in
-    right-place kind s _ _ _ _ (person .before .before .before .order-part .ensures) (person .before .before .judge-among .ensures) (person .before .is-accepted .ensures (not-false _ (person .if2 .left)))
-    (right-place kind s _ _ _ _ (currency .before .before .before .order-part2 .ensures) (currency .before .before .judge-currency .ensures) (currency .before .is-accepted2 .ensures (not-false _ (currency .if3 .left)))
-    (right-place kind s _ _ _ _ (costs .before .before .before .order-part3 .ensures) (costs .before .before .judge-sign .ensures) (costs .before .is-accepted3 .ensures (not-false _ (costs .if4 .left)))
-    (right-place kind s _ _ _ _ (urgency .before .before .before .order-part4 .ensures) (urgency .before .before .judge-sign2 .ensures) (urgency .before .is-accepted4 .ensures (not-false _ (urgency .if5 .left)))
-    (right-place kind s _ _ _ _ (code .before .before .before .order-part6 .ensures) (rw (← code .before .before .before .before .order-part5 .ensures) (code .before .before .judge-code .ensures)) (code .before .is-accepted5 .ensures (not-false _ (code .if6 .left)))
-    (right-place kind s _ _ _ _ (c .before .before .order-part7 .ensures) (c .before .judge-oib .ensures) (c .is-accepted6 .ensures e)
+    right-place kind s _ _ _ _ (person .before .before .before .order-part .ensures) (person .before .before .judge-among .ensures) (told-right _ _ (person .before .is-accepted .ensures) (not-false _ (person .if2 .left)))
+    (right-place kind s _ _ _ _ (currency .before .before .before .order-part2 .ensures) (currency .before .before .judge-currency .ensures) (told-right _ _ (currency .before .is-accepted2 .ensures) (not-false _ (currency .if3 .left)))
+    (right-place kind s _ _ _ _ (costs .before .before .before .order-part3 .ensures) (costs .before .before .judge-sign .ensures) (told-right _ _ (costs .before .is-accepted3 .ensures) (not-false _ (costs .if4 .left)))
+    (right-place kind s _ _ _ _ (urgency .before .before .before .order-part4 .ensures) (urgency .before .before .judge-sign2 .ensures) (told-right _ _ (urgency .before .is-accepted4 .ensures) (not-false _ (urgency .if5 .left)))
+    (right-place kind s _ _ _ (code .before .before .judge-code .result) (code .before .before .before .order-part6 .ensures) (rw (← code .before .before .before .before .order-part5 .ensures) (code .before .before .judge-code .ensures)) (told-right _ _ (code .before .is-accepted5 .ensures) (not-false _ (code .if6 .left)))
+    (right-place kind s _ _ _ _ (c .before .before .order-part7 .ensures) (c .before .judge-oib .ensures) (told-right _ _ (c .is-accepted6 .ensures) e)
     (right-none kind s))))))
 
 pub is-payment-right-spec : {M : Type 1} → statement M

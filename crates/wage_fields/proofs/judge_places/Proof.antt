@@ -1,83 +1,44 @@
--- `wage_fields::judge_places` meets its contract: a right order at once, else by the loop. Its invariant: the answer is that of the places
--- from `k` on. Assumes nothing.
-use Prim.Native.Nat.{_≤_, _-_}
-use mathlib.Core.Path.{_≡_, refl, sym, _∙_}
-use native.Mathlib.Omega.{arith}
+-- `wage_fields::judge_places` meets its contract: a right order at once, else the places in order. Assumes nothing.
+use mathlib.Core.Path.{sym, ap, _∙_}
+use mathlib.Core.List.{List}
+use Prim.Native.Nat.{ℕ}
+use Rattle.text.proofs.Laws.{to-the-end}
+use Rattle.wage_fields.specs.Rules.{placesAnswer}
 use borrow.Author.Needs.{needs}
-use lib.ListN.{drop}
-use Rattle.wage_line.specs.Places.{spots}
-use Rattle.wage_fields.specs.Rules.{placesFrom, placesAnswer}
-use Rattle.wage_fields.proofs.Laws.{places-on, places-stop, places-end}
 use Rattle.wage_fields.proofs.judge_places.Statement.{statement}
 use Rattle.wage_fields.proofs.judge_places.Tie as tie
 
-abbrev Inv-places : tie.InvT-places
-Inv-places day kind t s n k₀ k = (k ≤ n) × (placesAnswer day kind t s ≡ placesFrom day kind t (drop k (spots t)) s)
+is-right-order-requires : tie.Need-is-right-order-requires
+is-right-order-requires c κs = search needs
 
-abbrev μ-places : tie.MeasureT-places
-μ-places day kind t s n k₀ k = n - k
-
-is-right-order-requires : tie.Need-is-right-order-requires Inv-places μ-places
-is-right-order-requires c κs = tt
-
-returns : tie.Need-returns Inv-places μ-places
+returns : tie.Need-returns
 returns c = sym (c .before .is-right-order .ensures (c .if1 .taken) (c .before .before .before .args .day))
 
-count-requires : tie.Need-count-requires Inv-places μ-places
-count-requires c κs = tt
+sub-judge-in-order : tie.Need-sub-judge-in-order
+sub-judge-in-order c = search needs
 
-places-holds : tie.Need-places-holds Inv-places μ-places
-unfolding placesAnswer
-places-holds c = (omega arith, refl)
+part-judge-in-order-start : tie.Need-part-judge-in-order-start
+part-judge-in-order-start c = search needs
 
-judge-place-requires : tie.Need-judge-place-requires Inv-places μ-places
-judge-place-requires c κs = tt
+part-judge-in-order-end : tie.Need-part-judge-in-order-end
+part-judge-in-order-end c = search needs
 
-enum-told : tie.Need-enum-told Inv-places μ-places
-enum-told c = search needs
+judge-in-order-requires : tie.Need-judge-in-order-requires
+judge-in-order-requires c κs = search needs
 
-add-k : tie.Need-add-k Inv-places μ-places
-add-k c = omega arith
-
-places-less : tie.Need-places-less Inv-places μ-places
-places-less c = omega arith
-
-places-again : tie.Need-places-again Inv-places μ-places
-places-again c =
-    let a = c .before .before .before .before .before .before .before .before .before .args in
-    let l = c .before .before .before .before .places in
-    (omega arith, l .inv .1 ∙ places-on (a .day) (a .kind) (a .t) (a .s .now) (l .k) (omega (arith, c .before .before .before .before .before .count .ensures)) (sym (c .before .before .judge-place .ensures) ∙ c .enum-told .given .1))
-
-enum-known-r : tie.Need-enum-known-r Inv-places μ-places
-enum-known-r c = search needs
-
-returns-2 : tie.Need-returns-2 Inv-places μ-places
+returns-2 : tie.Need-returns-2
 returns-2 c =
-    let a = c .before .before .before .before .before .before .args in
-    let l = c .before .places in
-    places-end (a .day) (a .kind) (a .t) (a .s .now) (l .k) (omega (arith, c .before .before .count .ensures)) ∙ sym (l .inv .1)
-
-returns-3 : tie.Need-returns-3 Inv-places μ-places
-returns-3 c =
-    let a = c .before .before .before .before .before .before .before .before .before .before .args in
-    let l = c .before .before .before .before .before .places in
-    places-stop (a .day) (a .kind) (a .t) (a .s .now) (l .k) (c .before .r .given .0 .0) (omega (arith, c .before .before .before .before .before .before .count .ensures)) (sym (c .before .before .before .judge-place .ensures) ∙ c .before .r .given .1) ∙ sym (l .inv .1)
+    let a = c .before .before .before .before .before .args in
+    c .judge-in-order .ensures ∙ ap (λ (s : List ℕ). placesAnswer (a .day) (a .kind) (a .t) s) (to-the-end 0 (a .s .now))
 
 pub judge-places-spec : {M : Type 1} → statement M
 judge-places-spec =
     tie.close
     (tie.spec
-    Inv-places
-    μ-places
     is-right-order-requires
     returns
-    count-requires
-    places-holds
-    judge-place-requires
-    enum-told
-    add-k
-    places-less
-    places-again
-    enum-known-r
-    returns-2
-    returns-3)
+    sub-judge-in-order
+    part-judge-in-order-start
+    part-judge-in-order-end
+    judge-in-order-requires
+    returns-2)
