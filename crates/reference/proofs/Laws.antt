@@ -28,7 +28,7 @@ use Rattle.models.specs.declared.Model.{Model}
 use Rattle.refusal.specs.Refusal.{none, isAccepted}
 use Rattle.refusal.specs.declared.Answer.the-variants.{Accepted, Refused}
 use Rattle.refusal.specs.declared.Refusal.{Refusal}
-use Rattle.refusal.specs.declared.Refusal.the-variants.{Length as Long, Model as Unhandled, Parts as WrongParts, Digit}
+use Rattle.refusal.specs.declared.Refusal.the-variants.{Model as Unhandled, Parts as WrongParts, Digit}
 use Rattle.text.specs.Split.{longer, split}
 use Rattle.reference.specs.declared.Hyphens.{Hyphens}
 use Rattle.reference.specs.Parts.{partsOf, partsFit, formed, joined, present, groupRight, groupsRight}
@@ -944,13 +944,17 @@ module _ (model : Model) (s : List ℕ) where
 
   module _ (e : formed model s ≡ true) where
     -- formed: what its groups say
-    pub formed-answer : groupsAnswer (model .groups) s ≡ obeyAnswer model s
+    formed-answer : groupsAnswer (model .groups) s ≡ obeyAnswer model s
     unfolding obeyAnswer
     formed-answer = entered _ _ _ _ e (ap (λ (t : Bool). cond t Accepted (Refused (Digit none))) (formed-groups model s e))
 
     -- and it has no byte for 3
     pub formed-text : textAnswer model s Nothing ≡ textAnswer model s (firstBad Reference s)
     formed-text = ap (textAnswer model s) (sym (formed-bytes model s e))
+
+    -- so, of 22 bytes at most, its answer is that of its groups
+    pub short-text : length s ≤ 22 → groupsAnswer (model .groups) s ≡ textAnswer model s (firstBad Reference s)
+    short-text h = entered _ _ _ _ (le-leb _ _ h) formed-answer ∙ formed-text
 
 -- ---------------------------------------------------------------------------
 -- Answers, by whether the model is handled
@@ -984,18 +988,13 @@ module _ (model : Model) (s : List ℕ) where
 
   -- not formed, none is
   pub unformed-refused : formed model s ≡ false → (f : Found) → false ≡ isAccepted (textAnswer model s f)
-  unformed-refused e f = go f ∙ ap isAccepted (unformed-text model s e f)
+  unformed-refused e f = go (leb (length s) 22) refl f ∙ ap isAccepted (unformed-text model s e f)
     where
-      go : (f : Found) → false ≡ isAccepted (unformedAnswer s f)
-      go (At i) = refl
-      go Nothing = go-on (leb (length s) 22)
-        where
-          go-on : (t : Bool) → false ≡ isAccepted (cond t (Refused (WrongParts none)) (Refused (Long none)))
-          go-on true = refl
-          go-on false = refl
+      go : (t : Bool) → leb (length s) 22 ≡ t → (f : Found) → false ≡ isAccepted (unformedAnswer s f)
+      go t h (At i) = refl
+      go true h Nothing = rw h
+      go false h Nothing = rw h
 
   -- formed and of 22 bytes at most, it is where its groups hold
   pub formed-accepted : formed model s ≡ true → length s ≤ 22 → groupsHold (model .groups) s ≡ isAccepted (textAnswer model s (firstBad Reference s))
-  formed-accepted e h =
-      accepted-by (groupsHold (model .groups) s) (Digit none)
-      ∙ ap isAccepted (entered _ _ _ _ (le-leb _ _ h) (formed-answer model s e) ∙ formed-text model s e)
+  formed-accepted e h = accepted-by (groupsHold (model .groups) s) (Digit none) ∙ ap isAccepted (short-text model s e h)
