@@ -13,7 +13,7 @@ use lib.ListN.{length, take, drop, getD, drop-of-length-le, length-drop}
 use lib.Seq.{drop-cons, drop-length, drop-nil, take-nil}
 use mir.Syntax.{w8}
 use mir.Val.{Fits}
-use borrow.Author.Tests.{eq-eqb, ne-eqb, eqb-true, lt-ltb, le-ltb, le-leb, leb-true, ltb-true}
+use borrow.Author.Tests.{eq-eqb, ne-eqb, eqb-true, lt-ltb, le-ltb, lt-leb, le-leb, leb-true, ltb-true}
 use Rattle.text.specs.Bytes.{isDigit, allOf, later, firstBad}
 use Rattle.text.specs.Digits.{digitsOf}
 use Rattle.text.specs.declared.Class.the-variants.{Digits, Reference}
@@ -25,14 +25,15 @@ use Rattle.check_digits.specs.CheckDigit.{checkDigit, passes}
 use Rattle.check_digits.proofs.Theorems.{passes-snoc}
 use Rattle.models.specs.declared.Group.{Group}
 use Rattle.models.specs.declared.Model.{Model}
-use Rattle.refusal.specs.Refusal.{none}
+use Rattle.refusal.specs.Refusal.{none, isAccepted}
 use Rattle.refusal.specs.declared.Answer.the-variants.{Accepted, Refused}
-use Rattle.refusal.specs.declared.Refusal.the-variants.{Parts as WrongParts, Digit}
+use Rattle.refusal.specs.declared.Refusal.{Refusal}
+use Rattle.refusal.specs.declared.Refusal.the-variants.{Model as Unhandled, Parts as WrongParts, Digit}
 use Rattle.text.specs.Split.{longer, split}
 use Rattle.reference.specs.declared.Hyphens.{Hyphens}
 use Rattle.reference.specs.Parts.{partsOf, partsFit, formed, joined, present, groupRight, groupsRight}
 use Rattle.reference.specs.Readers.{fitsNext, begun, digitRead, partRead, Roomy, sizesFrom, partsFound, partsIn, hyphensBetween}
-use Rattle.reference.specs.Answers.{groupsAnswer, obeyAnswer, unformedAnswer, textAnswer}
+use Rattle.reference.specs.Answers.{groupsAnswer, obeyAnswer, unformedAnswer, textAnswer, modelAnswer}
 use Rattle.reference.specs.Groups.{afterHyphens, hyphensIn, foundAt, hyphensOf, stretchHolds, before, headHolds, heldFrom, groupHolds, groupsHold}
 
 -- ---------------------------------------------------------------------------
@@ -943,10 +944,57 @@ module _ (model : Model) (s : List ℕ) where
 
   module _ (e : formed model s ≡ true) where
     -- formed: what its groups say
-    pub formed-answer : groupsAnswer (model .groups) s ≡ obeyAnswer model s
+    formed-answer : groupsAnswer (model .groups) s ≡ obeyAnswer model s
     unfolding obeyAnswer
     formed-answer = entered _ _ _ _ e (ap (λ (t : Bool). cond t Accepted (Refused (Digit none))) (formed-groups model s e))
 
     -- and it has no byte for 3
     pub formed-text : textAnswer model s Nothing ≡ textAnswer model s (firstBad Reference s)
     formed-text = ap (textAnswer model s) (sym (formed-bytes model s e))
+
+    -- so, of 22 bytes at most, its answer is that of its groups
+    pub short-text : length s ≤ 22 → groupsAnswer (model .groups) s ≡ textAnswer model s (firstBad Reference s)
+    short-text h = entered _ _ _ _ (le-leb _ _ h) formed-answer ∙ formed-text
+
+-- ---------------------------------------------------------------------------
+-- Answers, by whether the model is handled
+
+module _ (s : List ℕ) (m : Model) where
+  -- a model that is not handled is refused
+  pub unhandled : m .handled ≡ false → Refused (Unhandled none) ≡ modelAnswer s m
+  unhandled e = left (m .handled) (textAnswer m s (firstBad Reference s)) (Refused (Unhandled none)) (Refused (Unhandled none)) e refl
+
+  -- under one that is, the text is judged
+  pub handled-text : m .handled ≡ true → textAnswer m s (firstBad Reference s) ≡ modelAnswer s m
+  handled-text e = taken (m .handled) (textAnswer m s (firstBad Reference s)) (Refused (Unhandled none)) e
+
+-- ---------------------------------------------------------------------------
+-- Whether a text is accepted
+
+-- accepted or refused by a test
+accepted-by : (t : Bool) (r : Refusal) → t ≡ isAccepted (cond t Accepted (Refused r))
+accepted-by true r = refl
+accepted-by false r = refl
+
+module _ (model : Model) (s : List ℕ) where
+  -- an empty text is, where the model asks no part
+  pub empty-accepted : length s ≡ 0 → eqb (model .fewest) 0 ≡ isAccepted (textAnswer model s (firstBad Reference s))
+  empty-accepted h = accepted-by (eqb (model .fewest) 0) (WrongParts none) ∙ ap isAccepted (empty-text model s h)
+
+  -- over 22 bytes none is
+  pub long-refused : 22 < length s → (f : Found) → false ≡ isAccepted (textAnswer model s f)
+  long-refused h (At i) = refl
+  long-refused h Nothing = rw (lt-leb (length s) 22 h)
+
+  -- not formed, none is
+  pub unformed-refused : formed model s ≡ false → (f : Found) → false ≡ isAccepted (textAnswer model s f)
+  unformed-refused e f = go (leb (length s) 22) refl f ∙ ap isAccepted (unformed-text model s e f)
+    where
+      go : (t : Bool) → leb (length s) 22 ≡ t → (f : Found) → false ≡ isAccepted (unformedAnswer s f)
+      go t h (At i) = refl
+      go true h Nothing = rw h
+      go false h Nothing = rw h
+
+  -- formed and of 22 bytes at most, it is where its groups hold
+  pub formed-accepted : formed model s ≡ true → length s ≤ 22 → groupsHold (model .groups) s ≡ isAccepted (textAnswer model s (firstBad Reference s))
+  formed-accepted e h = accepted-by (groupsHold (model .groups) s) (Digit none) ∙ ap isAccepted (short-text model s e h)

@@ -377,11 +377,34 @@ pub fn numbered(n: usize, s: &[u8]) -> Answer
     judged_text(m, s)
 }
 
-// Whether a reference is right by its model's number.
+// Whether a text obeys a handled model: what `judged_text` accepts.
+fn is_obeyed(model: Model, s: &[u8]) -> bool
+    ensures { λ r. ⌜ r ≡ isAccepted (textAnswer model (now (s .entry)) (firstBad Class.Reference (now (s .entry)))) ⌝ }
+{
+    let fewest = model.fewest;
+    if s.len() == 0 {
+        return fewest == 0;
+    }
+    if 22 < s.len() {
+        return false;
+    }
+    let sizes = parts(model, s);
+    if sizes == 0 {
+        return false;
+    }
+    let groups = model.groups;
+    all_hold(groups, between(sizes), s)
+}
+
+// Whether a reference is right by its model's number: what `numbered` accepts, with no answer handed up through memory.
 pub fn is_right(n: usize, s: &[u8]) -> bool
     ensures { λ r. ⌜ r ≡ isAccepted (modelAnswer (now (s .entry)) (modelOf n)) ⌝ }
 {
-    refusal::is_accepted(numbered(n, s))
+    let m = models::rules(n);
+    if !m.handled {
+        return false;
+    }
+    is_obeyed(m, s)
 }
 
 // A reference by its model's text: 5 and 7 of the model, then 3 with its byte, 4, 8 and 9 of the reference.

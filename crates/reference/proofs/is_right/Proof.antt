@@ -1,18 +1,31 @@
--- `reference::is_right` meets its contract. Assumes nothing.
+-- `reference::is_right` meets its contract: nothing is right under a model that is not handled, else what obeys it is. Assumes nothing.
 use mathlib.Core.Path.{ap, _∙_}
+use borrow.Author.Tests.{not-true, not-false}
 use Rattle.refusal.specs.Refusal.{isAccepted}
+use Rattle.reference.specs.Answers.{modelAnswer}
+use Rattle.reference.proofs.Laws.{unhandled, handled-text}
 use borrow.Author.Needs.{needs}
 use Rattle.reference.proofs.is_right.Statement.{statement}
 use Rattle.reference.proofs.is_right.Tie as tie
 
-numbered-requires : tie.Need-numbered-requires
-numbered-requires c κs = search needs
-
-is-accepted-requires : tie.Need-is-accepted-requires
-is-accepted-requires c κs = search needs
+rules-requires : tie.Need-rules-requires
+rules-requires c κs = search needs
 
 returns : tie.Need-returns
-returns c = c .is-accepted .ensures ∙ ap isAccepted (c .before .numbered .ensures)
+returns c =
+    let s = c .before .before .before .before .args .s .now in
+    let m = c .before .before .rules .result in
+    ap isAccepted (unhandled s m (not-true (m .handled) (c .if1 .taken)) ∙ ap (modelAnswer s) (c .before .before .rules .ensures))
+
+is-obeyed-requires : tie.Need-is-obeyed-requires
+is-obeyed-requires c κs = search needs
+
+returns-2 : tie.Need-returns-2
+returns-2 c =
+    let s = c .before .before .before .before .before .args .s .now in
+    let m = c .before .before .before .rules .result in
+    c .is-obeyed .ensures
+    ∙ ap isAccepted (handled-text s m (not-false (m .handled) (c .before .if1 .left)) ∙ ap (modelAnswer s) (c .before .before .before .rules .ensures))
 
 pub is-right-spec : {M : Type 1} → statement M
-is-right-spec = tie.close (tie.spec numbered-requires is-accepted-requires returns)
+is-right-spec = tie.close (tie.spec rules-requires returns is-obeyed-requires returns-2)

@@ -4,11 +4,11 @@ use mathlib.Core.Path.{_≡_, refl, _∙_}
 use Prim.Native.Nat.{_≤_}
 use native.Mathlib.Omega.{arith}
 use lib.ListN.{length}
-use borrow.Author.Tests.{lt-leb, le-leb, eq-eqb, ne-eqb}
+use borrow.Author.Tests.{lt-leb, eq-eqb, ne-eqb}
 use Rattle.text.specs.Bytes.{firstBad}
 use Rattle.text.specs.declared.Class.the-variants.{Reference}
-use Rattle.text.proofs.Laws.{taken, left, entered}
-use Rattle.reference.proofs.Laws.{some-formed, none-unformed, Bytes, found-between, empty-text, unformed-text, formed-answer, formed-text}
+use Rattle.text.proofs.Laws.{taken, left}
+use Rattle.reference.proofs.Laws.{some-formed, none-unformed, Bytes, found-between, empty-text, unformed-text, formed-text, short-text}
 use borrow.Author.Needs.{needs}
 use Rattle.reference.proofs.judged_text.Statement.{statement}
 use Rattle.reference.proofs.judged_text.Tie as tie
@@ -75,8 +75,7 @@ returns-5 c =
     let p = c .before .before .before .before .before in
     let a = p .before .before .before .args in
     let e = some-formed (a .model) (a .s .now) (p .before .if1 .left) (p .parts .result) (p .parts .ensures) (c .before .before .before .before .if3 .left) in
-    entered _ _ _ _ (le-leb _ _ (c .before .before .before .if4 .left)) (c .checked .ensures ∙ formed-answer (a .model) (a .s .now) e)
-    ∙ formed-text (a .model) (a .s .now) e
+    c .checked .ensures ∙ short-text (a .model) (a .s .now) e (c .before .before .before .if4 .left)
 
 pub judged-text-spec : {M : Type 1} → statement M
 judged-text-spec =
