@@ -11,17 +11,10 @@ use Rattle.text.specs.declared.Class.the-variants.{Blanks}
 use Rattle.text.specs.declared.Found.the-variants.{At}
 use Rattle.text.proofs.Laws.{left, entered}
 use Rattle.wage_contents.specs.Contents.{trimmed, unmodelledAnswer, referencePlaceAnswer}
-use Rattle.wage_contents.proofs.Laws.{numbered-not-blank}
+use Rattle.wage_contents.proofs.Laws.{by-number}
 use borrow.Author.Needs.{needs}
 use Rattle.wage_contents.proofs.judge_reference.Statement.{statement}
 use Rattle.wage_contents.proofs.judge_reference.Tie as tie
-
--- a model that has a number judges what is left
-by-number : (m f g : List ℕ) (n : ℕ) (r : Answer) → modelNumber m ≡ At n → g ≡ trimmed f → r ≡ modelAnswer g (modelOf n) → r ≡ referencePlaceAnswer m f
-unfolding referencePlaceAnswer
-by-number m f g n r e t h =
-    left (allOf Blanks m) (unmodelledAnswer (trimmed f)) _ r (numbered-not-blank m n e)
-    (h ∙ ap (λ (s : List ℕ). modelAnswer s (modelOf n)) t ∙ ap (numberAnswer (trimmed f)) (sym e))
 
 number-requires : tie.Need-number-requires
 number-requires c κs = search needs
