@@ -15,7 +15,7 @@ use Rattle.refusal.specs.declared.Answer.{Answer}
 use Rattle.refusal.specs.declared.Answer.the-variants.{Accepted, Refused}
 use Rattle.refusal.specs.declared.Refusal.{Refusal}
 use Rattle.refusal.specs.declared.Refusal.the-variants.{Form, Model}
-use Rattle.text.specs.Bytes.{isDigit, isLetter, permits, later, firstBad, allOf}
+use Rattle.text.specs.Bytes.{isDigit, isLetter, firstBad, allOf}
 use Rattle.text.specs.declared.Class.{Class}
 use Rattle.text.specs.declared.Class.the-variants.{Digits, Reference, Blanks, Zeros, Place, Description}
 use Rattle.text.specs.declared.Found.{Found}
@@ -25,8 +25,8 @@ use Rattle.account.specs.Account.{ibanFormed, ibanPasses}
 use Rattle.account.specs.Answers.{ibanCheckAnswer}
 use Rattle.models.specs.Models.{modelNumber, modelOf, modelFrom}
 use Rattle.reference.specs.Answers.{textAnswer, modelAnswer, numberAnswer}
-use Rattle.text.proofs.Laws.{isNothing, all-of-nothing, taken, left, or-first, or-second, and-first, and-second, both-true, all-append, all-joined, all-wider}
-use Rattle.wage_contents.specs.Contents.{andThen, onlyIf, bytesAnswer, numericIn, ibanPlaceAnswer, modelPlaceAnswer, trimmed, unmodelledAnswer, referencePlaceAnswer, descriptionAnswer}
+use Rattle.text.proofs.Laws.{taken, left, or-first, or-second, and-first, and-second, both-true, all-append, all-joined, all-wider}
+use Rattle.wage_contents.specs.Contents.{andThen, onlyIf, numericIn, ibanPlaceAnswer, modelPlaceAnswer, trimmed, unmodelledAnswer, referencePlaceAnswer}
 use Rattle.wage_contents.specs.declared.Numeric.the-variants.{Wrong, Absent, Present}
 
 -- ---------------------------------------------------------------------------

@@ -1,14 +1,7 @@
 -- `wage_contents::judge_reference` meets its contract: what is left without its last blanks, by its model's number or by a blank model.
 -- Assumes nothing.
-use mathlib.Core.Path.{_≡_, sym, ap, _∙_}
-use mathlib.Core.List.{List}
-use Prim.Native.Nat.{ℕ}
-use Rattle.reference.specs.Answers.{modelAnswer, numberAnswer}
-use Rattle.models.specs.Models.{modelNumber, modelOf}
-use Rattle.refusal.specs.declared.Answer.{Answer}
-use Rattle.text.specs.Bytes.{allOf}
-use Rattle.text.specs.declared.Class.the-variants.{Blanks}
-use Rattle.text.specs.declared.Found.the-variants.{At}
+use mathlib.Core.Path.{sym, ap, _∙_}
+use Rattle.reference.specs.Answers.{numberAnswer}
 use Rattle.text.proofs.Laws.{left, entered}
 use Rattle.wage_contents.specs.Contents.{trimmed, unmodelledAnswer, referencePlaceAnswer}
 use Rattle.wage_contents.proofs.Laws.{by-number}
