@@ -2,14 +2,14 @@
 -- Assumes nothing.
 use mathlib.Core.Path.{_≡_, refl, sym, ap, _∙_}
 use mathlib.Core.Logic.{_↔_}
-use mathlib.Core.Bool.{Bool, true, false, cond, not, _&&_, _||_, or-true}
+use mathlib.Core.Bool.{Bool, true, false, cond, not, _&&_, _||_, or-true, and-true}
 use mathlib.Core.List.{List, [], _∷_}
 use Prim.Native.Nat.{ℕ, suc}
 use native.Mathlib.Omega.{arith}
 use lib.Dec.{eqb, leb}
 use lib.ListN.{length, take, drop, getD}
 use borrow.Author.Tests.{ne-eqb}
-use Rattle.refusal.specs.Refusal.{none}
+use Rattle.refusal.specs.Refusal.{none, isAccepted}
 use Rattle.refusal.specs.declared.Answer.{Answer}
 use Rattle.refusal.specs.declared.Answer.the-variants.{Accepted, Refused}
 use Rattle.refusal.specs.declared.Refusal.{Refusal}
@@ -79,6 +79,23 @@ pub stands : (x y : Answer) (b : Bool) → Exactly x b → b ≡ false → x ≡
 stands Accepted y b p e = let q = p .0 refl in let z : _≡_ {A = ℕ} 0 1 = cc in absurd (omega arith)
 stands (Refused r) y b p e = refl
 
+-- whether an answer is acceptance is its test
+pub told : (x : Answer) (b : Bool) → Exactly x b → b ≡ isAccepted x
+told Accepted b p = p .0 refl
+told (Refused r) true p = let e = p .1 refl in let z : _≡_ {A = ℕ} 0 1 = cc in absurd (omega arith)
+told (Refused r) false p = refl
+
+-- one that is told to be acceptance is
+pub is-acceptance : (x : Answer) → isAccepted x ≡ true → x ≡ Accepted
+is-acceptance Accepted e = refl
+is-acceptance (Refused r) e = let z : _≡_ {A = ℕ} 0 1 = cc in absurd (omega arith)
+
+-- one that is told to be none, though its first part accepts, is the refusal of its test
+pub test-refuses : (x : Answer) (b : Bool) (r : Refusal) → isAccepted (andThen x (onlyIf b r)) ≡ false → x ≡ Accepted → Refused r ≡ andThen x (onlyIf b r)
+test-refuses Accepted true r e h = let z : _≡_ {A = ℕ} 0 1 = cc in absurd (omega arith)
+test-refuses Accepted false r e h = refl
+test-refuses (Refused q) b r e h = let z : _≡_ {A = ℕ} 0 1 = cc in absurd (omega arith)
+
 -- ---------------------------------------------------------------------------
 -- Each content
 
@@ -145,6 +162,16 @@ account-accepted blank f e =
     (sym (and-second (allOf Place f) _ true (account-placed f (g .0) (i .0))
     (sym (ap (λ (b : Bool). (blank && allOf Blanks f) || b) h ∙ or-true (blank && allOf Blanks f)))))
 
+-- so what the IBAN and the blanks behind it answer tells whether a place that may not be blank is accepted
+pub account-tells : (f : List ℕ) → isAccepted (cond (allOf Blanks (drop 21 f)) (ibanCheckAnswer (take 21 f)) (Refused (Form none))) ≡ isAccepted (ibanPlaceAnswer false f)
+unfolding ibanPlaceAnswer
+account-tells f = go (bytesAnswer Place f) (cond (allOf Blanks (drop 21 f)) (ibanCheckAnswer (take 21 f)) (Refused (Form none))) (account-accepted false f)
+  where
+    go : (x y : Answer) → (y ≡ Accepted → andThen x y ≡ Accepted) → isAccepted y ≡ isAccepted (andThen x y)
+    go x Accepted h = sym (ap isAccepted (h refl))
+    go Accepted (Refused r) h = refl
+    go (Refused q) (Refused r) h = refl
+
 -- a place left blank where it may be is accepted
 pub blank-accepted : (blank : Bool) (f : List ℕ) → (blank && allOf Blanks f) ≡ true → ibanPlaceAnswer blank f ≡ Accepted
 blank-accepted blank f e =
@@ -194,6 +221,16 @@ modelled-answer m f e = rw e
 pub description-accepted : (f : List ℕ) → Exactly (descriptionAnswer f) (allOf Description f && not (allOf Blanks f))
 unfolding descriptionAnswer
 description-accepted f = tested Description (not (allOf Blanks f)) (Form none) f
+
+-- so its bytes and its blanks tell whether it is accepted
+pub description-told : (f : List ℕ) (d b : Bool) → allOf Description f ≡ d → allOf Blanks f ≡ b → (d && not b) ≡ isAccepted (descriptionAnswer f)
+description-told f d b e h =
+    ap (λ (t : Bool). t && not b) (sym e) ∙ ap (λ (t : Bool). allOf Description f && not t) (sym h)
+    ∙ told (descriptionAnswer f) (allOf Description f && not (allOf Blanks f)) (description-accepted f)
+
+-- its bytes alone, where it is not all blank
+pub bytes-tell : (f : List ℕ) → allOf Blanks f ≡ false → allOf Description f ≡ isAccepted (descriptionAnswer f)
+bytes-tell f h = sym (and-true (allOf Description f)) ∙ description-told f (allOf Description f) false refl h
 
 -- a code, and with it the model that code 500 needs
 pub code-accepted : (kind : ℕ) (m f : List ℕ) → Exactly (codeAnswer kind m f) (allOf Digits f && (isFound (codePlace (numberIn f)) && not (eqb kind 5 && (eqb (numberIn f) 500 && allOf Blanks m))))

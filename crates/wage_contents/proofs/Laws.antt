@@ -15,7 +15,7 @@ use Rattle.refusal.specs.declared.Answer.{Answer}
 use Rattle.refusal.specs.declared.Answer.the-variants.{Accepted, Refused}
 use Rattle.refusal.specs.declared.Refusal.{Refusal}
 use Rattle.refusal.specs.declared.Refusal.the-variants.{Form, Model}
-use Rattle.text.specs.Bytes.{isDigit, isLetter, permits, later, firstBad, allOf}
+use Rattle.text.specs.Bytes.{isDigit, isLetter, firstBad, allOf}
 use Rattle.text.specs.declared.Class.{Class}
 use Rattle.text.specs.declared.Class.the-variants.{Digits, Reference, Blanks, Zeros, Place, Description}
 use Rattle.text.specs.declared.Found.{Found}
@@ -24,9 +24,9 @@ use Rattle.text.specs.Digits.{twoDigits}
 use Rattle.account.specs.Account.{ibanFormed, ibanPasses}
 use Rattle.account.specs.Answers.{ibanCheckAnswer}
 use Rattle.models.specs.Models.{modelNumber, modelOf, modelFrom}
-use Rattle.reference.specs.Answers.{textAnswer, numberAnswer}
-use Rattle.text.proofs.Laws.{isNothing, all-of-nothing, taken, left, or-first, or-second, and-first, and-second, both-true, all-append, all-joined, all-wider}
-use Rattle.wage_contents.specs.Contents.{andThen, onlyIf, bytesAnswer, numericIn, ibanPlaceAnswer, modelPlaceAnswer, trimmed, unmodelledAnswer, referencePlaceAnswer, descriptionAnswer}
+use Rattle.reference.specs.Answers.{textAnswer, modelAnswer, numberAnswer}
+use Rattle.text.proofs.Laws.{taken, left, or-first, or-second, and-first, and-second, both-true, all-append, all-joined, all-wider}
+use Rattle.wage_contents.specs.Contents.{andThen, onlyIf, numericIn, ibanPlaceAnswer, modelPlaceAnswer, trimmed, unmodelledAnswer, referencePlaceAnswer}
 use Rattle.wage_contents.specs.declared.Numeric.the-variants.{Wrong, Absent, Present}
 
 -- ---------------------------------------------------------------------------
@@ -154,37 +154,21 @@ rest-decides k m n f h e =
     let front = both-true (allOf k (take m (take n f))) (allOf k (drop m (take n f))) (sym (all-apart k m (take n f)) ∙ e) in
     and-second (allOf k (take m f)) (allOf k (drop m f)) _ (ap (allOf k) (sym (take-take m n f h)) ∙ front .0) refl ∙ sym (all-apart k m f)
 
--- nothing is wrong where every byte is permitted
-none-bad : (k : Class) (f : List ℕ) → allOf k f ≡ true → firstBad k f ≡ Nothing
-unfolding isNothing
-none-bad k f e = go (firstBad k f) (all-of-nothing k f ∙ e)
-  where
-    go : (x : Found) → isNothing x ≡ true → x ≡ Nothing
-    go (At i) h = let z : _≡_ {A = ℕ} 0 1 = cc in absurd (omega arith)
-    go Nothing h = refl
+-- a text is wrong where its front is
+pub front-wrong : (k : Class) (n : ℕ) (f : List ℕ) → allOf k (take n f) ≡ false → allOf k f ≡ false
+front-wrong k n f e = all-apart k n f ∙ sym (and-first (allOf k (take n f)) (allOf k (drop n f)) e)
 
--- bytes that are permitted behind a text are no wrong ones of it
-bad-before : (k : Class) (s t : List ℕ) → allOf k t ≡ true → firstBad k (s ++ t) ≡ firstBad k s
-unfolding firstBad
-bad-before k [] t e = none-bad k t e
-bad-before k (b ∷ s) t e = ap (λ (x : Found). cond (permits k b) (later x) (At 0)) (bad-before k s t e)
+-- or what stands behind it
+pub behind-wrong : (k : Class) (n : ℕ) (f : List ℕ) → allOf k (drop n f) ≡ false → allOf k f ≡ false
+behind-wrong k n f e = all-apart k n f ∙ ap (λ (t : Bool). allOf k (take n f) && t) e ∙ and-false (allOf k (take n f))
 
--- a description that is blank behind its front is judged by its front
-pub by-front : (n : ℕ) (f : List ℕ) → allOf Blanks (drop n f) ≡ true → descriptionAnswer (take n f) ≡ descriptionAnswer f
-unfolding descriptionAnswer bytesAnswer
-by-front n f e =
-    let bytes = ap (firstBad Description) (sym (take-append-drop n f)) ∙ bad-before Description (take n f) (drop n f) (all-wider Blanks Description (λ x b. rw (eqb-true x 32 b)) (drop n f) e) in
-    let blank = all-apart Blanks n f ∙ ap (λ (t : Bool). allOf Blanks (take n f) && t) e ∙ and-true (allOf Blanks (take n f)) in
-    rw (bytes, blank)
+-- a front decides where what stands behind it is permitted
+pub front-decides : (k : Class) (n : ℕ) (f : List ℕ) → allOf k (drop n f) ≡ true → allOf k f ≡ allOf k (take n f)
+front-decides k n f e = all-apart k n f ∙ ap (λ (t : Bool). allOf k (take n f) && t) e ∙ and-true (allOf k (take n f))
 
--- one that is not blank there is judged by its bytes alone
-pub by-bytes : (n : ℕ) (f : List ℕ) → allOf Blanks (drop n f) ≡ false → bytesAnswer Description f ≡ descriptionAnswer f
-unfolding descriptionAnswer
-by-bytes n f e = rw (all-apart Blanks n f ∙ ap (λ (t : Bool). allOf Blanks (take n f) && t) e ∙ and-false (allOf Blanks (take n f))) (go (bytesAnswer Description f))
-  where
-    go : (x : Answer) → x ≡ andThen x Accepted
-    go Accepted = refl
-    go (Refused r) = refl
+-- blanks are bytes that a description permits
+pub blanks-described : (f : List ℕ) → allOf Blanks f ≡ true → allOf Description f ≡ true
+blanks-described f e = all-wider Blanks Description (λ x b. rw (eqb-true x 32 b)) f e
 
 -- no byte is all blank; what begins with another byte is not; after a blank the rest decides
 pub blank-none : (f : List ℕ) → length f ≡ 0 → true ≡ allOf Blanks f
@@ -215,12 +199,19 @@ numbered-begins m n e = go (eqb (length m) 4) (eqb (getD m 0 0) 72) (eqb (getD m
     go false false v x h = let z : _≡_ {A = ℕ} 0 1 = cc in absurd (omega arith)
 
 -- so it is not blank
-pub numbered-not-blank : (m : List ℕ) (n : ℕ) → modelNumber m ≡ At n → allOf Blanks m ≡ false
+numbered-not-blank : (m : List ℕ) (n : ℕ) → modelNumber m ≡ At n → allOf Blanks m ≡ false
 unfolding allOf
 numbered-not-blank [] n e = let h = eqb-true 0 72 (numbered-begins [] n e) in absurd (omega arith)
 numbered-not-blank (b ∷ m) n e =
     let h = eqb-true b 72 (numbered-begins (b ∷ m) n e) in
     sym (and-first (eqb b 32) (allOf Blanks m) (ne-eqb b 32 (λ z. omega arith)))
+
+-- a model that has a number judges what is left
+pub by-number : (m f g : List ℕ) (n : ℕ) (r : Answer) → modelNumber m ≡ At n → g ≡ trimmed f → r ≡ modelAnswer g (modelOf n) → r ≡ referencePlaceAnswer m f
+unfolding referencePlaceAnswer
+by-number m f g n r e t h =
+    left (allOf Blanks m) (unmodelledAnswer (trimmed f)) _ r (numbered-not-blank m n e)
+    (h ∙ ap (λ (s : List ℕ). modelAnswer s (modelOf n)) t ∙ ap (numberAnswer (trimmed f)) (sym e))
 
 -- a reference that is accepted has a model that is
 pub reference-of-model : (m f : List ℕ) → referencePlaceAnswer m f ≡ Accepted → modelPlaceAnswer m ≡ Accepted

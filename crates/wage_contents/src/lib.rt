@@ -253,7 +253,13 @@ pub fn judge_iban(blank: bool, f: &[u8]) -> Answer
 pub fn is_iban(f: &[u8]) -> bool
     ensures { λ r. ⌜ r ≡ isAccepted (ibanPlaceAnswer false (now (f .entry))) ⌝ }
 {
-    refusal::is_accepted(judge_iban(false, f))
+    if f.len() < 21 {
+        return false;
+    }
+    if !text::all_blank(&f[21..]) {
+        return false;
+    }
+    account::is_iban(&f[..21])
 }
 
 // `EUR`, or blank where that may be: 5.
@@ -364,50 +370,52 @@ pub fn judge_reference(m: &[u8], f: &[u8]) -> Answer
     }
 }
 
-// Whether a reference is right after its model's place.
+// Whether a reference is right after its model's place: what `judge_reference` accepts.
 pub fn is_reference(m: &[u8], f: &[u8]) -> bool
     ensures { λ r. ⌜ r ≡ isAccepted (referencePlaceAnswer (now (m .entry)) (now (f .entry))) ⌝ }
 {
-    refusal::is_accepted(judge_reference(m, f))
-}
-
-// A description of at most 64 bytes, or the first 64 of one that is blank after them: 3, 5.
-fn judge_short(f: &[u8]) -> Answer
-    ensures { λ r. ⌜ r ≡ descriptionAnswer (now (f .entry)) ⌝ }
-{
-    if text::all_described(f) {
-        if is_blank(f) {
-            return form();
-        }
-        return Answer::Accepted;
-    }
-    judge_bytes(Class::Description, f)
-}
-
-// A description: 3, 5. Most are blank from their 64th byte on. One that is not is tested from its 44th on, some bytes a second
-// time: 96 bytes of a place of 140 leave none over where the compiler takes 32 at a time.
-pub fn judge_description(f: &[u8]) -> Answer
-    ensures { λ r. ⌜ r ≡ descriptionAnswer (now (f .entry)) ⌝ }
-{
-    if f.len() <= 64 {
-        return judge_short(f);
-    }
-    if text::all_blank(&f[64..]) {
-        return judge_short(&f[..64]);
-    }
-    if text::all_described(&f[..64]) {
-        if text::all_described(&f[44..]) {
-            return Answer::Accepted;
+    match models::number(m) {
+        Found::At(n) => reference::is_right(n, trim(f)),
+        Found::Nothing => {
+            if is_blank(m) {
+                return is_blank(f);
+            }
+            false
         }
     }
-    judge_bytes(Class::Description, f)
 }
 
-// Whether a description is right.
+// Whether a description is right. Most are blank from their 64th byte on. One that is not is tested from its 44th on, some bytes a
+// second time: 96 bytes of a place of 140 leave none over where the compiler takes 32 at a time.
 pub fn is_description(f: &[u8]) -> bool
     ensures { λ r. ⌜ r ≡ isAccepted (descriptionAnswer (now (f .entry))) ⌝ }
 {
-    refusal::is_accepted(judge_description(f))
+    if f.len() <= 64 {
+        if is_blank(f) {
+            return false;
+        }
+        return text::all_described(f);
+    }
+    if !text::all_described(&f[..64]) {
+        return false;
+    }
+    if text::all_blank(&f[64..]) {
+        return !is_blank(&f[..64]);
+    }
+    text::all_described(&f[44..])
+}
+
+// A description: 3, 5. Most are right: that is asked first.
+pub fn judge_description(f: &[u8]) -> Answer
+    ensures { λ r. ⌜ r ≡ descriptionAnswer (now (f .entry)) ⌝ }
+{
+    if is_description(f) {
+        return Answer::Accepted;
+    }
+    match judge_bytes(Class::Description, f) {
+        Answer::Refused(r) => Answer::Refused(r),
+        Answer::Accepted => form(),
+    }
 }
 
 // Whether a number is a code of 004's list.

@@ -1,27 +1,13 @@
 -- `wage_contents::judge_reference` meets its contract: what is left without its last blanks, by its model's number or by a blank model.
 -- Assumes nothing.
-use mathlib.Core.Path.{_≡_, sym, ap, _∙_}
-use mathlib.Core.List.{List}
-use Prim.Native.Nat.{ℕ}
-use Rattle.reference.specs.Answers.{modelAnswer, numberAnswer}
-use Rattle.models.specs.Models.{modelNumber, modelOf}
-use Rattle.refusal.specs.declared.Answer.{Answer}
-use Rattle.text.specs.Bytes.{allOf}
-use Rattle.text.specs.declared.Class.the-variants.{Blanks}
-use Rattle.text.specs.declared.Found.the-variants.{At}
+use mathlib.Core.Path.{sym, ap, _∙_}
+use Rattle.reference.specs.Answers.{numberAnswer}
 use Rattle.text.proofs.Laws.{left, entered}
 use Rattle.wage_contents.specs.Contents.{trimmed, unmodelledAnswer, referencePlaceAnswer}
-use Rattle.wage_contents.proofs.Laws.{numbered-not-blank}
+use Rattle.wage_contents.proofs.Laws.{by-number}
 use borrow.Author.Needs.{needs}
 use Rattle.wage_contents.proofs.judge_reference.Statement.{statement}
 use Rattle.wage_contents.proofs.judge_reference.Tie as tie
-
--- a model that has a number judges what is left
-by-number : (m f g : List ℕ) (n : ℕ) (r : Answer) → modelNumber m ≡ At n → g ≡ trimmed f → r ≡ modelAnswer g (modelOf n) → r ≡ referencePlaceAnswer m f
-unfolding referencePlaceAnswer
-by-number m f g n r e t h =
-    left (allOf Blanks m) (unmodelledAnswer (trimmed f)) _ r (numbered-not-blank m n e)
-    (h ∙ ap (λ (s : List ℕ). modelAnswer s (modelOf n)) t ∙ ap (numberAnswer (trimmed f)) (sym e))
 
 number-requires : tie.Need-number-requires
 number-requires c κs = search needs
