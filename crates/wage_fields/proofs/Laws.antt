@@ -25,6 +25,7 @@ use Rattle.wage_line.specs.Places.{spots, noSpot}
 use Rattle.wage_line.specs.Line.{partAt, partOf}
 use Rattle.wage_line.proofs.Theorems.{placeAt, Small, sizes-small}
 use Rattle.wage_contents.specs.Contents.{andThen}
+use Rattle.wage_contents.proofs.Accepted.{is-acceptance}
 use Rattle.wage_contents.proofs.ByteWithin.{bytes-within, among-within, oib-within, employer-within, today-within, later-within, iban-place-within, currency-within, purpose-within, sign-within, model-place-within, reference-place-within, description-within, code-within}
 use Rattle.wage_fields.specs.Rules.{labelRule, groupRule, paymentRule, orderRule, ruleAnswer, toldAt, answerAt, placeAnswer, placesFrom, OrderRight}
 
@@ -207,8 +208,7 @@ untrue e = let z : _≡_ {A = ℕ} 0 1 = cc in absurd (omega arith)
 
 -- an answer that was told to refuse nothing
 pub told-right : (a : Answer) (r : Bool) → r ≡ isAccepted a → r ≡ true → a ≡ Accepted
-told-right Accepted r e f = refl
-told-right (Refused q) r e f = untrue (sym e ∙ f)
+told-right a r e f = is-acceptance a (sym e ∙ f)
 
 module _ (kind : ℕ) (s : List ℕ) where
   -- a place whose rule's answer is Accepted, before places that are right
