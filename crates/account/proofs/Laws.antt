@@ -201,7 +201,7 @@ module _ (s : List ℕ) (e : ibanFormed s ≡ true) where
       ap (λ (l : List ℕ). At (valueOf (digitsOf l))) b ∙ two-read (getD s 2 0) (getD s 3 0) (sym (ap (allOf Digits) b) ∙ formed-digits 0 2)
 
   -- the account's seventeen digits, in two runs
-  formed-account : valueOf (digitsOf (take 8 (drop 4 s))) * 1000000000 + valueOf (digitsOf (take 9 (drop 12 s))) ≡ valueOf (digitsOf (drop 4 s))
+  pub formed-account : valueOf (digitsOf (take 8 (drop 4 s))) * 1000000000 + valueOf (digitsOf (take 9 (drop 12 s))) ≡ valueOf (digitsOf (drop 4 s))
   formed-account =
       let front = take 8 (drop 4 s) in
       let back = take 9 (drop 12 s) in
