@@ -1,4 +1,4 @@
--- An IBAN's number over 97, taken in three pieces as the code takes it; what an IBAN's form decides.
+-- An IBAN's number over 97, taken in pieces as the code takes it; what an IBAN's form decides.
 -- Assumes nothing.
 use mathlib.Core.Path.{_≡_, refl, sym, ap, _∙_}
 use mathlib.Core.Bool.{Bool, true, false, cond, _&&_, and-false}
@@ -102,7 +102,9 @@ number-after v (b ∷ s) e =
     let t = both-true (isDigit b) (allOf Digits s) e in
     let d = b - 48 in
     rw (t .0, pow-suc 10 (length s))
-    (further-down v d (10 ^ length s) (valueOf (digitsOf s)) (valueFrom (v * 10 + d) (digitsOf s)) (valueFrom (0 * 10 + d) (digitsOf s)) (number-after (v * 10 + d) s (t .1)) (number-after (0 * 10 + d) s (t .1)))
+    (further-down v d (10 ^ length s) (valueOf (digitsOf s)) (valueFrom (v * 10 + d) (digitsOf s)) (valueFrom (0 * 10 + d) (digitsOf s))
+    (number-after (v * 10 + d) s (t .1))
+    (number-after (0 * 10 + d) s (t .1)))
 
 -- nine of them, and fewer, write a number below 10^9
 pub nine-small : (s : List ℕ) → length s ≤ 9 → valueOf (digitsOf s) < 1000000000
@@ -162,12 +164,10 @@ unfolding firstBad allOf
 digits-permitted [] e = refl
 digits-permitted (b ∷ s) e = let t = both-true (isDigit b) (allOf Digits s) e in rw (t .0, digits-permitted s (t .1))
 
--- a front and a rest of digits
-all-front : (n : ℕ) (s : List ℕ) → allOf Digits s ≡ true → allOf Digits (take n s) ≡ true
-all-front n s e = both-true (allOf Digits (take n s)) (allOf Digits (drop n s)) (sym (all-append Digits (take n s) (drop n s)) ∙ ap (allOf Digits) (take-append-drop n s) ∙ e) .0
-
-all-rest : (n : ℕ) (s : List ℕ) → allOf Digits s ≡ true → allOf Digits (drop n s) ≡ true
-all-rest n s e = both-true (allOf Digits (take n s)) (allOf Digits (drop n s)) (sym (all-append Digits (take n s) (drop n s)) ∙ ap (allOf Digits) (take-append-drop n s) ∙ e) .1
+-- a front of digits, and what is behind it
+digits-apart : (n : ℕ) (s : List ℕ) → allOf Digits s ≡ true → (allOf Digits (take n s) ≡ true) × (allOf Digits (drop n s) ≡ true)
+digits-apart n s e =
+    both-true (allOf Digits (take n s)) (allOf Digits (drop n s)) (sym (all-append Digits (take n s) (drop n s)) ∙ ap (allOf Digits) (take-append-drop n s) ∙ e)
 
 -- `HR` and nineteen digits: 21 bytes, none of them bad
 pub formed-permitted : (s : List ℕ) → ibanFormed s ≡ true → (length s ≡ 21) × (firstBad Account s ≡ Nothing)
@@ -192,7 +192,7 @@ module _ (s : List ℕ) (e : ibanFormed s ≡ true) where
       let t = both-true (eqb (length s) 21) _ e in
       let u = both-true (eqb (getD s 0 0) 72) _ (t .1) in
       let w = both-true (eqb (getD s 1 0) 82) (allOf Digits (drop 2 s)) (u .1) in
-      rw (← drop-drop m 2 s) (all-front n (drop m (drop 2 s)) (all-rest m (drop 2 s) (w .1)))
+      rw (← drop-drop m 2 s) (digits-apart n (drop m (drop 2 s)) (digits-apart m (drop 2 s) (w .1) .1) .0)
 
   -- the check digits are read
   pub formed-read : At (valueOf (digitsOf (take 2 (drop 2 s)))) ≡ twoDigits (getD s 2 0) (getD s 3 0)

@@ -70,7 +70,8 @@ enum-told c = search needs
 returns-5 : tie.Need-returns-5
 returns-5 c =
     let d = c .before .before .before .before .before in
-    number-decides _ (d .k .given .0 .0) (sym (d .k .given .1) ∙ d .before .before .two-digits .ensures) _ (omega arith) (omega arith) (omega arith) (c .remainder97 .ensures ∙ ap (λ (t : List ℕ). valueOf (digitsOf t) % 97) (to-the-end 4 (c .before .before .before .before .before .before .before .before .before .before .before .before .before .args .s .now)))
+    number-decides _ (d .k .given .0 .0) (sym (d .k .given .1) ∙ d .before .before .two-digits .ensures) _ (omega arith) (omega arith) (omega arith)
+    (c .remainder97 .ensures ∙ ap (λ (t : List ℕ). valueOf (digitsOf t) % 97) (to-the-end 4 (d .before .before .before .before .before .before .before .before .before .args .s .now)))
 
 returns-6 : tie.Need-returns-6
 returns-6 c = unread-fails _ (sym (c .enum-told .given .1) ∙ c .before .before .two-digits .ensures)
