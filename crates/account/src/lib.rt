@@ -1,9 +1,13 @@
 // Accounts: IBAN and OIB, each behind one name.
 //
-// Document 01, "Check digits". What an IBAN's check is stands in `iban_passes` alone: requests W3 and W7 change what is
-// behind that name, and whoever judges an IBAN goes by it.
+// Document 01, "Check digits". What an IBAN's check is stands in `iban_passes`, and in `formed_passes`, its quick way: requests W3
+// and W7 change what is behind that name, and whoever judges an IBAN goes by it.
 ghost use mathlib.Core.Path.{_≡_};
-ghost use mathlib.Core.Bool.{_&&_};
+ghost use mathlib.Core.Bool.{true, _&&_};
+ghost use Prim.Native.Nat.{_≤_};
+ghost use lib.ListN.{length};
+ghost use Rattle.text.specs.Bytes.{allOf};
+ghost use Rattle.text.specs.Digits.{digitsOf, valueOf};
 ghost use Rattle.account.specs.Account.{ibanFormed, ibanPasses, oibPasses};
 ghost use Rattle.account.specs.Answers.{ibanCheckAnswer, ibanAnswer, oibAnswer};
 use check_digits::Rule;
@@ -29,10 +33,45 @@ pub fn is_iban_formed(s: &[u8]) -> bool
     text::all_of(Class::Digits, &s[2..])
 }
 
+// The number of a text of digits.
+fn number(s: &[u8]) -> u64
+    requires { ⌜ (allOf Class.Digits (now s) ≡ true) × (length (now s) ≤ 18) ⌝ }
+    ensures { λ r. ⌜ r ≡ valueOf (digitsOf (now (s .entry))) ⌝ }
+{
+    let mut v: u64 = 0;
+    let mut i = 0;
+    while i < s.len() {
+        v = v * 10 + (s[i] - 48) as u64;
+        i += 1;
+    }
+    v
+}
+
+// `iban_passes` of a text of an IBAN's form: no byte is asked again whether it is a digit, and the account's digits are read in two
+// runs that do not wait for each other.
+fn formed_passes(s: &[u8]) -> bool
+    requires { ⌜ ibanFormed (now s) ≡ true ⌝ }
+    ensures { λ r. ⌜ r ≡ ibanPasses (now (s .entry)) ⌝ }
+{
+    let k = number(&s[2..4]);
+    if k < 2 {
+        return false;
+    }
+    if 98 < k {
+        return false;
+    }
+    let front = number(&s[4..12]);
+    let back = number(&s[12..21]);
+    ((front * 1000000000 + back) % 97 * 1000000 + 172700 + k) % 97 == 1
+}
+
 // Whether an IBAN's check holds: its check digits lie in 02 to 98, and its number leaves 1 over 97.
 pub fn iban_passes(s: &[u8]) -> bool
     ensures { λ r. ⌜ r ≡ ibanPasses (now (s .entry)) ⌝ }
 {
+    if is_iban_formed(s) {
+        return formed_passes(s);
+    }
     if s.len() < 4 {
         return false;
     }
@@ -58,7 +97,7 @@ pub fn is_iban(s: &[u8]) -> bool
     if !is_iban_formed(s) {
         return false;
     }
-    iban_passes(s)
+    formed_passes(s)
 }
 
 // 5 where a text has not an IBAN's form, then 6 where its check fails.
@@ -68,22 +107,16 @@ pub fn iban_check(s: &[u8]) -> Answer
     if !is_iban_formed(s) {
         return Answer::Refused(Refusal::Form(refusal::nowhere()));
     }
-    if iban_passes(s) {
+    if formed_passes(s) {
         return Answer::Accepted;
     }
     Answer::Refused(Refusal::Check(refusal::nowhere()))
 }
 
-// An IBAN: 3 with its byte, 4, 5, 6. Where a text has an IBAN's form, its check alone decides.
-pub fn iban(s: &[u8]) -> Answer
+// An IBAN, one rule after the other: 3 with its byte, 4, 5, 6.
+fn judged(s: &[u8]) -> Answer
     ensures { λ r. ⌜ r ≡ ibanAnswer (now (s .entry)) ⌝ }
 {
-    if is_iban_formed(s) {
-        if iban_passes(s) {
-            return Answer::Accepted;
-        }
-        return Answer::Refused(Refusal::Check(refusal::nowhere()));
-    }
     match text::first_bad(Class::Account, s) {
         Found::At(i) => Answer::Refused(Refusal::Byte(Place {
             line: 0,
@@ -97,6 +130,16 @@ pub fn iban(s: &[u8]) -> Answer
             iban_check(s)
         }
     }
+}
+
+// An IBAN: 3 with its byte, 4, 5, 6. Most are right: that is asked first.
+pub fn iban(s: &[u8]) -> Answer
+    ensures { λ r. ⌜ r ≡ ibanAnswer (now (s .entry)) ⌝ }
+{
+    if is_iban(s) {
+        return Answer::Accepted;
+    }
+    judged(s)
 }
 
 // Whether an OIB's check holds.

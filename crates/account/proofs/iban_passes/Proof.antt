@@ -1,13 +1,26 @@
 -- `account::iban_passes` meets its contract: the number is the account's remainder, the country and the check digits. Assumes nothing.
-use mathlib.Core.Path.{sym, _∙_}
+use mathlib.Core.Path.{sym, ap, _∙_}
+use mathlib.Core.List.{List}
+use Prim.Native.Nat.{ℕ, _%_}
 use native.Mathlib.Omega.{arith}
+use Rattle.text.specs.Digits.{digitsOf, valueOf}
+use Rattle.text.proofs.Laws.{to-the-end}
 use Rattle.account.proofs.Laws.{short-fails, unread-fails, low-fails, high-fails, number-decides}
 use borrow.Author.Needs.{needs}
 use Rattle.account.proofs.iban_passes.Statement.{statement}
 use Rattle.account.proofs.iban_passes.Tie as tie
 
+is-iban-formed-requires : tie.Need-is-iban-formed-requires
+is-iban-formed-requires c κs = search needs
+
+formed-passes-requires : tie.Need-formed-passes-requires
+formed-passes-requires c κs = sym (c .before .is-iban-formed .ensures) ∙ c .if1 .taken
+
 returns : tie.Need-returns
-returns c = short-fails _ (c .if1 .taken)
+returns c = c .formed-passes .ensures
+
+returns-2 : tie.Need-returns-2
+returns-2 c = short-fails _ (c .if2 .taken)
 
 shared-slice-read-two-digits : tie.Need-shared-slice-read-two-digits
 shared-slice-read-two-digits c = search needs
@@ -21,11 +34,11 @@ two-digits-requires c κs = search needs
 enum-known-k : tie.Need-enum-known-k
 enum-known-k c = search needs
 
-returns-2 : tie.Need-returns-2
-returns-2 c = let d = c .before .before in low-fails _ (d .k .given .0 .0) (sym (d .k .given .1) ∙ d .before .before .two-digits .ensures) (c .if2 .taken)
-
 returns-3 : tie.Need-returns-3
-returns-3 c = let d = c .before .before .before in high-fails _ (d .k .given .0 .0) (sym (d .k .given .1) ∙ d .before .before .two-digits .ensures) (c .if3 .taken)
+returns-3 c = let d = c .before .before in low-fails _ (d .k .given .0 .0) (sym (d .k .given .1) ∙ d .before .before .two-digits .ensures) (c .if3 .taken)
+
+returns-4 : tie.Need-returns-4
+returns-4 c = let d = c .before .before .before in high-fails _ (d .k .given .0 .0) (sym (d .k .given .1) ∙ d .before .before .two-digits .ensures) (c .if4 .taken)
 
 sub-remainder97 : tie.Need-sub-remainder97
 sub-remainder97 c = search needs
@@ -54,25 +67,29 @@ add-result-2 c = omega arith
 enum-told : tie.Need-enum-told
 enum-told c = search needs
 
-returns-4 : tie.Need-returns-4
-returns-4 c =
-    let d = c .before .before .before .before .before in
-    number-decides _ (d .k .given .0 .0) (sym (d .k .given .1) ∙ d .before .before .two-digits .ensures) _ (omega arith) (omega arith) (omega arith) (c .remainder97 .ensures)
-
 returns-5 : tie.Need-returns-5
-returns-5 c = unread-fails _ (sym (c .enum-told .given .1) ∙ c .before .before .two-digits .ensures)
+returns-5 c =
+    let d = c .before .before .before .before .before in
+    number-decides _ (d .k .given .0 .0) (sym (d .k .given .1) ∙ d .before .before .two-digits .ensures) _ (omega arith) (omega arith) (omega arith)
+    (c .remainder97 .ensures ∙ ap (λ (t : List ℕ). valueOf (digitsOf t) % 97) (to-the-end 4 (d .before .before .before .before .before .before .before .before .before .args .s .now)))
+
+returns-6 : tie.Need-returns-6
+returns-6 c = unread-fails _ (sym (c .enum-told .given .1) ∙ c .before .before .two-digits .ensures)
 
 pub iban-passes-spec : {M : Type 1} → statement M
 iban-passes-spec =
     tie.close
     (tie.spec
+    is-iban-formed-requires
+    formed-passes-requires
     returns
+    returns-2
     shared-slice-read-two-digits
     shared-slice-read-two-digits-2
     two-digits-requires
     enum-known-k
-    returns-2
     returns-3
+    returns-4
     sub-remainder97
     part-remainder97-start
     part-remainder97-end
@@ -82,5 +99,5 @@ iban-passes-spec =
     add-result
     add-result-2
     enum-told
-    returns-4
-    returns-5)
+    returns-5
+    returns-6)

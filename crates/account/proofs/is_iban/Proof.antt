@@ -12,11 +12,11 @@ is-iban-formed-requires c κs = search needs
 returns : tie.Need-returns
 returns c = and-first _ _ (sym (c .before .is-iban-formed .ensures) ∙ not-true _ (c .if1 .taken))
 
-iban-passes-requires : tie.Need-iban-passes-requires
-iban-passes-requires c κs = search needs
+formed-passes-requires : tie.Need-formed-passes-requires
+formed-passes-requires c κs = sym (c .before .is-iban-formed .ensures) ∙ not-false _ (c .if1 .left)
 
 returns-2 : tie.Need-returns-2
-returns-2 c = and-second _ _ _ (sym (c .before .before .is-iban-formed .ensures) ∙ not-false _ (c .before .if1 .left)) (c .iban-passes .ensures)
+returns-2 c = and-second _ _ _ (sym (c .before .before .is-iban-formed .ensures) ∙ not-false _ (c .before .if1 .left)) (c .formed-passes .ensures)
 
 pub is-iban-spec : {M : Type 1} → statement M
-is-iban-spec = tie.close (tie.spec is-iban-formed-requires returns iban-passes-requires returns-2)
+is-iban-spec = tie.close (tie.spec is-iban-formed-requires returns formed-passes-requires returns-2)

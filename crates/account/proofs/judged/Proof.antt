@@ -1,0 +1,49 @@
+-- `account::judged` meets its contract: each return is the definition's choice on what the scan found and the test that led there.
+-- Assumes nothing.
+use mathlib.Core.Path.{refl, sym, _∙_}
+use borrow.Author.Tests.{ne-eqb, eq-eqb}
+use Rattle.text.proofs.Laws.{left, entered}
+use borrow.Author.Needs.{needs}
+use Rattle.account.proofs.judged.Statement.{statement}
+use Rattle.account.proofs.judged.Tie as tie
+
+first-bad-requires : tie.Need-first-bad-requires
+first-bad-requires c κs = search needs
+
+enum-known-i : tie.Need-enum-known-i
+enum-known-i c = search needs
+
+enum-told : tie.Need-enum-told
+enum-told c = search needs
+
+nowhere-requires : tie.Need-nowhere-requires
+nowhere-requires c κs = search needs
+
+returns : tie.Need-returns
+returns c =
+    rw (c .nowhere .ensures, sym (c .before .before .before .before .first-bad .ensures) ∙ c .before .before .enum-told .given .1)
+    (left _ _ _ _ (ne-eqb _ _ (c .before .if1 .taken)) refl)
+
+iban-check-requires : tie.Need-iban-check-requires
+iban-check-requires c κs = search needs
+
+returns-2 : tie.Need-returns-2
+returns-2 c = rw (sym (c .before .before .before .first-bad .ensures) ∙ c .before .i .given .1)
+
+returns-3 : tie.Need-returns-3
+returns-3 c =
+    rw (sym (c .before .before .before .before .first-bad .ensures) ∙ c .before .before .enum-told .given .1)
+    (entered _ _ _ _ (eq-eqb _ _ (c .before .if1 .left)) (c .iban-check .ensures))
+
+pub judged-spec : {M : Type 1} → statement M
+judged-spec =
+    tie.close
+    (tie.spec
+    first-bad-requires
+    enum-known-i
+    enum-told
+    nowhere-requires
+    returns
+    iban-check-requires
+    returns-2
+    returns-3)
