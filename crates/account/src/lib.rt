@@ -54,10 +54,10 @@ fn formed_passes(s: &[u8]) -> bool
     ensures { λ r. ⌜ r ≡ ibanPasses (now (s .entry)) ⌝ }
 {
     let k = number(&s[2..4]);
-    if k < 2 {
+    if k <= 1 {
         return false;
     }
-    if 98 < k {
+    if 99 <= k {
         return false;
     }
     let front = number(&s[4..12]);
@@ -107,10 +107,10 @@ pub fn iban_check(s: &[u8]) -> Answer
     if !is_iban_formed(s) {
         return Answer::Refused(Refusal::Form(refusal::nowhere()));
     }
-    if formed_passes(s) {
-        return Answer::Accepted;
+    if !formed_passes(s) {
+        return Answer::Refused(Refusal::Check(refusal::nowhere()));
     }
-    Answer::Refused(Refusal::Check(refusal::nowhere()))
+    Answer::Accepted
 }
 
 // An IBAN, one rule after the other: 3 with its byte, 4, 5, 6.

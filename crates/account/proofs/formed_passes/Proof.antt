@@ -21,10 +21,10 @@ number-requires : tie.Need-number-requires
 number-requires c κs = let z = c .before .before in let s = z .args .s .now in (formed-digits s (z .pre) 0 2, omega (arith, length-take 2 (drop 2 s)))
 
 returns : tie.Need-returns
-returns c = let z = c .before .before .before .before in let s = z .args .s .now in low-fails s _ (ap At (c .before .number .ensures) ∙ formed-read s (z .pre)) (c .if1 .taken)
+returns c = let z = c .before .before .before .before in let s = z .args .s .now in low-fails s _ (ap At (c .before .number .ensures) ∙ formed-read s (z .pre)) (omega arith)
 
 returns-2 : tie.Need-returns-2
-returns-2 c = let z = c .before .before .before .before .before in let s = z .args .s .now in high-fails s _ (ap At (c .before .before .number .ensures) ∙ formed-read s (z .pre)) (c .if2 .taken)
+returns-2 c = let z = c .before .before .before .before .before in let s = z .args .s .now in high-fails s _ (ap At (c .before .before .number .ensures) ∙ formed-read s (z .pre)) (omega arith)
 
 sub-number-2 : tie.Need-sub-number-2
 sub-number-2 c = search needs

@@ -18,19 +18,19 @@ returns c = rw (c .nowhere .ensures) (left _ _ _ _ (sym (c .before .before .is-i
 formed-passes-requires : tie.Need-formed-passes-requires
 formed-passes-requires c κs = sym (c .before .is-iban-formed .ensures) ∙ not-false _ (c .if1 .left)
 
-returns-2 : tie.Need-returns-2
-returns-2 c =
-    entered _ _ _ _ (sym (c .before .before .before .is-iban-formed .ensures) ∙ not-false _ (c .before .before .if1 .left))
-    (taken _ _ _ (sym (c .before .formed-passes .ensures) ∙ c .if2 .taken))
-
 nowhere-requires-2 : tie.Need-nowhere-requires-2
 nowhere-requires-2 c κs = search needs
 
-returns-3 : tie.Need-returns-3
-returns-3 c =
+returns-2 : tie.Need-returns-2
+returns-2 c =
     rw (c .nowhere2 .ensures)
     (entered _ _ _ _ (sym (c .before .before .before .before .is-iban-formed .ensures) ∙ not-false _ (c .before .before .before .if1 .left))
-    (left _ _ _ _ (sym (c .before .before .formed-passes .ensures) ∙ c .before .if2 .left) refl))
+    (left _ _ _ _ (sym (c .before .before .formed-passes .ensures) ∙ not-true _ (c .before .if2 .taken)) refl))
+
+returns-3 : tie.Need-returns-3
+returns-3 c =
+    entered _ _ _ _ (sym (c .before .before .before .is-iban-formed .ensures) ∙ not-false _ (c .before .before .if1 .left))
+    (taken _ _ _ (sym (c .before .formed-passes .ensures) ∙ not-false _ (c .if2 .left)))
 
 pub iban-check-spec : {M : Type 1} → statement M
 iban-check-spec =
@@ -40,6 +40,6 @@ iban-check-spec =
     nowhere-requires
     returns
     formed-passes-requires
-    returns-2
     nowhere-requires-2
+    returns-2
     returns-3)

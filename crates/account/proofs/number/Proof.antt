@@ -56,8 +56,7 @@ loop-again : tie.Need-loop-again Inv-loop μ-loop
 loop-again c =
     let s = c .before .before .before .args .s .now in
     let l = c .before .before .loop in
-    let e = value-takes (l .v) (getD s (l .i) 0) (digit-at s (l .i) (c .before .before .before .pre .0) (omega arith)) in
-    (
+    let e = value-takes (l .v) (getD s (l .i) 0) (digit-at s (l .i) (c .before .before .before .pre .0) (omega arith)) in (
       omega arith,
       (
         rw e (value-grows (l .v) (getD s (l .i) 0) (l .i) (l .inv .1 .0)),

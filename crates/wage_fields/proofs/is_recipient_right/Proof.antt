@@ -1,6 +1,6 @@
 -- `wage_fields::is_recipient_right` meets its contract: each answer is that of its place's rule, and a right reference has a right model.
 -- Assumes nothing.
-use mathlib.Core.Path.{refl, sym, _∙_}
+use mathlib.Core.Path.{refl}
 use borrow.Author.Tests.{not-false}
 use Rattle.wage_line.specs.Places.{spots, spotIn}
 use Rattle.wage_contents.proofs.Laws.{reference-of-model}
