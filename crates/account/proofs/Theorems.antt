@@ -56,6 +56,9 @@ iban-only s = defined-only (ibanAnswer s)
 pub iban-check-only : (s : List ℕ) → Only (λ (r : Answer). r ≡ ibanCheckAnswer s)
 iban-check-only s = defined-only (ibanCheckAnswer s)
 
+pub is-iban-only : (s : List ℕ) → Only (λ (r : Bool). r ≡ isIban s)
+is-iban-only s = defined-only (isIban s)
+
 pub iban-passes-only : (s : List ℕ) → Only (λ (r : Bool). r ≡ ibanPasses s)
 iban-passes-only s = defined-only (ibanPasses s)
 

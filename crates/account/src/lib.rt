@@ -3,13 +3,13 @@
 // Document 01, "Check digits". What an IBAN's check is stands in `iban_passes`, and in `formed_passes`, its quick way: requests W3
 // and W7 change what is behind that name, and whoever judges an IBAN goes by it.
 ghost use mathlib.Core.Path.{_≡_};
-ghost use mathlib.Core.Bool.{true, _&&_};
+ghost use mathlib.Core.Bool.{true};
 ghost use Prim.Native.Nat.{_≤_};
 ghost use lib.ListN.{length};
 ghost use Rattle.text.specs.Bytes.{allOf};
 ghost use Rattle.text.specs.Digits.{digitsOf, valueOf};
 ghost use Rattle.account.specs.Account.{ibanFormed, ibanPasses, oibPasses};
-ghost use Rattle.account.specs.Answers.{ibanCheckAnswer, ibanAnswer, oibAnswer};
+ghost use Rattle.account.specs.Answers.{isIban, ibanCheckAnswer, ibanAnswer, oibAnswer};
 use check_digits::Rule;
 use refusal::Answer;
 use refusal::Place;
@@ -92,7 +92,7 @@ pub fn iban_passes(s: &[u8]) -> bool
 
 // Whether a text is an IBAN: its form, then its check.
 pub fn is_iban(s: &[u8]) -> bool
-    ensures { λ r. ⌜ r ≡ (ibanFormed (now (s .entry)) && ibanPasses (now (s .entry))) ⌝ }
+    ensures { λ r. ⌜ r ≡ isIban (now (s .entry)) ⌝ }
 {
     if !is_iban_formed(s) {
         return false;

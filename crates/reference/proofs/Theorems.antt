@@ -7,7 +7,7 @@ use mathlib.Core.List.{List, [], _∷_, List·Memᴰ, List·Memᴰ·head, List·
 use Prim.Native.Nat.{ℕ}
 use native.Mathlib.Omega.{arith}
 use Rattle.refusal.specs.Only.{Only, defined-only}
-use Rattle.refusal.specs.Refusal.{none}
+use Rattle.refusal.specs.Refusal.{none, isAccepted}
 use Rattle.refusal.specs.declared.Answer.{Answer}
 use Rattle.refusal.specs.declared.Answer.the-variants.{Accepted, Refused}
 use Rattle.refusal.specs.declared.Refusal.the-variants.{Parts, Digit}
@@ -15,9 +15,10 @@ use Rattle.text.proofs.Laws.{both-true, and-second}
 use Rattle.check_digits.specs.CheckDigit.{passes}
 use Rattle.models.specs.declared.Group.{Group}
 use Rattle.models.specs.declared.Model.{Model}
+use Rattle.models.specs.Models.{modelOf}
 use Rattle.reference.specs.Parts.{partsOf, formed, joined, present, groupRight, groupsRight}
 use Rattle.reference.specs.Groups.{groupsHold}
-use Rattle.reference.specs.Answers.{obeyAnswer, obeys, referenceAnswer}
+use Rattle.reference.specs.Answers.{obeyAnswer, obeys, modelAnswer, referenceAnswer}
 
 -- ---------------------------------------------------------------------------
 -- Accepted exactly when
@@ -68,6 +69,12 @@ every-groups-right (g ∷ gs) ps h =
 
 pub reference-only : (m s : List ℕ) → Only (λ (r : Answer). r ≡ referenceAnswer m s)
 reference-only m s = defined-only (referenceAnswer m s)
+
+pub numbered-only : (n : ℕ) (s : List ℕ) → Only (λ (r : Answer). r ≡ modelAnswer s (modelOf n))
+numbered-only n s = defined-only (modelAnswer s (modelOf n))
+
+pub is-right-only : (n : ℕ) (s : List ℕ) → Only (λ (r : Bool). r ≡ isAccepted (modelAnswer s (modelOf n)))
+is-right-only n s = defined-only (isAccepted (modelAnswer s (modelOf n)))
 
 pub is-formed-only : (model : Model) (s : List ℕ) → Only (λ (r : Bool). r ≡ formed model s)
 is-formed-only model s = defined-only (formed model s)

@@ -1,11 +1,13 @@
 -- What is promised of refusals: one answer.
 -- Assumes nothing.
 use mathlib.Core.Path.{_≡_}
+use mathlib.Core.Bool.{Bool}
 use Prim.Native.Nat.{ℕ}
+use Rattle.refusal.specs.declared.Answer.{Answer}
 use Rattle.refusal.specs.declared.Place.{Place}
 use Rattle.refusal.specs.declared.Refusal.{Refusal}
 use Rattle.refusal.specs.Only.{Only, defined-only}
-use Rattle.refusal.specs.Refusal.{none, numberOf, placeOf, neededOf, moved}
+use Rattle.refusal.specs.Refusal.{none, numberOf, placeOf, neededOf, moved, isAccepted}
 
 -- ---------------------------------------------------------------------------
 -- Any two answers that a contract allows are equal
@@ -25,3 +27,6 @@ module _ (refusal : Refusal) where
 
   pub put-only : (q : Place) → Only (λ (r : Refusal). r ≡ moved q refusal)
   put-only q = defined-only (moved q refusal)
+
+pub is-accepted-only : (a : Answer) → Only (λ (r : Bool). r ≡ isAccepted a)
+is-accepted-only a = defined-only (isAccepted a)

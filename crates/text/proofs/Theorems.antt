@@ -6,7 +6,7 @@ use mathlib.Core.List.{List}
 use Prim.Native.Nat.{ℕ}
 use Rattle.refusal.specs.Only.{Only, defined-only}
 use Rattle.text.specs.declared.Class.{Class}
-use Rattle.text.specs.declared.Class.the-variants.{Description}
+use Rattle.text.specs.declared.Class.the-variants.{Blanks, Description}
 use Rattle.text.specs.declared.Found.{Found}
 use Rattle.text.specs.Bytes.{isDigit, permits, firstBad, allOf, marks, same}
 use Rattle.text.specs.Digits.{twoDigits}
@@ -29,6 +29,9 @@ module _ (k : Class) where
 
   pub all-of-only : (s : List ℕ) → Only (λ (r : Bool). r ≡ allOf k s)
   all-of-only s = defined-only (allOf k s)
+
+pub all-blank-only : (s : List ℕ) → Only (λ (r : Bool). r ≡ allOf Blanks s)
+all-blank-only s = all-of-only Blanks s
 
 pub all-described-only : (s : List ℕ) → Only (λ (r : Bool). r ≡ allOf Description s)
 all-described-only s = all-of-only Description s

@@ -1,10 +1,11 @@
 -- What is promised of the contents of a wage line's places: one answer of each call.
 -- Assumes nothing.
 use mathlib.Core.Path.{_≡_}
-use mathlib.Core.Bool.{Bool}
+use mathlib.Core.Bool.{Bool, false}
 use mathlib.Core.List.{List}
 use Prim.Native.Nat.{ℕ}
 use Rattle.refusal.specs.Only.{Only, defined-only}
+use Rattle.refusal.specs.Refusal.{isAccepted}
 use Rattle.refusal.specs.declared.Answer.{Answer}
 use Rattle.text.specs.declared.Class.{Class}
 use Rattle.wage_contents.specs.Contents.{bytesAnswer, amongAnswer, oibPlaceAnswer, employerAnswer, todayAnswer, laterAnswer, ibanPlaceAnswer, currencyAnswer, purposePlaceAnswer, signAnswer, modelPlaceAnswer, referencePlaceAnswer, descriptionAnswer, codeAnswer}
@@ -53,3 +54,14 @@ judge-description-only f = defined-only (descriptionAnswer f)
 
 pub judge-code-only : (kind : ℕ) (m f : List ℕ) → Only (λ (r : Answer). r ≡ codeAnswer kind m f)
 judge-code-only kind m f = defined-only (codeAnswer kind m f)
+
+-- whether they are right
+
+pub is-iban-only : (f : List ℕ) → Only (λ (r : Bool). r ≡ isAccepted (ibanPlaceAnswer false f))
+is-iban-only f = defined-only (isAccepted (ibanPlaceAnswer false f))
+
+pub is-reference-only : (m f : List ℕ) → Only (λ (r : Bool). r ≡ isAccepted (referencePlaceAnswer m f))
+is-reference-only m f = defined-only (isAccepted (referencePlaceAnswer m f))
+
+pub is-description-only : (f : List ℕ) → Only (λ (r : Bool). r ≡ isAccepted (descriptionAnswer f))
+is-description-only f = defined-only (isAccepted (descriptionAnswer f))
