@@ -19,7 +19,7 @@ use Rattle.text.specs.declared.Class.the-variants.{Digits, Account}
 use Rattle.text.specs.declared.Found.{Found}
 use Rattle.text.specs.declared.Found.the-variants.{At, Nothing}
 use Rattle.text.specs.Digits.{digitsOf, valueFrom, valueOf, twoDigits}
-use Rattle.text.proofs.Laws.{digits-append, value-append, all-append, and-first, both-true, entered}
+use Rattle.text.proofs.Laws.{digits-append, value-append, all-apart, and-first, both-true, entered}
 use Rattle.text.proofs.Values.{value-below, digits-few}
 use Rattle.check_digits.proofs.Laws.{value-over-97}
 use Rattle.account.specs.Account.{inRange, rearranged, ibanFormed, ibanPasses}
@@ -166,8 +166,7 @@ digits-permitted (b ∷ s) e = let t = both-true (isDigit b) (allOf Digits s) e 
 
 -- a front of digits, and what is behind it
 digits-apart : (n : ℕ) (s : List ℕ) → allOf Digits s ≡ true → (allOf Digits (take n s) ≡ true) × (allOf Digits (drop n s) ≡ true)
-digits-apart n s e =
-    both-true (allOf Digits (take n s)) (allOf Digits (drop n s)) (sym (all-append Digits (take n s) (drop n s)) ∙ ap (allOf Digits) (take-append-drop n s) ∙ e)
+digits-apart n s e = both-true (allOf Digits (take n s)) (allOf Digits (drop n s)) (sym (all-apart Digits n s) ∙ e)
 
 -- `HR` and nineteen digits: 21 bytes, none of them bad
 pub formed-permitted : (s : List ℕ) → ibanFormed s ≡ true → (length s ≡ 21) × (firstBad Account s ≡ Nothing)

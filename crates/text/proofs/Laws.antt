@@ -8,7 +8,7 @@ use native.Mathlib.Numerals.{add-one}
 use native.Mathlib.Omega.{arith}
 use native.Mathlib.Nat.{zero-add, add-zero}
 use lib.Dec.{eqb, leb}
-use lib.ListN.{length, take, drop, getD, length-drop}
+use lib.ListN.{length, take, drop, getD, length-drop, take-append-drop}
 use lib.Seq.{drop-cons, drop-length, take-all}
 use borrow.Author.Tests.{ne-eqb, eq-eqb, lt-leb, le-leb, leb-true, leb-false}
 use Rattle.text.specs.declared.Class.{Class}
@@ -146,6 +146,10 @@ all-append k (b ∷ s) t = rw (all-append k s t) (sym (and-assoc (permits k b) (
 
 pub all-joined : (k : Class) (s t : List ℕ) → allOf k s ≡ true → allOf k t ≡ true → allOf k (s ++ t) ≡ true
 all-joined k s t e g = all-append k s t ∙ rw (e, g)
+
+-- a text where it permits its front and its rest
+pub all-apart : (k : Class) (n : ℕ) (s : List ℕ) → allOf k s ≡ (allOf k (take n s) && allOf k (drop n s))
+all-apart k n s = sym (ap (allOf k) (take-append-drop n s)) ∙ all-append k (take n s) (drop n s)
 
 -- one byte alone lies between itself and itself
 pub alone-between : (a b : ℕ) → eqb b a ≡ (leb a b && leb b a)

@@ -68,6 +68,19 @@ allOf k [] = true
 allOf k (b ∷ s) = permits k b && allOf k s
 
 -- ---------------------------------------------------------------------------
+-- Blanks
+
+-- "Trailing blanks end a reference": a text without the blanks at its end
+unfoldable pub trimmed : List ℕ → List ℕ
+trimmed [] = []
+trimmed (b ∷ s) = cond (allOf Blanks (b ∷ s)) [] (b ∷ trimmed s)
+
+-- a text before its first blank
+unfoldable pub beforeBlank : List ℕ → List ℕ
+beforeBlank [] = []
+beforeBlank (b ∷ s) = cond (eqb b 32) [] (b ∷ beforeBlank s)
+
+-- ---------------------------------------------------------------------------
 -- "`?` marks an unreadable digit"
 
 -- how many marks a text has

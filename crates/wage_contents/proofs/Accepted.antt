@@ -14,7 +14,7 @@ use Rattle.refusal.specs.declared.Answer.{Answer}
 use Rattle.refusal.specs.declared.Answer.the-variants.{Accepted, Refused}
 use Rattle.refusal.specs.declared.Refusal.{Refusal}
 use Rattle.refusal.specs.declared.Refusal.the-variants.{Form, Check, Date, Parts}
-use Rattle.text.specs.Bytes.{firstBad, allOf, same}
+use Rattle.text.specs.Bytes.{firstBad, allOf, same, trimmed}
 use Rattle.text.specs.declared.Class.{Class}
 use Rattle.text.specs.declared.Class.the-variants.{Digits, Reference, Letters, Blanks, Zeros, Place, Description}
 use Rattle.text.specs.declared.Found.{Found}
@@ -26,7 +26,7 @@ use Rattle.account.proofs.Theorems.{iban-accepted-exactly}
 use Rattle.dates.specs.Dates.{isDate}
 use Rattle.codes.specs.Codes.{codePlace}
 use Rattle.reference.specs.Answers.{referenceAnswer}
-use Rattle.wage_contents.specs.Contents.{andThen, onlyIf, found, numberIn, twoOfThree, euro, trimmed, unmodelledAnswer, isFound, bytesAnswer, amongAnswer, oibPlaceAnswer, employerAnswer, todayAnswer, laterAnswer, ibanPlaceAnswer, currencyAnswer, purposePlaceAnswer, signAnswer, referencePlaceAnswer, descriptionAnswer, codeAnswer}
+use Rattle.wage_contents.specs.Contents.{andThen, onlyIf, found, numberIn, twoOfThree, euro, unmodelledAnswer, isFound, bytesAnswer, amongAnswer, oibPlaceAnswer, employerAnswer, todayAnswer, laterAnswer, ibanPlaceAnswer, currencyAnswer, purposePlaceAnswer, signAnswer, referencePlaceAnswer, descriptionAnswer, codeAnswer}
 use Rattle.wage_contents.proofs.Laws.{blanks-placed, account-placed}
 
 -- accepted exactly when a test holds

@@ -11,7 +11,7 @@ use Rattle.refusal.specs.declared.Answer.{Answer}
 use Rattle.refusal.specs.declared.Answer.the-variants.{Accepted, Refused}
 use Rattle.refusal.specs.declared.Refusal.{Refusal}
 use Rattle.refusal.specs.declared.Refusal.the-variants.{Form, Check, Parts, Date}
-use Rattle.text.specs.Bytes.{firstBad, allOf, same}
+use Rattle.text.specs.Bytes.{firstBad, allOf, same, trimmed}
 use Rattle.text.specs.declared.Class.{Class}
 use Rattle.text.specs.declared.Class.the-variants.{Digits, Reference, Letters, Blanks, Zeros, Place, Description}
 use Rattle.text.proofs.ByteWithin.{Within, within-one, within-more, found-within, bad-below}
@@ -22,7 +22,7 @@ use Rattle.reference.specs.Answers.{referenceAnswer}
 use Rattle.reference.proofs.ByteWithin.{reference-within}
 use Rattle.dates.specs.Dates.{isDate}
 use Rattle.codes.specs.Codes.{codePlace}
-use Rattle.wage_contents.specs.Contents.{andThen, onlyIf, found, numberIn, twoOfThree, euro, trimmed, unmodelledAnswer, isFound, bytesAnswer, amongAnswer, oibPlaceAnswer, employerAnswer, todayAnswer, laterAnswer, ibanPlaceAnswer, currencyAnswer, purposePlaceAnswer, signAnswer, modelPlaceAnswer, referencePlaceAnswer, descriptionAnswer, codeAnswer}
+use Rattle.wage_contents.specs.Contents.{andThen, onlyIf, found, numberIn, twoOfThree, euro, unmodelledAnswer, isFound, bytesAnswer, amongAnswer, oibPlaceAnswer, employerAnswer, todayAnswer, laterAnswer, ibanPlaceAnswer, currencyAnswer, purposePlaceAnswer, signAnswer, modelPlaceAnswer, referencePlaceAnswer, descriptionAnswer, codeAnswer}
 use Rattle.wage_contents.proofs.Laws.{trimmed-shorter}
 
 -- ---------------------------------------------------------------------------

@@ -15,7 +15,7 @@ use Rattle.refusal.specs.declared.Answer.{Answer}
 use Rattle.refusal.specs.declared.Answer.the-variants.{Accepted, Refused}
 use Rattle.refusal.specs.declared.Refusal.{Refusal}
 use Rattle.refusal.specs.declared.Refusal.the-variants.{Form, Model}
-use Rattle.text.specs.Bytes.{isDigit, isLetter, firstBad, allOf}
+use Rattle.text.specs.Bytes.{isDigit, isLetter, firstBad, allOf, trimmed}
 use Rattle.text.specs.declared.Class.{Class}
 use Rattle.text.specs.declared.Class.the-variants.{Digits, Reference, Blanks, Zeros, Place, Description}
 use Rattle.text.specs.declared.Found.{Found}
@@ -25,8 +25,8 @@ use Rattle.account.specs.Account.{ibanFormed, ibanPasses}
 use Rattle.account.specs.Answers.{ibanCheckAnswer}
 use Rattle.models.specs.Models.{modelNumber, modelOf, modelFrom}
 use Rattle.reference.specs.Answers.{textAnswer, modelAnswer, numberAnswer}
-use Rattle.text.proofs.Laws.{taken, left, or-first, or-second, and-first, and-second, both-true, all-append, all-joined, all-wider}
-use Rattle.wage_contents.specs.Contents.{andThen, onlyIf, numericIn, ibanPlaceAnswer, modelPlaceAnswer, trimmed, unmodelledAnswer, referencePlaceAnswer}
+use Rattle.text.proofs.Laws.{taken, left, or-first, or-second, and-first, and-second, both-true, all-joined, all-apart, all-wider}
+use Rattle.wage_contents.specs.Contents.{andThen, onlyIf, numericIn, ibanPlaceAnswer, modelPlaceAnswer, unmodelledAnswer, referencePlaceAnswer}
 use Rattle.wage_contents.specs.declared.Numeric.the-variants.{Wrong, Absent, Present}
 
 -- ---------------------------------------------------------------------------
@@ -143,10 +143,6 @@ as-filled blank f e = rw e
 
 -- ---------------------------------------------------------------------------
 -- A description's bytes, tested in two parts
-
--- a text is permitted where its front and its rest are
-all-apart : (k : Class) (n : ℕ) (f : List ℕ) → allOf k f ≡ (allOf k (take n f) && allOf k (drop n f))
-all-apart k n f = sym (ap (allOf k) (take-append-drop n f)) ∙ all-append k (take n f) (drop n f)
 
 -- a front that is permitted, and what stands behind a shorter one, decide
 pub rest-decides : (k : Class) (m n : ℕ) (f : List ℕ) → m ≤ n → allOf k (take n f) ≡ true → allOf k (drop m f) ≡ allOf k f

@@ -11,7 +11,7 @@ use Rattle.refusal.specs.declared.Answer.{Answer}
 use Rattle.refusal.specs.declared.Answer.the-variants.{Accepted, Refused}
 use Rattle.refusal.specs.declared.Refusal.{Refusal}
 use Rattle.refusal.specs.declared.Refusal.the-variants.{Form, Check, Parts, Date}
-use Rattle.text.specs.Bytes.{firstBad, allOf, same}
+use Rattle.text.specs.Bytes.{firstBad, allOf, trimmed, same}
 use Rattle.text.specs.declared.Class.{Class}
 use Rattle.text.specs.declared.Class.the-variants.{Digits, Reference, Letters, Blanks, Zeros, Place, Description}
 use Rattle.text.specs.declared.Found.{Found}
@@ -128,16 +128,11 @@ signAnswer a b c f = onlyIf (eqb (getD f 0 0) a || (eqb (getD f 0 0) b || eqb (g
 unfoldable pub modelPlaceAnswer : List ℕ → Answer
 modelPlaceAnswer f = cond (allOf Blanks f) Accepted (modelAnswer f)
 
--- "Trailing blanks end a reference"
-unfoldable pub trimmed : List ℕ → List ℕ
-trimmed [] = []
-trimmed (b ∷ s) = cond (allOf Blanks (b ∷ s)) [] (b ∷ trimmed s)
-
 -- under a blank model
 abbrev pub unmodelledAnswer : List ℕ → Answer
 unmodelledAnswer g = andThen (bytesAnswer Reference g) (onlyIf (eqb (length g) 0) (Parts none))
 
--- a reference that obeys the model m before it; "A blank model needs a blank reference, else 8"
+-- a reference that obeys the model m before it; "Trailing blanks end a reference"; "A blank model needs a blank reference, else 8"
 unfoldable pub referencePlaceAnswer : List ℕ → List ℕ → Answer
 referencePlaceAnswer m f = cond (allOf Blanks m) (unmodelledAnswer (trimmed f)) (referenceAnswer m (trimmed f))
 

@@ -7,11 +7,11 @@ ghost use mathlib.Core.Path.{_≡_};
 ghost use mathlib.Core.Bool.{false, cond, _&&_};
 ghost use lib.Dec.{eqb};
 ghost use lib.ListN.{getD, take, drop};
-ghost use Rattle.refusal.specs.Refusal.{none, isAccepted};
-ghost use Rattle.text.specs.Bytes.{allOf};
+ghost use Rattle.refusal.specs.Refusal.{none, byteAt, isAccepted};
+ghost use Rattle.text.specs.Bytes.{allOf, trimmed};
 ghost use Rattle.account.specs.Answers.{ibanCheckAnswer};
 ghost use Rattle.codes.specs.Codes.{codePlace};
-ghost use Rattle.wage_contents.specs.Contents.{bytesAnswer, amongAnswer, numericIn, oibPlaceAnswer, twoOfThree, employerAnswer, todayAnswer, laterAnswer, ibanPlaceAnswer, currencyAnswer, purposePlaceAnswer, signAnswer, modelPlaceAnswer, trimmed, unmodelledAnswer, referencePlaceAnswer, descriptionAnswer, isFound, codeAnswer};
+ghost use Rattle.wage_contents.specs.Contents.{bytesAnswer, amongAnswer, numericIn, oibPlaceAnswer, twoOfThree, employerAnswer, todayAnswer, laterAnswer, ibanPlaceAnswer, currencyAnswer, purposePlaceAnswer, signAnswer, modelPlaceAnswer, unmodelledAnswer, referencePlaceAnswer, descriptionAnswer, isFound, codeAnswer};
 use refusal::Answer;
 use refusal::Place;
 use refusal::Refusal;
@@ -33,15 +33,22 @@ fn date() -> Answer
 }
 
 // 3 with its byte.
+fn wrong_byte(i: usize) -> Answer
+    ensures { λ r. ⌜ r ≡ byteAt i ⌝ }
+{
+    Answer::Refused(Refusal::Byte(Place {
+        line: 0,
+        field: 0,
+        byte: i,
+    }))
+}
+
+// 3 with its byte, unless a class permits all.
 pub fn judge_bytes(class: Class, f: &[u8]) -> Answer
     ensures { λ r. ⌜ r ≡ bytesAnswer class (now (f .entry)) ⌝ }
 {
     match text::first_bad(class, f) {
-        Found::At(i) => Answer::Refused(Refusal::Byte(Place {
-            line: 0,
-            field: 0,
-            byte: i,
-        })),
+        Found::At(i) => wrong_byte(i),
         Found::Nothing => Answer::Accepted,
     }
 }

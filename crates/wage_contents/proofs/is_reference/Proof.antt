@@ -3,7 +3,8 @@ use mathlib.Core.Path.{refl, sym, ap, _∙_}
 use Rattle.refusal.specs.Refusal.{isAccepted}
 use Rattle.reference.specs.Answers.{numberAnswer}
 use Rattle.text.proofs.Laws.{left}
-use Rattle.wage_contents.specs.Contents.{trimmed, unmodelledAnswer, referencePlaceAnswer}
+use Rattle.text.specs.Bytes.{trimmed}
+use Rattle.wage_contents.specs.Contents.{unmodelledAnswer, referencePlaceAnswer}
 use Rattle.wage_contents.proofs.Laws.{by-number}
 use Rattle.wage_contents.proofs.Accepted.{told, blank-model-accepted}
 use borrow.Author.Needs.{needs}

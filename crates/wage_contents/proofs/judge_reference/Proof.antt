@@ -3,7 +3,8 @@
 use mathlib.Core.Path.{sym, ap, _∙_}
 use Rattle.reference.specs.Answers.{numberAnswer}
 use Rattle.text.proofs.Laws.{left, entered}
-use Rattle.wage_contents.specs.Contents.{trimmed, unmodelledAnswer, referencePlaceAnswer}
+use Rattle.text.specs.Bytes.{trimmed}
+use Rattle.wage_contents.specs.Contents.{unmodelledAnswer, referencePlaceAnswer}
 use Rattle.wage_contents.proofs.Laws.{by-number}
 use borrow.Author.Needs.{needs}
 use Rattle.wage_contents.proofs.judge_reference.Statement.{statement}

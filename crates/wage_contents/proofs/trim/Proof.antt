@@ -5,7 +5,7 @@ use mathlib.Core.Path.{_≡_, refl, sym, ap, _∙_}
 use native.Mathlib.Omega.{arith}
 use lib.ListN.{length, take}
 use lib.Seq.{take-length, length-take-le}
-use Rattle.wage_contents.specs.Contents.{trimmed}
+use Rattle.text.specs.Bytes.{trimmed}
 use Rattle.wage_contents.proofs.Laws.{trimmed-back, trimmed-ends, trimmed-nothing}
 use Rattle.wage_contents.proofs.trim.Statement.{statement}
 use Rattle.wage_contents.proofs.trim.Tie as tie
