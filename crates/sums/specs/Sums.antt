@@ -4,7 +4,14 @@ use Prim.Native.Nat.{ℕ, _+_, _*_, _/_, _%_}
 use mathlib.Core.Bool.{Bool, cond, _&&_}
 use mathlib.Core.List.{List}
 use lib.Dec.{eqb, ltb}
+use lib.ListN.{take}
+use Rattle.text.specs.Bytes.{firstBad}
+use Rattle.text.specs.declared.Class.the-variants.{Digits}
+use Rattle.text.specs.declared.Found.{Found}
+use Rattle.text.specs.declared.Found.the-variants.{At, Nothing}
 use Rattle.text.specs.Digits.{digitsOf, valueOf, digitsText}
+use Rattle.sums.specs.declared.Read.{Read}
+use Rattle.sums.specs.declared.Read.the-variants.{Number, Wrong}
 use Rattle.sums.specs.declared.Sum.{Sum}
 
 -- 10^18
@@ -41,6 +48,14 @@ sameSum s t = fits s && (fits t && eqb (centsOf s) (centsOf t))
 -- the number that the digits of a text write; what is no digit is passed over
 abbrev pub numberOf : List ℕ → ℕ
 numberOf s = valueOf (digitsOf s)
+
+-- the number that the first eighteen digits of a text write, where a scan found nothing else in it
+abbrev pub readFrom : List ℕ → Found → Read
+readFrom s (At i) = Wrong i
+readFrom s Nothing = Number (numberOf (take 18 s))
+
+abbrev pub readIn : List ℕ → Read
+readIn s = readFrom s (firstBad Digits s)
 
 -- the last twenty digits of a sum as a text, with zeros in front
 abbrev pub sumText : Sum → List ℕ

@@ -7,12 +7,18 @@ ghost use mathlib.Core.List.{_∷_, []};
 ghost use Prim.Native.Nat.{_+_, _*_, _<_};
 ghost use lib.ListN.{take};
 ghost use Rattle.text.specs.Digits.{digitsOf, valueFrom};
-ghost use Rattle.sums.specs.Sums.{centsOf, sumOf, fits, added, sameSum, numberOf};
+ghost use Rattle.sums.specs.Sums.{centsOf, sumOf, fits, added, sameSum, numberOf, readIn};
 
 // `high` times 10^18 and `low`, in cents.
 pub struct Sum {
     pub high: u64,
     pub low: u64,
+}
+
+// What a text of digits holds: the number that its first eighteen write, or the place of its first byte that is no digit.
+pub enum Read {
+    Number(u64),
+    Wrong(usize),
 }
 
 // No cents.
@@ -151,4 +157,25 @@ pub fn number(s: &[u8]) -> u64
         i += 1;
     }
     v
+}
+
+// The number that a text of digits writes, in one pass.
+pub fn read(s: &[u8]) -> Read
+    ensures { λ r. ⌜ r ≡ readIn (now (s .entry)) ⌝ }
+{
+    let mut v: u64 = 0;
+    let mut i = 0;
+    while i < s.len() {
+        let b = s[i];
+        if !text::is_digit(b) {
+            return Read::Wrong(i);
+        }
+        if i < 18 {
+            v = v * 10 + (b - 48) as u64;
+            i += 1;
+        } else {
+            i += 1;
+        }
+    }
+    Read::Number(v)
 }

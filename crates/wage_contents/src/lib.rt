@@ -15,6 +15,7 @@ ghost use Rattle.wage_contents.specs.Contents.{bytesAnswer, amongAnswer,
 use refusal::Answer;
 use refusal::Place;
 use refusal::Refusal;
+use sums::Read;
 use text::Class;
 use text::Found;
 
@@ -57,10 +58,9 @@ pub fn judge_bytes(class: Class, f: &[u8]) -> Answer
 pub fn judge_among(a: u64, b: u64, c: u64, f: &[u8]) -> Answer
     ensures { λ r. ⌜ r ≡ amongAnswer a b c (now (f .entry)) ⌝ }
 {
-    match judge_bytes(Class::Digits, f) {
-        Answer::Refused(r) => Answer::Refused(r),
-        Answer::Accepted => {
-            let v = sums::number(f);
+    match sums::read(f) {
+        Read::Wrong(i) => wrong_byte(i),
+        Read::Number(v) => {
             if v == a {
                 return Answer::Accepted;
             }
@@ -163,10 +163,9 @@ pub fn judge_employer(before: &[u8], last: &[u8], f: &[u8]) -> Answer
 pub fn judge_today(day: u64, f: &[u8]) -> Answer
     ensures { λ r. ⌜ r ≡ todayAnswer day (now (f .entry)) ⌝ }
 {
-    match judge_bytes(Class::Digits, f) {
-        Answer::Refused(r) => Answer::Refused(r),
-        Answer::Accepted => {
-            let v = sums::number(f);
+    match sums::read(f) {
+        Read::Wrong(i) => wrong_byte(i),
+        Read::Number(v) => {
             if !dates::is_date(v) {
                 return date();
             }
@@ -182,10 +181,9 @@ pub fn judge_today(day: u64, f: &[u8]) -> Answer
 pub fn judge_later(day: u64, f: &[u8]) -> Answer
     ensures { λ r. ⌜ r ≡ laterAnswer day (now (f .entry)) ⌝ }
 {
-    match judge_bytes(Class::Digits, f) {
-        Answer::Refused(r) => Answer::Refused(r),
-        Answer::Accepted => {
-            let v = sums::number(f);
+    match sums::read(f) {
+        Read::Wrong(i) => wrong_byte(i),
+        Read::Number(v) => {
             if !dates::is_date(v) {
                 return date();
             }
@@ -452,10 +450,9 @@ fn is_unmodelled_loan(kind: u64, v: u64, m: &[u8]) -> bool
 pub fn judge_code(kind: u64, m: &[u8], f: &[u8]) -> Answer
     ensures { λ r. ⌜ r ≡ codeAnswer kind (now (m .entry)) (now (f .entry)) ⌝ }
 {
-    match judge_bytes(Class::Digits, f) {
-        Answer::Refused(r) => Answer::Refused(r),
-        Answer::Accepted => {
-            let v = sums::number(f);
+    match sums::read(f) {
+        Read::Wrong(i) => wrong_byte(i),
+        Read::Number(v) => {
             if !is_code(v) {
                 return form();
             }
