@@ -7,6 +7,7 @@ use Prim.Native.Nat.{ℕ, _+_, _-_, _*_, _/_, _%_, _≤_, _<_}
 use native.Mathlib.Nat.{div-add-mod', mod-lt}
 use native.Mathlib.Omega.{arith}
 use lib.Dec.{ltb, eqb, lit<}
+use lib.ListN.{length, drop, drop-of-length-le}
 use borrow.Author.Tests.{lt-ltb, le-ltb, ltb-true, ltb-false, eq-eqb, ne-eqb, eqb-true, eqb-false}
 use Rattle.text.specs.Bytes.{isDigit}
 use Rattle.text.specs.Digits.{digitsOf, valueFrom}
@@ -157,3 +158,11 @@ same-by-low s t p = go (eqb (s .low % limb) (t .low % limb)) refl
     go : (b : Bool) → eqb (s .low % limb) (t .low % limb) ≡ b → b ≡ eqb (centsOf s) (centsOf t)
     go true e = sym (eq-eqb (centsOf s) (centsOf t) (same-parts (s .high) (s .low) (t .high) (t .low) p (eqb-true (s .low % limb) (t .low % limb) e)))
     go false e = sym (ne-eqb (centsOf s) (centsOf t) (λ q. eqb-false (s .low % limb) (t .low % limb) e (parts-same (s .high) (s .low) (t .high) (t .low) q .1)))
+
+-- ---------------------------------------------------------------------------
+-- Digits read from a text
+
+-- none is left
+pub none-left : (v : ℕ) (s : List ℕ) (i : ℕ) → length s ≤ i → v ≡ valueFrom v (digitsOf (drop i s))
+unfolding valueFrom digitsOf
+none-left v s i h = rw (drop-of-length-le s h)

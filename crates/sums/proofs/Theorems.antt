@@ -14,8 +14,9 @@ use borrow.Author.Tests.{lt-ltb, ltb-false, eq-eqb, eqb-true}
 use Rattle.refusal.specs.Only.{Only, defined-only}
 use Rattle.text.specs.Digits.{digitsOf}
 use Rattle.text.proofs.Laws.{and-first, both-true}
+use Rattle.sums.specs.declared.Reading.{Reading}
 use Rattle.sums.specs.declared.Sum.{Sum}
-use Rattle.sums.specs.Sums.{tooMuch, centsOf, sumOf, fits, added, sameSum, numberOf}
+use Rattle.sums.specs.Sums.{tooMuch, centsOf, sumOf, fits, added, sameSum, numberOf, readIn}
 use Rattle.text.proofs.Values.{value-below, digits-few}
 use Rattle.sums.proofs.Laws.{cents-small, cents-large}
 
@@ -96,3 +97,6 @@ module _ (s : List ℕ) where
 
   pub number-only : Only (λ (r : ℕ). r ≡ numberOf (take 18 s))
   number-only = defined-only (numberOf (take 18 s))
+
+  pub read-only : Only (λ (r : Reading). r ≡ readIn s)
+  read-only = defined-only (readIn s)

@@ -10,8 +10,8 @@ use Rattle.text.specs.declared.Class.the-variants.{Digits}
 use Rattle.text.specs.declared.Found.{Found}
 use Rattle.text.specs.declared.Found.the-variants.{At, Nothing}
 use Rattle.text.specs.Digits.{digitsOf, valueOf, digitsText}
-use Rattle.sums.specs.declared.Read.{Read}
-use Rattle.sums.specs.declared.Read.the-variants.{Number, Wrong}
+use Rattle.sums.specs.declared.Reading.{Reading}
+use Rattle.sums.specs.declared.Reading.the-variants.{Number, Wrong}
 use Rattle.sums.specs.declared.Sum.{Sum}
 
 -- 10^18
@@ -50,11 +50,11 @@ abbrev pub numberOf : List ℕ → ℕ
 numberOf s = valueOf (digitsOf s)
 
 -- the number that the first eighteen digits of a text write, where a scan found nothing else in it
-abbrev pub readFrom : List ℕ → Found → Read
+abbrev pub readFrom : List ℕ → Found → Reading
 readFrom s (At i) = Wrong i
 readFrom s Nothing = Number (numberOf (take 18 s))
 
-abbrev pub readIn : List ℕ → Read
+abbrev pub readIn : List ℕ → Reading
 readIn s = readFrom s (firstBad Digits s)
 
 -- the last twenty digits of a sum as a text, with zeros in front

@@ -16,7 +16,7 @@ pub struct Sum {
 }
 
 // What a text of digits holds: the number that its first eighteen write, or the place of its first byte that is no digit.
-pub enum Read {
+pub enum Reading {
     Number(u64),
     Wrong(usize),
 }
@@ -160,7 +160,7 @@ pub fn number(s: &[u8]) -> u64
 }
 
 // The number that a text of digits writes, in one pass.
-pub fn read(s: &[u8]) -> Read
+pub fn read(s: &[u8]) -> Reading
     ensures { λ r. ⌜ r ≡ readIn (now (s .entry)) ⌝ }
 {
     let mut v: u64 = 0;
@@ -168,14 +168,14 @@ pub fn read(s: &[u8]) -> Read
     while i < s.len() {
         let b = s[i];
         if !text::is_digit(b) {
-            return Read::Wrong(i);
+            return Reading::Wrong(i);
         }
         if i < 18 {
-            v = v * 10 + (b - 48) as u64;
+            v = longer(v, b);
             i += 1;
         } else {
             i += 1;
         }
     }
-    Read::Number(v)
+    Reading::Number(v)
 }

@@ -1,4 +1,4 @@
--- Laws that this crate's proofs share: of answers joined, of one of three numbers, of a numeric field, of an IBAN's place, of a
+-- Laws that this crate's proofs share: of answers joined, of digits read, of one of three numbers, of a numeric field, of an IBAN's place, of a
 -- description tested in parts, of a model's place, and of the blanks at a text's end.
 -- Assumes nothing.
 use mathlib.Core.Path.{_≡_, refl, sym, ap, _∙_}
@@ -10,7 +10,7 @@ use lib.Dec.{eqb}
 use lib.ListN.{length, take, drop, getD, take-append-drop}
 use lib.Seq.{take-all, take-suc, take-take}
 use borrow.Author.Tests.{eq-eqb, ne-eqb, eqb-true}
-use Rattle.refusal.specs.Refusal.{none}
+use Rattle.refusal.specs.Refusal.{none, byteAt}
 use Rattle.refusal.specs.declared.Answer.{Answer}
 use Rattle.refusal.specs.declared.Answer.the-variants.{Accepted, Refused}
 use Rattle.refusal.specs.declared.Refusal.{Refusal}
@@ -23,11 +23,13 @@ use Rattle.text.specs.declared.Found.the-variants.{At, Nothing}
 use Rattle.text.specs.Digits.{twoDigits}
 use Rattle.account.specs.Account.{ibanFormed, ibanPasses}
 use Rattle.account.specs.Answers.{ibanCheckAnswer}
+use Rattle.sums.specs.Sums.{readFrom, readIn}
+use Rattle.sums.specs.declared.Reading.the-variants.{Number, Wrong}
 use Rattle.models.specs.Models.{modelNumber, modelOf, modelFrom}
 use Rattle.reference.specs.Answers.{textAnswer, modelAnswer, numberAnswer}
 use Rattle.text.proofs.Laws.{taken, left, or-first, or-second, and-first, and-second, both-true, all-joined, all-apart, all-wider}
-use Rattle.wage_contents.specs.Contents.{andThen, onlyIf, numericIn, ibanPlaceAnswer, modelPlaceAnswer, unmodelledAnswer, referencePlaceAnswer}
-use Rattle.wage_contents.specs.declared.Numeric.the-variants.{Wrong, Absent, Present}
+use Rattle.wage_contents.specs.Contents.{andThen, onlyIf, found, bytesAnswer, numberIn, numericIn, ibanPlaceAnswer, modelPlaceAnswer, unmodelledAnswer, referencePlaceAnswer}
+use Rattle.wage_contents.specs.declared.Numeric.the-variants.{Wrong as NoNumber, Absent, Present}
 
 -- ---------------------------------------------------------------------------
 -- Answers joined: j is what the call answered, x what it is defined to answer
@@ -40,6 +42,28 @@ module _ (j x y : Answer) (made : j ≡ x) where
   -- accepted there: the rest answers
   pub passed : (r : Answer) → j ≡ Accepted → r ≡ y → r ≡ andThen x y
   passed r e h = rw (sym made ∙ e) h
+
+-- ---------------------------------------------------------------------------
+-- Digits read, in a place f
+
+module _ (f : List ℕ) where
+  -- a byte that is no digit is the answer
+  pub read-wrong : (i : ℕ) (y r : Answer) → readIn f ≡ Wrong i → r ≡ byteAt i → r ≡ andThen (bytesAnswer Digits f) y
+  unfolding bytesAnswer
+  read-wrong i y r e h = h ∙ go (firstBad Digits f) e
+    where
+      go : (x : Found) → readFrom f x ≡ Wrong i → byteAt i ≡ andThen (found x) y
+      go (At j) g = let z : j ≡ i = cc in ap byteAt (sym z)
+      go Nothing g = let z : _≡_ {A = ℕ} 0 1 = cc in absurd (omega arith)
+
+  -- a number is the place's, and the rest answers
+  pub read-right : (v : ℕ) → readIn f ≡ Number v → (v ≡ numberIn f) × ((y r : Answer) → r ≡ y → r ≡ andThen (bytesAnswer Digits f) y)
+  unfolding bytesAnswer
+  read-right v e = go (firstBad Digits f) e
+    where
+      go : (x : Found) → readFrom f x ≡ Number v → (v ≡ numberIn f) × ((y r : Answer) → r ≡ y → r ≡ andThen (found x) y)
+      go (At j) g = let z : _≡_ {A = ℕ} 0 1 = cc in absurd (omega arith)
+      go Nothing g = let z : numberIn f ≡ v = cc in (sym z, λ y r h. h)
 
 -- ---------------------------------------------------------------------------
 -- One of three numbers: v is the number that was read, w what it is defined to be
@@ -73,19 +97,19 @@ first-of-none (b ∷ f) e = absurd (omega arith)
 -- What a numeric field holds, told by two tests of it
 
 -- absent: zeros
-told-absent : (z d : Bool) → cond z Absent (cond d Present Wrong) ≡ Absent → z ≡ true
+told-absent : (z d : Bool) → cond z Absent (cond d Present NoNumber) ≡ Absent → z ≡ true
 told-absent true d e = refl
 told-absent false true e = let n : _≡_ {A = ℕ} 0 1 = cc in absurd (omega arith)
 told-absent false false e = let n : _≡_ {A = ℕ} 0 1 = cc in absurd (omega arith)
 
 -- present: digits, not all of them zeros
-told-present : (z d : Bool) → cond z Absent (cond d Present Wrong) ≡ Present → (z ≡ false) × (d ≡ true)
+told-present : (z d : Bool) → cond z Absent (cond d Present NoNumber) ≡ Present → (z ≡ false) × (d ≡ true)
 told-present true d e = let n : _≡_ {A = ℕ} 0 1 = cc in absurd (omega arith)
 told-present false true e = (refl, refl)
 told-present false false e = let n : _≡_ {A = ℕ} 0 1 = cc in absurd (omega arith)
 
 -- wrong: no digits
-told-wrong : (z d : Bool) → cond z Absent (cond d Present Wrong) ≡ Wrong → d ≡ false
+told-wrong : (z d : Bool) → cond z Absent (cond d Present NoNumber) ≡ NoNumber → d ≡ false
 told-wrong true d e = let n : _≡_ {A = ℕ} 0 1 = cc in absurd (omega arith)
 told-wrong false true e = let n : _≡_ {A = ℕ} 0 1 = cc in absurd (omega arith)
 told-wrong false false e = refl
@@ -100,7 +124,7 @@ module _ (f : List ℕ) where
   pub present-digits : numericIn f ≡ Present → (allOf Zeros f ≡ false) × (allOf Digits f ≡ true)
   present-digits e = told-present (allOf Zeros f) (allOf Digits f) e
 
-  pub wrong-digits : numericIn f ≡ Wrong → allOf Digits f ≡ false
+  pub wrong-digits : numericIn f ≡ NoNumber → allOf Digits f ≡ false
   wrong-digits e = told-wrong (allOf Zeros f) (allOf Digits f) e
 
 -- ---------------------------------------------------------------------------

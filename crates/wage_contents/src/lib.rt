@@ -15,7 +15,7 @@ ghost use Rattle.wage_contents.specs.Contents.{bytesAnswer, amongAnswer,
 use refusal::Answer;
 use refusal::Place;
 use refusal::Refusal;
-use sums::Read;
+use sums::Reading;
 use text::Class;
 use text::Found;
 
@@ -59,8 +59,8 @@ pub fn judge_among(a: u64, b: u64, c: u64, f: &[u8]) -> Answer
     ensures { λ r. ⌜ r ≡ amongAnswer a b c (now (f .entry)) ⌝ }
 {
     match sums::read(f) {
-        Read::Wrong(i) => wrong_byte(i),
-        Read::Number(v) => {
+        Reading::Wrong(i) => wrong_byte(i),
+        Reading::Number(v) => {
             if v == a {
                 return Answer::Accepted;
             }
@@ -164,8 +164,8 @@ pub fn judge_today(day: u64, f: &[u8]) -> Answer
     ensures { λ r. ⌜ r ≡ todayAnswer day (now (f .entry)) ⌝ }
 {
     match sums::read(f) {
-        Read::Wrong(i) => wrong_byte(i),
-        Read::Number(v) => {
+        Reading::Wrong(i) => wrong_byte(i),
+        Reading::Number(v) => {
             if !dates::is_date(v) {
                 return date();
             }
@@ -182,8 +182,8 @@ pub fn judge_later(day: u64, f: &[u8]) -> Answer
     ensures { λ r. ⌜ r ≡ laterAnswer day (now (f .entry)) ⌝ }
 {
     match sums::read(f) {
-        Read::Wrong(i) => wrong_byte(i),
-        Read::Number(v) => {
+        Reading::Wrong(i) => wrong_byte(i),
+        Reading::Number(v) => {
             if !dates::is_date(v) {
                 return date();
             }
@@ -451,8 +451,8 @@ pub fn judge_code(kind: u64, m: &[u8], f: &[u8]) -> Answer
     ensures { λ r. ⌜ r ≡ codeAnswer kind (now (m .entry)) (now (f .entry)) ⌝ }
 {
     match sums::read(f) {
-        Read::Wrong(i) => wrong_byte(i),
-        Read::Number(v) => {
+        Reading::Wrong(i) => wrong_byte(i),
+        Reading::Number(v) => {
             if !is_code(v) {
                 return form();
             }

@@ -4,22 +4,22 @@ use mathlib.Core.Bool.{not}
 use borrow.Author.Tests.{not-true, not-false}
 use Rattle.text.proofs.Laws.{taken, left, entered}
 use Rattle.wage_contents.specs.Contents.{codeAnswer}
-use Rattle.wage_contents.proofs.Laws.{refused, passed}
+use Rattle.wage_contents.proofs.Laws.{read-wrong, read-right}
 use borrow.Author.Needs.{needs}
 use Rattle.wage_contents.proofs.judge_code.Statement.{statement}
 use Rattle.wage_contents.proofs.judge_code.Tie as tie
 
-judge-bytes-requires : tie.Need-judge-bytes-requires
-judge-bytes-requires c κs = search needs
+read-requires : tie.Need-read-requires
+read-requires c κs = search needs
 
-enum-known-r : tie.Need-enum-known-r
-enum-known-r c = search needs
+enum-known-i : tie.Need-enum-known-i
+enum-known-i c = search needs
 
-enum-told : tie.Need-enum-told
-enum-told c = search needs
+wrong-byte-requires : tie.Need-wrong-byte-requires
+wrong-byte-requires c κs = search needs
 
-number-requires : tie.Need-number-requires
-number-requires c κs = search needs
+enum-known-v : tie.Need-enum-known-v
+enum-known-v c = search needs
 
 is-code-requires : tie.Need-is-code-requires
 is-code-requires c κs = search needs
@@ -29,9 +29,9 @@ form-requires c κs = search needs
 
 returns : tie.Need-returns
 unfolding codeAnswer
-returns c =
-    rw (sym (c .before .before .before .number .ensures))
-    (passed _ _ _ (c .before .before .before .before .before .before .judge-bytes .ensures) _ (c .before .before .before .before .enum-told .given .1)
+returns c = let w = read-right _ _ (sym (c .before .before .before .before .before .before .read .ensures) ∙ c .before .before .before .before .v .given .1) in
+    rw (sym (w .0))
+    (w .1 _ _
     (left _ _ _ _ (sym (c .before .before .is-code .ensures) ∙ not-true _ (c .before .if1 .taken)) (c .form .ensures)))
 
 is-unmodelled-loan-requires : tie.Need-is-unmodelled-loan-requires
@@ -42,21 +42,21 @@ form-requires-2 c κs = search needs
 
 returns-2 : tie.Need-returns-2
 unfolding codeAnswer
-returns-2 c =
-    rw (sym (c .before .before .before .before .before .number .ensures))
-    (passed _ _ _ (c .before .before .before .before .before .before .before .before .judge-bytes .ensures) _ (c .before .before .before .before .before .before .enum-told .given .1)
+returns-2 c = let w = read-right _ _ (sym (c .before .before .before .before .before .before .before .before .read .ensures) ∙ c .before .before .before .before .before .before .v .given .1) in
+    rw (sym (w .0))
+    (w .1 _ _
     (entered _ _ _ _ (sym (c .before .before .before .before .is-code .ensures) ∙ not-false _ (c .before .before .before .if1 .left))
     (left _ _ _ _ (ap not (sym (c .before .before .is-unmodelled-loan .ensures) ∙ c .before .if2 .taken)) (c .form2 .ensures))))
 
 returns-3 : tie.Need-returns-3
 unfolding codeAnswer
-returns-3 c = refused _ _ _ (c .before .before .before .judge-bytes .ensures) _ (c .before .r .given .1)
+returns-3 c = read-wrong _ _ _ _ (sym (c .before .before .before .before .read .ensures) ∙ c .before .before .i .given .1) (c .wrong-byte .ensures)
 
 returns-4 : tie.Need-returns-4
 unfolding codeAnswer
-returns-4 c =
-    rw (sym (c .before .before .before .before .number .ensures))
-    (passed _ _ _ (c .before .before .before .before .before .before .before .judge-bytes .ensures) _ (c .before .before .before .before .before .enum-told .given .1)
+returns-4 c = let w = read-right _ _ (sym (c .before .before .before .before .before .before .before .read .ensures) ∙ c .before .before .before .before .before .v .given .1) in
+    rw (sym (w .0))
+    (w .1 _ _
     (entered _ _ _ _ (sym (c .before .before .before .is-code .ensures) ∙ not-false _ (c .before .before .if1 .left))
     (taken _ _ _ (ap not (sym (c .before .is-unmodelled-loan .ensures) ∙ c .if2 .left)))))
 
@@ -64,10 +64,10 @@ pub judge-code-spec : {M : Type 1} → statement M
 judge-code-spec =
     tie.close
     (tie.spec
-    judge-bytes-requires
-    enum-known-r
-    enum-told
-    number-requires
+    read-requires
+    enum-known-i
+    wrong-byte-requires
+    enum-known-v
     is-code-requires
     form-requires
     returns

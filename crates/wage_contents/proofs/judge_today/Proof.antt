@@ -3,22 +3,22 @@ use mathlib.Core.Path.{sym, _∙_}
 use borrow.Author.Tests.{not-true, not-false, eq-eqb, ne-eqb}
 use Rattle.text.proofs.Laws.{taken, left, and-first, and-second}
 use Rattle.wage_contents.specs.Contents.{todayAnswer}
-use Rattle.wage_contents.proofs.Laws.{refused, passed}
+use Rattle.wage_contents.proofs.Laws.{read-wrong, read-right}
 use borrow.Author.Needs.{needs}
 use Rattle.wage_contents.proofs.judge_today.Statement.{statement}
 use Rattle.wage_contents.proofs.judge_today.Tie as tie
 
-judge-bytes-requires : tie.Need-judge-bytes-requires
-judge-bytes-requires c κs = search needs
+read-requires : tie.Need-read-requires
+read-requires c κs = search needs
 
-enum-known-r : tie.Need-enum-known-r
-enum-known-r c = search needs
+enum-known-i : tie.Need-enum-known-i
+enum-known-i c = search needs
 
-enum-told : tie.Need-enum-told
-enum-told c = search needs
+wrong-byte-requires : tie.Need-wrong-byte-requires
+wrong-byte-requires c κs = search needs
 
-number-requires : tie.Need-number-requires
-number-requires c κs = search needs
+enum-known-v : tie.Need-enum-known-v
+enum-known-v c = search needs
 
 is-date-requires : tie.Need-is-date-requires
 is-date-requires c κs = search needs
@@ -28,16 +28,16 @@ date-requires c κs = search needs
 
 returns : tie.Need-returns
 unfolding todayAnswer
-returns c =
-    rw (sym (c .before .before .before .number .ensures))
-    (passed _ _ _ (c .before .before .before .before .before .before .judge-bytes .ensures) _ (c .before .before .before .before .enum-told .given .1)
+returns c = let w = read-right _ _ (sym (c .before .before .before .before .before .before .read .ensures) ∙ c .before .before .before .before .v .given .1) in
+    rw (sym (w .0))
+    (w .1 _ _
     (left _ _ _ _ (sym (and-first _ _ (sym (c .before .before .is-date .ensures) ∙ not-true _ (c .before .if1 .taken)))) (c .date .ensures)))
 
 returns-2 : tie.Need-returns-2
 unfolding todayAnswer
-returns-2 c =
-    rw (sym (c .before .before .before .number .ensures))
-    (passed _ _ _ (c .before .before .before .before .before .before .judge-bytes .ensures) _ (c .before .before .before .before .enum-told .given .1)
+returns-2 c = let w = read-right _ _ (sym (c .before .before .before .before .before .before .read .ensures) ∙ c .before .before .before .before .v .given .1) in
+    rw (sym (w .0))
+    (w .1 _ _
     (taken _ _ _ (sym (and-second _ _ _ (sym (c .before .before .is-date .ensures) ∙ not-false _ (c .before .if1 .left)) (sym (eq-eqb _ _ (c .if2 .taken)))))))
 
 date-requires-2 : tie.Need-date-requires-2
@@ -45,23 +45,23 @@ date-requires-2 c κs = search needs
 
 returns-3 : tie.Need-returns-3
 unfolding todayAnswer
-returns-3 c = refused _ _ _ (c .before .before .before .judge-bytes .ensures) _ (c .before .r .given .1)
+returns-3 c = read-wrong _ _ _ _ (sym (c .before .before .before .before .read .ensures) ∙ c .before .before .i .given .1) (c .wrong-byte .ensures)
 
 returns-4 : tie.Need-returns-4
 unfolding todayAnswer
-returns-4 c =
-    rw (sym (c .before .before .before .before .number .ensures))
-    (passed _ _ _ (c .before .before .before .before .before .before .before .judge-bytes .ensures) _ (c .before .before .before .before .before .enum-told .given .1)
+returns-4 c = let w = read-right _ _ (sym (c .before .before .before .before .before .before .before .read .ensures) ∙ c .before .before .before .before .before .v .given .1) in
+    rw (sym (w .0))
+    (w .1 _ _
     (left _ _ _ _ (sym (and-second _ _ _ (sym (c .before .before .before .is-date .ensures) ∙ not-false _ (c .before .before .if1 .left)) (sym (ne-eqb _ _ (c .before .if2 .left))))) (c .date2 .ensures)))
 
 pub judge-today-spec : {M : Type 1} → statement M
 judge-today-spec =
     tie.close
     (tie.spec
-    judge-bytes-requires
-    enum-known-r
-    enum-told
-    number-requires
+    read-requires
+    enum-known-i
+    wrong-byte-requires
+    enum-known-v
     is-date-requires
     date-requires
     returns
