@@ -44,35 +44,44 @@ use Rattle.reference.specs.Groups.{afterHyphens, hyphensIn, foundAt, hyp
 pub fits-lengths : (lengths : List ℕ) (n : ℕ) → fitsNext lengths n ≡ true → 1 < length lengths
 fits-lengths lengths n e = ltb-true 1 (length lengths) (both-true _ _ e .0)
 
--- after n digits of a part
+-- after n digits of a part, the text read up to its first blank
 module _ (lengths : List ℕ) (n sizes : ℕ) (s : List ℕ) where
   -- the text is at its end
-  module _ (h : length s ≤ n) where
-    pub last-fits : fitsNext lengths n ≡ true → sizes * 256 + n ≡ digitRead lengths n sizes (drop n s)
-    unfolding digitRead
-    last-fits e = rw (drop-of-length-le s h) (taken _ _ _ e)
-
-    pub last-breaks : fitsNext lengths n ≡ false → 0 ≡ digitRead lengths n sizes (drop n s)
-    unfolding digitRead
-    last-breaks e = rw (drop-of-length-le s h) (left _ _ _ _ e refl)
+  pub last-reads : length s ≤ n → digitRead lengths n sizes [] ≡ digitRead lengths n sizes (beforeBlank (drop n s))
+  unfolding beforeBlank
+  last-reads h = rw (drop-of-length-le s h)
 
   -- a byte more
   module _ (h : n < length s) where
-    pub hyphen-fits : (r : ℕ) → getD s n 0 ≡ 45 → fitsNext lengths n ≡ true → r ≡ partRead (take (length lengths - 2) (drop 2 lengths)) (sizes * 256 + n) (take (length s - (n + 1)) (drop (n + 1) s)) → r ≡ digitRead lengths n sizes (drop n s)
-    unfolding digitRead
-    hyphen-fits r g e f = rw (drop-cons s n 0 h) (entered _ _ _ _ (eq-eqb (getD s n 0) 45 g) (entered _ _ _ _ e (rw (to-the-end 2 lengths, to-the-end (n + 1) s, add-one n) at f)))
+    -- a blank ends the text
+    pub blank-reads : getD s n 0 ≡ 32 → digitRead lengths n sizes [] ≡ digitRead lengths n sizes (beforeBlank (drop n s))
+    unfolding beforeBlank
+    blank-reads g = rw (drop-cons s n 0 h, eq-eqb (getD s n 0) 32 g)
 
-    pub hyphen-breaks : getD s n 0 ≡ 45 → fitsNext lengths n ≡ false → 0 ≡ digitRead lengths n sizes (drop n s)
-    unfolding digitRead
-    hyphen-breaks g e = rw (drop-cons s n 0 h) (entered _ _ _ _ (eq-eqb (getD s n 0) 45 g) (left _ _ _ _ e refl))
+    -- any other byte stands before the first blank
+    none-blank : (getD s n 0 ≡ 32 → ⊥) → beforeBlank (drop n s) ≡ getD s n 0 ∷ beforeBlank (drop (n + 1) s)
+    unfolding beforeBlank
+    none-blank g = rw (drop-cons s n 0 h, ne-eqb (getD s n 0) 32 g, add-one n)
 
-    pub digit-reads : isDigit (getD s n 0) ≡ true → digitRead lengths n sizes (drop n s) ≡ digitRead lengths (n + 1) sizes (drop (n + 1) s)
+    -- a hyphen after a part that fits hands over to the next part
+    pub hyphen-fits : (r : ℕ) → getD s n 0 ≡ 45 → fitsNext lengths n ≡ true → r ≡ partRead (take (length lengths - 2) (drop 2 lengths)) (sizes * 256 + n) (beforeBlank (take (length s - (n + 1)) (drop (n + 1) s))) → r ≡ digitRead lengths n sizes (beforeBlank (drop n s))
     unfolding digitRead
-    digit-reads e = let d = digit-bounds (getD s n 0) e in rw (drop-cons s n 0 h, ne-eqb (getD s n 0) 45 (λ (z : getD s n 0 ≡ 45). omega arith), e, add-one n)
+    hyphen-fits r g e f = rw (none-blank (λ (z : getD s n 0 ≡ 32). omega arith)) (entered _ _ _ _ (eq-eqb (getD s n 0) 45 g) (entered _ _ _ _ e (rw (to-the-end 2 lengths, to-the-end (n + 1) s) at f)))
 
-    pub other-breaks : (getD s n 0 ≡ 45 → ⊥) → isDigit (getD s n 0) ≡ false → 0 ≡ digitRead lengths n sizes (drop n s)
+    -- a hyphen after one that does not fit breaks off
+    pub hyphen-breaks : getD s n 0 ≡ 45 → fitsNext lengths n ≡ false → 0 ≡ digitRead lengths n sizes (beforeBlank (drop n s))
     unfolding digitRead
-    other-breaks g e = rw (drop-cons s n 0 h) (left _ _ _ _ (ne-eqb (getD s n 0) 45 g) (left _ _ _ _ e refl))
+    hyphen-breaks g e = rw (none-blank (λ (z : getD s n 0 ≡ 32). omega arith)) (entered _ _ _ _ (eq-eqb (getD s n 0) 45 g) (left _ _ _ _ e refl))
+
+    -- a digit is one more
+    pub digit-reads : isDigit (getD s n 0) ≡ true → digitRead lengths n sizes (beforeBlank (drop n s)) ≡ digitRead lengths (n + 1) sizes (beforeBlank (drop (n + 1) s))
+    unfolding digitRead
+    digit-reads e = let d = digit-bounds (getD s n 0) e in rw (none-blank (λ (z : getD s n 0 ≡ 32). omega arith), ne-eqb (getD s n 0) 45 (λ (z : getD s n 0 ≡ 45). omega arith), e)
+
+    -- a byte that is no blank, hyphen or digit breaks off
+    pub other-breaks : (getD s n 0 ≡ 32 → ⊥) → (getD s n 0 ≡ 45 → ⊥) → isDigit (getD s n 0) ≡ false → 0 ≡ digitRead lengths n sizes (beforeBlank (drop n s))
+    unfolding digitRead
+    other-breaks f g e = rw (none-blank f) (left _ _ _ _ (ne-eqb (getD s n 0) 45 g) (left _ _ _ _ e refl))
 
 -- each number is a byte's
 abbrev pub Bytes : List ℕ → Type 0
@@ -210,6 +219,7 @@ either : (t : Bool) (n : ℕ) → cond t n n ≡ n
 either true n = refl
 either false n = refl
 
+-- no byte is no size
 pub found-none : (model : Model) (s : List ℕ) → length s ≡ 0 → 0 ≡ partsFound model s
 unfolding partsOf sizesFrom
 found-none model [] h = sym (either (formed model []) 0)
@@ -863,20 +873,23 @@ module _ (lengths : List ℕ) (h : Bytes lengths) (l : length lengths ≤ 8) (s 
   sizes-between = fit-tell .1 ∙ hyphens-among s
 
 -- what is read of a text, where it is as many as the model asks, is the sizes of its parts
-module _ (model : Model) (b : Bytes (model .lengths)) (l : length (model .lengths) ≤ 8) (s : List ℕ) (h : length s ≡ 0 → ⊥) (n : ℕ) where
-  pub found-read : n ≡ partRead (model .lengths) 0 s → cond (leb (model .fewest) (partsIn n) && leb (partsIn n) (model .most)) n 0 ≡ partsFound model s
-  unfolding formed partsOf
-  found-read e = rw (e, read-part (model .lengths) s) (go s h (partsFit (model .lengths) (split 45 s)) refl)
+module _ (model : Model) (b : Bytes (model .lengths)) (l : length (model .lengths) ≤ 8) (s : List ℕ) (n : ℕ) (e : n ≡ partRead (model .lengths) 0 s) where
+  pub found-read : cond (leb (model .fewest) (partsIn n) && leb (partsIn n) (model .most)) n 0 ≡ partsFound model s
+  unfolding formed partsOf split sizesFrom
+  found-read = rw (e, read-part (model .lengths) s) (go s (partsFit (model .lengths) (split 45 s)) refl)
     where
-      go : (r : List ℕ) → (length r ≡ 0 → ⊥) → (t : Bool) → partsFit (model .lengths) (split 45 r) ≡ t → cond (leb (model .fewest) (partsIn (cond t (sizesFrom 0 (split 45 r)) 0)) && leb (partsIn (cond t (sizesFrom 0 (split 45 r)) 0)) (model .most)) (cond t (sizesFrom 0 (split 45 r)) 0) 0 ≡ partsFound model r
-      go [] g t f = absurd (g refl)
-      go (c ∷ r) g true f = rw (f, sizes-in (model .lengths) b l (c ∷ r) f, and-true)
-      go (c ∷ r) g false f = rw (f, and-false, and-false) (either (leb (model .fewest) 1 && leb 1 (model .most)) 0)
+      go : (r : List ℕ) (t : Bool) → partsFit (model .lengths) (split 45 r) ≡ t → cond (leb (model .fewest) (partsIn (cond t (sizesFrom 0 (split 45 r)) 0)) && leb (partsIn (cond t (sizesFrom 0 (split 45 r)) 0)) (model .most)) (cond t (sizesFrom 0 (split 45 r)) 0) 0 ≡ partsFound model r
+      go [] true f = either (leb (model .fewest) 1 && leb 1 (model .most)) 0 ∙ found-none model [] refl
+      go [] false f = either (leb (model .fewest) 1 && leb 1 (model .most)) 0 ∙ found-none model [] refl
+      go (c ∷ r) true f = rw (f, sizes-in (model .lengths) b l (c ∷ r) f, and-true)
+      go (c ∷ r) false f = rw (f, and-false, and-false) (either (leb (model .fewest) 1 && leb 1 (model .most)) 0)
 
   -- where nothing is read, nothing is found
-  pub read-none : n ≡ partRead (model .lengths) 0 s → n ≡ 0 → 0 ≡ partsFound model s
-  read-none e z = sym (either (leb (model .fewest) 1 && leb 1 (model .most)) 0) ∙ (rw z at (found-read e))
+  pub read-none : n ≡ 0 → 0 ≡ partsFound model s
+  read-none z = sym (either (leb (model .fewest) 1 && leb 1 (model .most)) 0) ∙ (rw z at found-read)
 
+-- of a text of some bytes
+module _ (model : Model) (b : Bytes (model .lengths)) (l : length (model .lengths) ≤ 8) (s : List ℕ) (h : length s ≡ 0 → ⊥) (n : ℕ) where
   -- the sizes tell where its hyphens stand
   pub found-between : n ≡ partsFound model s → (n ≡ 0 → ⊥) → hyphensBetween n ≡ hyphensOf s
   unfolding partsOf
