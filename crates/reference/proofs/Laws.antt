@@ -1083,7 +1083,7 @@ sizes-extent (p ∷ (q ∷ (r ∷ (t ∷ [])))) h g f =
 sizes-extent (p ∷ (q ∷ (r ∷ (t ∷ (u ∷ ps))))) h g f = absurd (omega arith)
 
 -- parts are found in a text of some bytes
-pub found-some : (model : Model) (s : List ℕ) (n : ℕ) → n ≡ partsFound model s → (n ≡ 0 → ⊥) → length s ≡ 0 → ⊥
+found-some : (model : Model) (s : List ℕ) (n : ℕ) → n ≡ partsFound model s → (n ≡ 0 → ⊥) → length s ≡ 0 → ⊥
 found-some model s n e g z = g (e ∙ sym (found-none model s z))
 
 -- and their sizes tell how long it is
@@ -1180,7 +1180,7 @@ module _ (model : Model) (s : List ℕ) (n : ℕ) (e : n ≡ partsFound model (b
         go false f = sym (part-unformed (λ z. false≢true (sym f ∙ eq-eqb m (length s) z)))
 
     -- with blanks alone behind them, they are the text without the blanks at its end
-    pub extent-trimmed : allOf Blanks (drop m s) ≡ true → trimmed s ≡ beforeBlank s
+    extent-trimmed : allOf Blanks (drop m s) ≡ true → trimmed s ≡ beforeBlank s
     extent-trimmed f = trimmed-before s (rw extent-before at f)
 
     -- with another byte behind them, that is not formed, and not accepted
