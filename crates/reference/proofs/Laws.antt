@@ -14,12 +14,13 @@ use lib.Seq.{drop-cons, drop-length, drop-nil, take-nil}
 use mir.Syntax.{w8}
 use mir.Val.{Fits}
 use borrow.Author.Tests.{eq-eqb, ne-eqb, eqb-true, lt-ltb, le-ltb, lt-leb, le-leb, leb-true, ltb-true}
-use Rattle.text.specs.Bytes.{isDigit, allOf, later, firstBad}
+use Rattle.text.specs.Bytes.{isDigit, allOf, later, firstBad, trimmed, beforeBlank}
 use Rattle.text.specs.Digits.{digitsOf}
-use Rattle.text.specs.declared.Class.the-variants.{Digits, Reference}
+use Rattle.text.specs.declared.Class.the-variants.{Digits, Reference, Blanks}
 use Rattle.text.specs.declared.Found.{Found}
 use Rattle.text.specs.declared.Found.the-variants.{At, Nothing}
-use Rattle.text.proofs.Laws.{to-the-end, taken, left, entered, both-true, digit-bounds, shifted, shifted-zero, shifted-later}
+use Rattle.text.proofs.Laws.{to-the-end, taken, left, entered, both-true, digit-bounds, shifted, shifted-zero, shifted-later, isNothing, all-of-nothing}
+use Rattle.text.proofs.Blanks.{before-taken, before-shorter, before-whole, before-permitted, trimmed-blanks, trimmed-some, trimmed-before, trimmed-permitted}
 use Rattle.check_digits.specs.declared.Rule.{Rule}
 use Rattle.check_digits.specs.CheckDigit.{checkDigit, passes}
 use Rattle.check_digits.proofs.Theorems.{passes-snoc}
@@ -32,7 +33,7 @@ use Rattle.refusal.specs.declared.Refusal.the-variants.{Model as Unhandled, Par
 use Rattle.text.specs.Split.{longer, split}
 use Rattle.reference.specs.declared.Hyphens.{Hyphens}
 use Rattle.reference.specs.Parts.{partsOf, partsFit, formed, joined, present, groupRight, groupsRight}
-use Rattle.reference.specs.Readers.{fitsNext, begun, digitRead, partRead, Roomy, sizesFrom, partsFound, partsIn, hyphensBetween}
+use Rattle.reference.specs.Readers.{fitsNext, begun, digitRead, partRead, Roomy, sizesFrom, partsFound, partsIn, extentOf, hyphensBetween}
 use Rattle.reference.specs.Answers.{groupsAnswer, obeyAnswer, unformedAnswer, textAnswer, modelAnswer}
 use Rattle.reference.specs.Groups.{afterHyphens, hyphensIn, foundAt, hyphensOf, stretchHolds, before, headHolds, heldFrom, groupHolds, groupsHold}
 
@@ -43,35 +44,44 @@ use Rattle.reference.specs.Groups.{afterHyphens, hyphensIn, foundAt, hyp
 pub fits-lengths : (lengths : List ℕ) (n : ℕ) → fitsNext lengths n ≡ true → 1 < length lengths
 fits-lengths lengths n e = ltb-true 1 (length lengths) (both-true _ _ e .0)
 
--- after n digits of a part
+-- after n digits of a part, the text read up to its first blank
 module _ (lengths : List ℕ) (n sizes : ℕ) (s : List ℕ) where
   -- the text is at its end
-  module _ (h : length s ≤ n) where
-    pub last-fits : fitsNext lengths n ≡ true → sizes * 256 + n ≡ digitRead lengths n sizes (drop n s)
-    unfolding digitRead
-    last-fits e = rw (drop-of-length-le s h) (taken _ _ _ e)
-
-    pub last-breaks : fitsNext lengths n ≡ false → 0 ≡ digitRead lengths n sizes (drop n s)
-    unfolding digitRead
-    last-breaks e = rw (drop-of-length-le s h) (left _ _ _ _ e refl)
+  pub last-reads : length s ≤ n → digitRead lengths n sizes [] ≡ digitRead lengths n sizes (beforeBlank (drop n s))
+  unfolding beforeBlank
+  last-reads h = rw (drop-of-length-le s h)
 
   -- a byte more
   module _ (h : n < length s) where
-    pub hyphen-fits : (r : ℕ) → getD s n 0 ≡ 45 → fitsNext lengths n ≡ true → r ≡ partRead (take (length lengths - 2) (drop 2 lengths)) (sizes * 256 + n) (take (length s - (n + 1)) (drop (n + 1) s)) → r ≡ digitRead lengths n sizes (drop n s)
-    unfolding digitRead
-    hyphen-fits r g e f = rw (drop-cons s n 0 h) (entered _ _ _ _ (eq-eqb (getD s n 0) 45 g) (entered _ _ _ _ e (rw (to-the-end 2 lengths, to-the-end (n + 1) s, add-one n) at f)))
+    -- a blank ends the text
+    pub blank-reads : getD s n 0 ≡ 32 → digitRead lengths n sizes [] ≡ digitRead lengths n sizes (beforeBlank (drop n s))
+    unfolding beforeBlank
+    blank-reads g = rw (drop-cons s n 0 h, eq-eqb (getD s n 0) 32 g)
 
-    pub hyphen-breaks : getD s n 0 ≡ 45 → fitsNext lengths n ≡ false → 0 ≡ digitRead lengths n sizes (drop n s)
-    unfolding digitRead
-    hyphen-breaks g e = rw (drop-cons s n 0 h) (entered _ _ _ _ (eq-eqb (getD s n 0) 45 g) (left _ _ _ _ e refl))
+    -- any other byte stands before the first blank
+    none-blank : (getD s n 0 ≡ 32 → ⊥) → beforeBlank (drop n s) ≡ getD s n 0 ∷ beforeBlank (drop (n + 1) s)
+    unfolding beforeBlank
+    none-blank g = rw (drop-cons s n 0 h, ne-eqb (getD s n 0) 32 g, add-one n)
 
-    pub digit-reads : isDigit (getD s n 0) ≡ true → digitRead lengths n sizes (drop n s) ≡ digitRead lengths (n + 1) sizes (drop (n + 1) s)
+    -- a hyphen after a part that fits hands over to the next part
+    pub hyphen-fits : (r : ℕ) → getD s n 0 ≡ 45 → fitsNext lengths n ≡ true → r ≡ partRead (take (length lengths - 2) (drop 2 lengths)) (sizes * 256 + n) (beforeBlank (take (length s - (n + 1)) (drop (n + 1) s))) → r ≡ digitRead lengths n sizes (beforeBlank (drop n s))
     unfolding digitRead
-    digit-reads e = let d = digit-bounds (getD s n 0) e in rw (drop-cons s n 0 h, ne-eqb (getD s n 0) 45 (λ (z : getD s n 0 ≡ 45). omega arith), e, add-one n)
+    hyphen-fits r g e f = rw (none-blank (λ (z : getD s n 0 ≡ 32). omega arith)) (entered _ _ _ _ (eq-eqb (getD s n 0) 45 g) (entered _ _ _ _ e (rw (to-the-end 2 lengths, to-the-end (n + 1) s) at f)))
 
-    pub other-breaks : (getD s n 0 ≡ 45 → ⊥) → isDigit (getD s n 0) ≡ false → 0 ≡ digitRead lengths n sizes (drop n s)
+    -- a hyphen after one that does not fit breaks off
+    pub hyphen-breaks : getD s n 0 ≡ 45 → fitsNext lengths n ≡ false → 0 ≡ digitRead lengths n sizes (beforeBlank (drop n s))
     unfolding digitRead
-    other-breaks g e = rw (drop-cons s n 0 h) (left _ _ _ _ (ne-eqb (getD s n 0) 45 g) (left _ _ _ _ e refl))
+    hyphen-breaks g e = rw (none-blank (λ (z : getD s n 0 ≡ 32). omega arith)) (entered _ _ _ _ (eq-eqb (getD s n 0) 45 g) (left _ _ _ _ e refl))
+
+    -- a digit is one more
+    pub digit-reads : isDigit (getD s n 0) ≡ true → digitRead lengths n sizes (beforeBlank (drop n s)) ≡ digitRead lengths (n + 1) sizes (beforeBlank (drop (n + 1) s))
+    unfolding digitRead
+    digit-reads e = let d = digit-bounds (getD s n 0) e in rw (none-blank (λ (z : getD s n 0 ≡ 32). omega arith), ne-eqb (getD s n 0) 45 (λ (z : getD s n 0 ≡ 45). omega arith), e)
+
+    -- a byte that is no blank, hyphen or digit breaks off
+    pub other-breaks : (getD s n 0 ≡ 32 → ⊥) → (getD s n 0 ≡ 45 → ⊥) → isDigit (getD s n 0) ≡ false → 0 ≡ digitRead lengths n sizes (beforeBlank (drop n s))
+    unfolding digitRead
+    other-breaks f g e = rw (none-blank f) (left _ _ _ _ (ne-eqb (getD s n 0) 45 g) (left _ _ _ _ e refl))
 
 -- each number is a byte's
 abbrev pub Bytes : List ℕ → Type 0
@@ -209,6 +219,7 @@ either : (t : Bool) (n : ℕ) → cond t n n ≡ n
 either true n = refl
 either false n = refl
 
+-- no byte is no size
 pub found-none : (model : Model) (s : List ℕ) → length s ≡ 0 → 0 ≡ partsFound model s
 unfolding partsOf sizesFrom
 found-none model [] h = sym (either (formed model []) 0)
@@ -862,20 +873,23 @@ module _ (lengths : List ℕ) (h : Bytes lengths) (l : length lengths ≤ 8) (s 
   sizes-between = fit-tell .1 ∙ hyphens-among s
 
 -- what is read of a text, where it is as many as the model asks, is the sizes of its parts
-module _ (model : Model) (b : Bytes (model .lengths)) (l : length (model .lengths) ≤ 8) (s : List ℕ) (h : length s ≡ 0 → ⊥) (n : ℕ) where
-  pub found-read : n ≡ partRead (model .lengths) 0 s → cond (leb (model .fewest) (partsIn n) && leb (partsIn n) (model .most)) n 0 ≡ partsFound model s
-  unfolding formed partsOf
-  found-read e = rw (e, read-part (model .lengths) s) (go s h (partsFit (model .lengths) (split 45 s)) refl)
+module _ (model : Model) (b : Bytes (model .lengths)) (l : length (model .lengths) ≤ 8) (s : List ℕ) (n : ℕ) (e : n ≡ partRead (model .lengths) 0 s) where
+  pub found-read : cond (leb (model .fewest) (partsIn n) && leb (partsIn n) (model .most)) n 0 ≡ partsFound model s
+  unfolding formed partsOf split sizesFrom
+  found-read = rw (e, read-part (model .lengths) s) (go s (partsFit (model .lengths) (split 45 s)) refl)
     where
-      go : (r : List ℕ) → (length r ≡ 0 → ⊥) → (t : Bool) → partsFit (model .lengths) (split 45 r) ≡ t → cond (leb (model .fewest) (partsIn (cond t (sizesFrom 0 (split 45 r)) 0)) && leb (partsIn (cond t (sizesFrom 0 (split 45 r)) 0)) (model .most)) (cond t (sizesFrom 0 (split 45 r)) 0) 0 ≡ partsFound model r
-      go [] g t f = absurd (g refl)
-      go (c ∷ r) g true f = rw (f, sizes-in (model .lengths) b l (c ∷ r) f, and-true)
-      go (c ∷ r) g false f = rw (f, and-false, and-false) (either (leb (model .fewest) 1 && leb 1 (model .most)) 0)
+      go : (r : List ℕ) (t : Bool) → partsFit (model .lengths) (split 45 r) ≡ t → cond (leb (model .fewest) (partsIn (cond t (sizesFrom 0 (split 45 r)) 0)) && leb (partsIn (cond t (sizesFrom 0 (split 45 r)) 0)) (model .most)) (cond t (sizesFrom 0 (split 45 r)) 0) 0 ≡ partsFound model r
+      go [] true f = either (leb (model .fewest) 1 && leb 1 (model .most)) 0 ∙ found-none model [] refl
+      go [] false f = either (leb (model .fewest) 1 && leb 1 (model .most)) 0 ∙ found-none model [] refl
+      go (c ∷ r) true f = rw (f, sizes-in (model .lengths) b l (c ∷ r) f, and-true)
+      go (c ∷ r) false f = rw (f, and-false, and-false) (either (leb (model .fewest) 1 && leb 1 (model .most)) 0)
 
   -- where nothing is read, nothing is found
-  pub read-none : n ≡ partRead (model .lengths) 0 s → n ≡ 0 → 0 ≡ partsFound model s
-  read-none e z = sym (either (leb (model .fewest) 1 && leb 1 (model .most)) 0) ∙ (rw z at (found-read e))
+  pub read-none : n ≡ 0 → 0 ≡ partsFound model s
+  read-none z = sym (either (leb (model .fewest) 1 && leb 1 (model .most)) 0) ∙ (rw z at found-read)
 
+-- of a text of some bytes
+module _ (model : Model) (b : Bytes (model .lengths)) (l : length (model .lengths) ≤ 8) (s : List ℕ) (h : length s ≡ 0 → ⊥) (n : ℕ) where
   -- the sizes tell where its hyphens stand
   pub found-between : n ≡ partsFound model s → (n ≡ 0 → ⊥) → hyphensBetween n ≡ hyphensOf s
   unfolding partsOf
@@ -998,3 +1012,198 @@ module _ (model : Model) (s : List ℕ) where
   -- formed and of 22 bytes at most, it is where its groups hold
   pub formed-accepted : formed model s ≡ true → length s ≤ 22 → groupsHold (model .groups) s ≡ isAccepted (textAnswer model s (firstBad Reference s))
   formed-accepted e h = accepted-by (groupsHold (model .groups) s) (Digit none) ∙ ap isAccepted (short-text model s e h)
+
+-- ---------------------------------------------------------------------------
+-- A text before its first blank
+
+-- the lengths of parts, and one more for each
+unfoldable spanOf : List (List ℕ) → ℕ
+spanOf [] = 0
+spanOf (p ∷ ps) = suc (length p) + spanOf ps
+
+-- are those of the text and one
+parts-span : (s : List ℕ) → spanOf (split 45 s) ≡ suc (length s)
+unfolding split spanOf
+parts-span [] = refl
+parts-span (b ∷ s) = go (eqb b 45) (first-part s) (parts-span s)
+  where
+    go : (h : Bool) → (p : List ℕ) × (ps : List (List ℕ)) × (split 45 s ≡ p ∷ ps) → spanOf (split 45 s) ≡ suc (length s) → spanOf (cond h ([] ∷ split 45 s) (longer b (split 45 s))) ≡ suc (suc (length s))
+    go true w e = omega arith
+    go false w e = ap (λ (ps : List (List ℕ)). spanOf (longer b ps)) (w .2) ∙ longest (w .0) (w .1) ∙ ap suc (sym (ap spanOf (w .2)) ∙ e)
+      where
+        longest : (p : List ℕ) (ps : List (List ℕ)) → spanOf ((b ∷ p) ∷ ps) ≡ suc (spanOf (p ∷ ps))
+        longest p ps = omega arith
+
+-- a number of base 256 tells how many bytes its digits and the hyphens between them are
+one-extent : (a : ℕ) → a < 256 → (n : ℕ) → n ≡ a → extentOf n ≡ a
+one-extent a f n e = rw (e, lt-ltb a 256 f)
+
+module _ (a b : ℕ) (f : 0 < a) (g : a < 256) (h : b < 256) (n : ℕ) where
+  two-extent : n ≡ a * 256 + b → extentOf n ≡ a + 1 + b
+  two-extent e =
+      let t = le-ltb n 256 (omega arith) in
+      let u = lt-ltb n 65536 (omega arith) in
+      let q : n / 256 ≡ a = omega arith in
+      let r : n % 256 ≡ b = omega arith in
+      rw (t, u, q, r)
+
+  three-extent : (c : ℕ) → c < 256 → n ≡ (a * 256 + b) * 256 + c → extentOf n ≡ a + 1 + b + 1 + c
+  three-extent c j e =
+      let t = le-ltb n 256 (omega arith) in
+      let u = le-ltb n 65536 (omega arith) in
+      let v = lt-ltb n 16777216 (omega arith) in
+      let q : n / 65536 ≡ a = omega arith in
+      let r : n / 256 % 256 ≡ b = omega arith in
+      let w : n % 256 ≡ c = omega arith in
+      rw (t, u, v, q, r, w)
+
+  four-extent : (c d : ℕ) → c < 256 → d < 256 → n ≡ ((a * 256 + b) * 256 + c) * 256 + d → extentOf n ≡ a + 1 + b + 1 + c + 1 + d
+  four-extent c d j l e =
+      let t = le-ltb n 256 (omega arith) in
+      let u = le-ltb n 65536 (omega arith) in
+      let v = le-ltb n 16777216 (omega arith) in
+      let q : n / 16777216 ≡ a = omega arith in
+      let r : n / 65536 % 256 ≡ b = omega arith in
+      let w : n / 256 % 256 ≡ c = omega arith in
+      let x : n % 256 ≡ d = omega arith in
+      rw (t, u, v, q, r, w, x)
+
+-- so the sizes of one to four parts do
+sizes-extent : (ps : List (List ℕ)) → Sized ps → 0 < length ps → length ps ≤ 4 → suc (extentOf (sizesFrom 0 ps)) ≡ spanOf ps
+unfolding sizesFrom spanOf
+sizes-extent [] h g f = absurd (omega arith)
+sizes-extent (p ∷ []) h g f =
+    omega (arith, one-extent (length p) (h .1) (0 * 256 + length p) (omega arith))
+sizes-extent (p ∷ (q ∷ [])) h g f =
+    omega (arith, two-extent (length p) (length q) (h .0) (h .1) (h .2 .1) ((0 * 256 + length p) * 256 + length q) (omega arith))
+sizes-extent (p ∷ (q ∷ (r ∷ []))) h g f =
+    omega (arith, three-extent (length p) (length q) (h .0) (h .1) (h .2 .1) (((0 * 256 + length p) * 256 + length q) * 256 + length r) (length r) (h .2 .2 .1) (omega arith))
+sizes-extent (p ∷ (q ∷ (r ∷ (t ∷ [])))) h g f =
+    omega (arith, four-extent (length p) (length q) (h .0) (h .1) (h .2 .1) ((((0 * 256 + length p) * 256 + length q) * 256 + length r) * 256 + length t) (length r) (length t) (h .2 .2 .1) (h .2 .2 .2 .1) (omega arith))
+sizes-extent (p ∷ (q ∷ (r ∷ (t ∷ (u ∷ ps))))) h g f = absurd (omega arith)
+
+-- parts are found in a text of some bytes
+found-some : (model : Model) (s : List ℕ) (n : ℕ) → n ≡ partsFound model s → (n ≡ 0 → ⊥) → length s ≡ 0 → ⊥
+found-some model s n e g z = g (e ∙ sym (found-none model s z))
+
+-- and their sizes tell how long it is
+pub found-extent : (model : Model) → Bytes (model .lengths) → length (model .lengths) ≤ 8 → (s : List ℕ) (n : ℕ) → n ≡ partsFound model s → (n ≡ 0 → ⊥) → extentOf n ≡ length s
+unfolding partsOf
+found-extent model b l s n e g = rw (e, f) (go s h (formed-fit model s f))
+  where
+    h : length s ≡ 0 → ⊥
+    h = found-some model s n e g
+
+    f : formed model s ≡ true
+    f = some-formed model s h n e g
+
+    go : (r : List ℕ) → (length r ≡ 0 → ⊥) → partsFit (model .lengths) (partsOf r) ≡ true → extentOf (sizesFrom 0 (partsOf r)) ≡ length r
+    go [] i j = absurd (i refl)
+    go (c ∷ r) i j =
+        let ps = split 45 (c ∷ r) in
+        omega (
+          arith,
+          sizes-extent ps (fit-sized (model .lengths) ps b j) (rw (first-part (c ∷ r) .2) (omega arith)) (omega (arith, fit-few (model .lengths) ps j)),
+          parts-span (c ∷ r),
+        )
+
+-- a formed text has no byte that a reference may not have
+formed-permitted : (model : Model) (s : List ℕ) → formed model s ≡ true → allOf Reference s ≡ true
+unfolding isNothing
+formed-permitted model s e = sym (all-of-nothing Reference s) ∙ ap isNothing (formed-bytes model s e)
+
+-- so it goes on to its end without a blank
+formed-before : (model : Model) (s : List ℕ) → formed model s ≡ true → beforeBlank s ≡ s
+formed-before model s e = before-permitted Reference refl s (formed-permitted model s e)
+
+-- and blanks alone stand behind what is formed without those at its end
+formed-trimmed : (model : Model) (s : List ℕ) → formed model (trimmed s) ≡ true → allOf Blanks (drop (length (beforeBlank s)) s) ≡ true
+formed-trimmed model s e = trimmed-permitted Reference refl s (formed-permitted model (trimmed s) e)
+
+-- what would make a test false where it held
+refuted : (t : Bool) → (t ≡ true → t ≡ false) → t ≡ false
+refuted true f = f refl
+refuted false f = refl
+
+-- parts were looked for in a text before its first blank
+module _ (model : Model) (s : List ℕ) (n : ℕ) (e : n ≡ partsFound model (beforeBlank s)) where
+  -- none was found: the text is not formed
+  pub none-before : (length s ≡ 0 → ⊥) → n ≡ 0 → formed model s ≡ false
+  none-before h z = refuted (formed model s) (λ f. none-unformed model s h n (e ∙ ap (partsFound model) (formed-before model s f)) z)
+
+  -- nor is it without the blanks at its end, but for a text of blanks alone
+  none-trimmed : allOf Blanks s ≡ false → n ≡ 0 → formed model (trimmed s) ≡ false
+  none-trimmed h z =
+      refuted (formed model (trimmed s))
+      (λ f. none-unformed model (trimmed s) (trimmed-some s h) n (e ∙ ap (partsFound model) (sym (trimmed-before s (formed-trimmed model s f)))) z)
+
+  -- so that is accepted of blanks alone, where the model asks no part
+  pub none-accepted : n ≡ 0 → (eqb (model .fewest) 0 && allOf Blanks s) ≡ isAccepted (textAnswer model (trimmed s) (firstBad Reference (trimmed s)))
+  none-accepted z = go (allOf Blanks s) refl
+    where
+      go : (t : Bool) → allOf Blanks s ≡ t → (eqb (model .fewest) 0 && t) ≡ isAccepted (textAnswer model (trimmed s) (firstBad Reference (trimmed s)))
+      go true f = rw (and-true, trimmed-blanks s f) (empty-accepted model [] refl)
+      go false f = rw and-false (unformed-refused model (trimmed s) (none-trimmed f z) (firstBad Reference (trimmed s)))
+
+  -- some were found
+  module _ (b : Bytes (model .lengths)) (l : length (model .lengths) ≤ 8) (g : n ≡ 0 → ⊥) (m : ℕ) (d : m ≡ extentOf n) where
+    -- their sizes tell how many bytes stand before the first blank
+    extent-before : m ≡ length (beforeBlank s)
+    extent-before = d ∙ found-extent model b l (beforeBlank s) n e g
+
+    -- no more than the text has
+    pub extent-within : m ≤ length s
+    extent-within = omega (arith, extent-before, before-shorter s)
+
+    -- those are the text's beginning, lent from place 0 on
+    extent-taken : take (m - 0) s ≡ beforeBlank s
+    extent-taken = let z : m - 0 ≡ length (beforeBlank s) = omega (arith, extent-before) in rw z (sym (before-taken s))
+
+    -- as many as the text has: the parts are its own
+    pub whole-found : m ≡ length s → n ≡ partsFound model s
+    whole-found h = e ∙ ap (partsFound model) (before-whole s (sym extent-before ∙ h))
+
+    -- and it is formed, of some bytes
+    pub whole-formed : (length s ≡ 0 → ⊥) → m ≡ length s → formed model s ≡ true
+    whole-formed i h = some-formed model s i n (whole-found h) g
+
+    -- not as many: it is not
+    pub part-unformed : (m ≡ length s → ⊥) → formed model s ≡ false
+    part-unformed h = refuted (formed model s) (λ f. absurd (h (extent-before ∙ ap length (formed-before model s f))))
+
+    -- so the one tells the other
+    pub extent-formed : (length s ≡ 0 → ⊥) → eqb m (length s) ≡ formed model s
+    extent-formed i = go (eqb m (length s)) refl
+      where
+        go : (t : Bool) → eqb m (length s) ≡ t → t ≡ formed model s
+        go true f = sym (whole-formed i (eqb-true m (length s) f))
+        go false f = sym (part-unformed (λ z. false≢true (sym f ∙ eq-eqb m (length s) z)))
+
+    -- with blanks alone behind them, they are the text without the blanks at its end
+    extent-trimmed : allOf Blanks (drop m s) ≡ true → trimmed s ≡ beforeBlank s
+    extent-trimmed f = trimmed-before s (rw extent-before at f)
+
+    -- with another byte behind them, that is not formed, and not accepted
+    pub behind-refused : allOf Blanks (drop m s) ≡ false → false ≡ isAccepted (textAnswer model (trimmed s) (firstBad Reference (trimmed s)))
+    behind-refused f =
+        unformed-refused model (trimmed s)
+        (refuted (formed model (trimmed s)) (λ i. absurd (false≢true (sym (rw extent-before at f) ∙ formed-trimmed model s i))))
+        (firstBad Reference (trimmed s))
+
+    -- nor is it where they are over 22
+    pub extent-refused : 22 < m → false ≡ isAccepted (textAnswer model (trimmed s) (firstBad Reference (trimmed s)))
+    extent-refused h = go (allOf Blanks (drop m s)) refl
+      where
+        go : (t : Bool) → allOf Blanks (drop m s) ≡ t → false ≡ isAccepted (textAnswer model (trimmed s) (firstBad Reference (trimmed s)))
+        go true f = long-refused model (trimmed s) (rw (extent-trimmed f) (omega (arith, extent-before))) (firstBad Reference (trimmed s))
+        go false f = behind-refused f
+
+    -- of 22 at most, and blanks alone behind them, it is where its groups hold
+    pub extent-accepted : m ≤ 22 → allOf Blanks (drop m s) ≡ true → groupsHold (model .groups) (take (m - 0) s) ≡ isAccepted (textAnswer model (trimmed s) (firstBad Reference (trimmed s)))
+    extent-accepted h f =
+        rw (extent-taken, extent-trimmed f)
+        (formed-accepted model (beforeBlank s) (some-formed model (beforeBlank s) (found-some model (beforeBlank s) n e g) n e g) (omega (arith, extent-before)))
+
+    -- where their hyphens stand
+    pub extent-between : hyphensBetween n ≡ hyphensOf (take (m - 0) s)
+    extent-between = rw extent-taken (found-between model b l (beforeBlank s) (found-some model (beforeBlank s) n e g) n e g)

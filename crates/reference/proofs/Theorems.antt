@@ -11,6 +11,7 @@ use Rattle.refusal.specs.Refusal.{none, isAccepted}
 use Rattle.refusal.specs.declared.Answer.{Answer}
 use Rattle.refusal.specs.declared.Answer.the-variants.{Accepted, Refused}
 use Rattle.refusal.specs.declared.Refusal.the-variants.{Parts, Digit}
+use Rattle.text.specs.Bytes.{trimmed}
 use Rattle.text.proofs.Laws.{both-true, and-second}
 use Rattle.check_digits.specs.CheckDigit.{passes}
 use Rattle.models.specs.declared.Group.{Group}
@@ -73,8 +74,8 @@ reference-only m s = defined-only (referenceAnswer m s)
 pub numbered-only : (n : ℕ) (s : List ℕ) → Only (λ (r : Answer). r ≡ modelAnswer s (modelOf n))
 numbered-only n s = defined-only (modelAnswer s (modelOf n))
 
-pub is-right-only : (n : ℕ) (s : List ℕ) → Only (λ (r : Bool). r ≡ isAccepted (modelAnswer s (modelOf n)))
-is-right-only n s = defined-only (isAccepted (modelAnswer s (modelOf n)))
+pub is-right-only : (n : ℕ) (s : List ℕ) → Only (λ (r : Bool). r ≡ isAccepted (modelAnswer (trimmed s) (modelOf n)))
+is-right-only n s = defined-only (isAccepted (modelAnswer (trimmed s) (modelOf n)))
 
 pub is-formed-only : (model : Model) (s : List ℕ) → Only (λ (r : Bool). r ≡ formed model s)
 is-formed-only model s = defined-only (formed model s)

@@ -53,6 +53,17 @@ partsFound model s = cond (formed model s) (sizesFrom 0 (partsOf s)) 0
 abbrev pub partsIn : ℕ → ℕ
 partsIn sizes = cond (ltb sizes 256) 1 (cond (ltb sizes 65536) 2 (cond (ltb sizes 16777216) 3 4))
 
+-- how many bytes they have, with the hyphens between them
+abbrev pub extentOf : ℕ → ℕ
+extentOf sizes =
+    cond (ltb sizes 256)
+    sizes
+    (cond (ltb sizes 65536)
+    (sizes / 256 + 1 + sizes % 256)
+    (cond (ltb sizes 16777216)
+    (sizes / 65536 + 1 + sizes / 256 % 256 + 1 + sizes % 256)
+    (sizes / 16777216 + 1 + sizes / 65536 % 256 + 1 + sizes / 256 % 256 + 1 + sizes % 256)))
+
 -- where hyphens stand between them
 abbrev pub hyphensBetween : ℕ → Hyphens
 hyphensBetween sizes =

@@ -4,14 +4,15 @@
 // call each other, as 01 asks; what a listing asks again and again, the check groups, is loops.
 ghost use mathlib.Core.Path.{_≡_};
 ghost use mathlib.Core.Bool.{_&&_};
+ghost use mathlib.Core.List.{[]};
 ghost use lib.Dec.{leb};
 ghost use Rattle.reference.specs.Parts.{formed};
 ghost use Rattle.reference.specs.Groups.{afterHyphens, hyphensIn, foundAt, hyphensOf, stretchHolds, groupHolds, groupsHold};
-ghost use Rattle.reference.specs.Readers.{fitsNext, Roomy, partRead, digitRead, partsIn, partsFound, hyphensBetween};
+ghost use Rattle.reference.specs.Readers.{fitsNext, Roomy, partRead, digitRead, partsIn, extentOf, partsFound, hyphensBetween};
 ghost use Rattle.reference.specs.Answers.{groupsAnswer, unformedAnswer, textAnswer, modelAnswer, referenceAnswer};
 ghost use Rattle.models.specs.Models.{modelOf};
 ghost use Rattle.refusal.specs.Refusal.{isAccepted};
-ghost use Rattle.text.specs.Bytes.{firstBad};
+ghost use Rattle.text.specs.Bytes.{firstBad, beforeBlank, trimmed};
 use check_digits::Rule;
 use models::Group;
 use models::Model;
@@ -64,11 +65,23 @@ fn fits(lengths: &[u8], n: usize) -> bool
     n <= wide(lengths[1])
 }
 
+// The sizes with that of the last part, where it fits; else 0.
+fn ended(lengths: &[u8], n: usize, sizes: usize) -> usize
+    requires { ⌜ Roomy (now lengths) sizes ⌝ }
+    ensures { λ r. ⌜ r ≡ digitRead (now (lengths .entry)) n sizes [] ⌝ }
+{
+    if fits(lengths, n) {
+        return sizes * 256 + n;
+    }
+    0
+}
+
 // Reads a part, the first of what is left: its digits, where the model has lengths for it. Answers the sizes of the parts, with
 // those read before, each a digit of base 256, or 0 where one does not fit: a number, since an enum would be handed up through memory.
+// A blank ends the text: what stands behind it is the caller's to judge.
 fn part(s: &[u8], lengths: &[u8], sizes: usize) -> usize
     requires { ⌜ Roomy (now lengths) sizes ⌝ }
-    ensures { λ r. ⌜ r ≡ partRead (now (lengths .entry)) sizes (now (s .entry)) ⌝ }
+    ensures { λ r. ⌜ r ≡ partRead (now (lengths .entry)) sizes (beforeBlank (now (s .entry))) ⌝ }
 {
     if lengths.len() < 2 {
         return 0;
@@ -79,7 +92,7 @@ fn part(s: &[u8], lengths: &[u8], sizes: usize) -> usize
 // Reads the digits of a part, one after the other; a hyphen hands over to the reading of the next part.
 fn digit(s: &[u8], lengths: &[u8], sizes: usize) -> usize
     requires { ⌜ Roomy (now lengths) sizes ⌝ }
-    ensures { λ r. ⌜ r ≡ digitRead (now (lengths .entry)) 0 sizes (now (s .entry)) ⌝ }
+    ensures { λ r. ⌜ r ≡ digitRead (now (lengths .entry)) 0 sizes (beforeBlank (now (s .entry))) ⌝ }
 {
     let mut n = 0;
     while n < s.len() {
@@ -87,6 +100,9 @@ fn digit(s: &[u8], lengths: &[u8], sizes: usize) -> usize
         if text::is_digit(b) {
             n += 1;
         } else {
+            if b == 32 {
+                return ended(lengths, n, sizes);
+            }
             if b != 45 {
                 return 0;
             }
@@ -96,10 +112,7 @@ fn digit(s: &[u8], lengths: &[u8], sizes: usize) -> usize
             return 0;
         }
     }
-    if fits(lengths, n) {
-        return sizes * 256 + n;
-    }
-    0
+    ended(lengths, n, sizes)
 }
 
 // How many parts there are, by their sizes.
@@ -118,15 +131,28 @@ fn parts_in(sizes: usize) -> usize
     4
 }
 
-// The sizes of a text's parts, where they are those that the model asks, each of its length; else 0.
+// How many bytes parts of such sizes have, with the hyphens between them.
+fn extent(sizes: usize) -> usize
+    ensures { λ r. ⌜ r ≡ extentOf sizes ⌝ }
+{
+    if sizes < 256 {
+        return sizes;
+    }
+    if sizes < 65536 {
+        return sizes / 256 + 1 + sizes % 256;
+    }
+    if sizes < 16777216 {
+        return sizes / 65536 + 1 + sizes / 256 % 256 + 1 + sizes % 256;
+    }
+    sizes / 16777216 + 1 + sizes / 65536 % 256 + 1 + sizes / 256 % 256 + 1 + sizes % 256
+}
+
+// The sizes of the parts before a text's first blank, where they are those that the model asks, each of its length; else 0.
 fn parts(model: Model, s: &[u8]) -> usize
-    ensures { λ r. ⌜ r ≡ partsFound model (now (s .entry)) ⌝ }
+    ensures { λ r. ⌜ r ≡ partsFound model (beforeBlank (now (s .entry))) ⌝ }
 {
     let fewest = model.fewest;
     let most = model.most;
-    if s.len() == 0 {
-        return 0;
-    }
     let lengths = model.lengths;
     let sizes = part(s, &lengths, 0);
     if sizes == 0 {
@@ -164,7 +190,11 @@ pub fn is_formed(model: Model, s: &[u8]) -> bool
     if s.len() == 0 {
         return fewest == 0;
     }
-    parts(model, s) != 0
+    let sizes = parts(model, s);
+    if sizes == 0 {
+        return false;
+    }
+    extent(sizes) == s.len()
 }
 
 // Whether n lies between two numbers.
@@ -359,6 +389,9 @@ fn judged_text(model: Model, s: &[u8]) -> Answer
     if sizes == 0 {
         return unformed(s);
     }
+    if extent(sizes) != s.len() {
+        return unformed(s);
+    }
     if 22 < s.len() {
         return Answer::Refused(Refusal::Length(refusal::nowhere()));
     }
@@ -377,28 +410,34 @@ pub fn numbered(n: usize, s: &[u8]) -> Answer
     judged_text(m, s)
 }
 
-// Whether a text obeys a handled model: what `judged_text` accepts.
+// Whether a text, without the blanks at its end, obeys a handled model: what `judged_text` accepts. The blanks are what stands
+// behind its parts, so that no byte is looked at for where they begin.
 fn is_obeyed(model: Model, s: &[u8]) -> bool
-    ensures { λ r. ⌜ r ≡ isAccepted (textAnswer model (now (s .entry)) (firstBad Class.Reference (now (s .entry)))) ⌝ }
+    ensures { λ r. ⌜ r ≡ isAccepted (textAnswer model (trimmed (now (s .entry))) (firstBad Class.Reference (trimmed (now (s .entry))))) ⌝ }
 {
     let fewest = model.fewest;
-    if s.len() == 0 {
-        return fewest == 0;
-    }
-    if 22 < s.len() {
-        return false;
-    }
     let sizes = parts(model, s);
     if sizes == 0 {
+        if fewest == 0 {
+            return text::all_blank(s);
+        }
+        return false;
+    }
+    let end = extent(sizes);
+    if 22 < end {
+        return false;
+    }
+    if !text::all_blank(&s[end..]) {
         return false;
     }
     let groups = model.groups;
-    all_hold(groups, between(sizes), s)
+    all_hold(groups, between(sizes), &s[0..end])
 }
 
-// Whether a reference is right by its model's number: what `numbered` accepts, with no answer handed up through memory.
+// Whether a text without the blanks at its end is a right reference by its model's number: what `numbered` accepts, with no answer
+// handed up through memory.
 pub fn is_right(n: usize, s: &[u8]) -> bool
-    ensures { λ r. ⌜ r ≡ isAccepted (modelAnswer (now (s .entry)) (modelOf n)) ⌝ }
+    ensures { λ r. ⌜ r ≡ isAccepted (modelAnswer (trimmed (now (s .entry))) (modelOf n)) ⌝ }
 {
     let m = models::rules(n);
     if !m.handled {

@@ -380,7 +380,7 @@ pub fn is_reference(m: &[u8], f: &[u8]) -> bool
     ensures { λ r. ⌜ r ≡ isAccepted (referencePlaceAnswer (now (m .entry)) (now (f .entry))) ⌝ }
 {
     match models::number(m) {
-        Found::At(n) => reference::is_right(n, trim(f)),
+        Found::At(n) => reference::is_right(n, f),
         Found::Nothing => {
             if is_blank(m) {
                 return is_blank(f);

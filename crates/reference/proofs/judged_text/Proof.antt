@@ -1,5 +1,6 @@
--- `reference::judged_text` meets its contract: an empty text is the definition's choice on the fewest parts, what is formed has no byte
--- for 3 and its hyphens between its parts, and what is not formed fails by 3, 4 or 8. Assumes nothing.
+-- `reference::judged_text` meets its contract: an empty text is the definition's choice on the fewest parts, what is formed has its parts
+-- before its first blank and no byte behind them, none for 3, and its hyphens between its parts, and what is not formed fails by 3, 4 or 8.
+-- Assumes nothing.
 use mathlib.Core.Path.{_≡_, refl, _∙_}
 use Prim.Native.Nat.{_≤_}
 use native.Mathlib.Omega.{arith}
@@ -8,7 +9,7 @@ use borrow.Author.Tests.{lt-leb, eq-eqb, ne-eqb}
 use Rattle.text.specs.Bytes.{firstBad}
 use Rattle.text.specs.declared.Class.the-variants.{Reference}
 use Rattle.text.proofs.Laws.{taken, left}
-use Rattle.reference.proofs.Laws.{some-formed, none-unformed, Bytes, found-between, empty-text, unformed-text, formed-text, short-text}
+use Rattle.reference.proofs.Laws.{Bytes, none-before, part-unformed, whole-found, whole-formed, found-between, empty-text, unformed-text, formed-text, short-text}
 use borrow.Author.Needs.{needs}
 use Rattle.reference.proofs.judged_text.Statement.{statement}
 use Rattle.reference.proofs.judged_text.Tie as tie
@@ -46,36 +47,57 @@ returns-3 c =
     let p = c .before .before in
     let a = p .before .before .before .args in
     c .unformed .ensures
-    ∙ unformed-text (a .model) (a .s .now) (none-unformed (a .model) (a .s .now) (p .before .if1 .left) (p .parts .result) (p .parts .ensures) (c .before .if3 .taken)) (firstBad Reference (a .s .now))
+    ∙ unformed-text (a .model) (a .s .now) (none-before (a .model) (a .s .now) (p .parts .result) (p .parts .ensures) (p .before .if1 .left) (c .before .if3 .taken)) (firstBad Reference (a .s .now))
+
+extent-requires : tie.Need-extent-requires
+extent-requires c κs = search needs
+
+unformed-requires-2 : tie.Need-unformed-requires-2
+unformed-requires-2 c κs = search needs
+
+returns-4 : tie.Need-returns-4
+returns-4 c =
+    let x = c .before .before in
+    let p = x .before .before in
+    let z = p .before .before .before in
+    let a = z .args in
+    c .unformed2 .ensures
+    ∙ unformed-text (a .model) (a .s .now) (part-unformed (a .model) (a .s .now) (p .parts .result) (p .parts .ensures) (bytes z) (eight z) (x .before .if3 .left) (x .extent .result) (x .extent .ensures) (c .before .if4 .taken)) (firstBad Reference (a .s .now))
 
 nowhere-requires-2 : tie.Need-nowhere-requires-2
 nowhere-requires-2 c κs = search needs
 
-returns-4 : tie.Need-returns-4
-returns-4 c =
-    let p = c .before .before .before in
-    let a = p .before .before .before .args in
+returns-5 : tie.Need-returns-5
+returns-5 c =
+    let x = c .before .before .before in
+    let p = x .before .before in
+    let z = p .before .before .before in
+    let a = z .args in
     rw (c .nowhere2 .ensures)
-    (left _ _ _ _ (lt-leb _ _ (c .before .if4 .taken)) refl
-    ∙ formed-text (a .model) (a .s .now) (some-formed (a .model) (a .s .now) (p .before .if1 .left) (p .parts .result) (p .parts .ensures) (c .before .before .if3 .left)))
+    (left _ _ _ _ (lt-leb _ _ (c .before .if5 .taken)) refl
+    ∙ formed-text (a .model) (a .s .now) (whole-formed (a .model) (a .s .now) (p .parts .result) (p .parts .ensures) (bytes z) (eight z) (x .before .if3 .left) (x .extent .result) (x .extent .ensures) (p .before .if1 .left) (c .before .before .if4 .left)))
 
 between-requires : tie.Need-between-requires
 between-requires c κs = search needs
 
 checked-requires : tie.Need-checked-requires
 checked-requires c κs =
-    let p = c .before .before .before .before in
+    let x = c .before .before .before .before in
+    let p = x .before .before in
     let z = p .before .before .before in
     let a = z .args in
+    let e = whole-found (a .model) (a .s .now) (p .parts .result) (p .parts .ensures) (bytes z) (eight z) (x .before .if3 .left) (x .extent .result) (x .extent .ensures) (c .before .before .before .if4 .left) in
     c .between .ensures
-    ∙ found-between (a .model) (bytes z) (eight z) (a .s .now) (p .before .if1 .left) (p .parts .result) (p .parts .ensures) (c .before .before .before .if3 .left)
+    ∙ found-between (a .model) (bytes z) (eight z) (a .s .now) (p .before .if1 .left) (p .parts .result) e (x .before .if3 .left)
 
-returns-5 : tie.Need-returns-5
-returns-5 c =
-    let p = c .before .before .before .before .before in
-    let a = p .before .before .before .args in
-    let e = some-formed (a .model) (a .s .now) (p .before .if1 .left) (p .parts .result) (p .parts .ensures) (c .before .before .before .before .if3 .left) in
-    c .checked .ensures ∙ short-text (a .model) (a .s .now) e (c .before .before .before .if4 .left)
+returns-6 : tie.Need-returns-6
+returns-6 c =
+    let x = c .before .before .before .before .before in
+    let p = x .before .before in
+    let z = p .before .before .before in
+    let a = z .args in
+    let e = whole-formed (a .model) (a .s .now) (p .parts .result) (p .parts .ensures) (bytes z) (eight z) (x .before .if3 .left) (x .extent .result) (x .extent .ensures) (p .before .if1 .left) (c .before .before .before .before .if4 .left) in
+    c .checked .ensures ∙ short-text (a .model) (a .s .now) e (c .before .before .before .if5 .left)
 
 pub judged-text-spec : {M : Type 1} → statement M
 judged-text-spec =
@@ -87,8 +109,11 @@ judged-text-spec =
     parts-requires
     unformed-requires
     returns-3
-    nowhere-requires-2
+    extent-requires
+    unformed-requires-2
     returns-4
+    nowhere-requires-2
+    returns-5
     between-requires
     checked-requires
-    returns-5)
+    returns-6)

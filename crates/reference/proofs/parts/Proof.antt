@@ -1,12 +1,13 @@
--- `reference::parts` meets its contract: what the readers read is the sizes of the parts, where they are as many as the model asks.
--- Assumes nothing.
+-- `reference::parts` meets its contract: what the readers read before the first blank is the sizes of the parts, where they are as many
+-- as the model asks. Assumes nothing.
 use mathlib.Core.Path.{_≡_, refl, sym, _∙_}
 use native.Mathlib.Omega.{arith}
 use lib.ListN.{length}
 use Prim.Native.Nat.{_≤_}
 use borrow.Author.Needs.{needs}
+use Rattle.text.specs.Bytes.{beforeBlank}
 use Rattle.text.proofs.Laws.{taken, left}
-use Rattle.reference.proofs.Laws.{Bytes, found-none, found-read, read-none}
+use Rattle.reference.proofs.Laws.{Bytes, found-read, read-none}
 use Rattle.reference.proofs.parts.Statement.{statement}
 use Rattle.reference.proofs.parts.Tie as tie
 
@@ -18,23 +19,20 @@ bytes c i = search needs
 eight : (c : tie.Start) → length (c .args .model .lengths) ≤ 8
 eight c = let e : length (c .args .model .lengths) ≡ 8 = search needs in omega arith
 
-returns : tie.Need-returns
-returns c = found-none (c .before .before .args .model) (c .before .before .args .s .now) (c .if1 .taken)
-
 slice-aggregate-part : tie.Need-slice-aggregate-part
 slice-aggregate-part c = search needs
 
 part-requires : tie.Need-part-requires
 part-requires c κs =
-    let l = eight (c .before .before .before .before) in
+    let l = eight (c .before .before .before) in
     (l, ((λ h. refl), ((λ h. omega arith), ((λ h. omega arith), λ h. omega arith))))
 
-returns-2 : tie.Need-returns-2
-returns-2 c =
+returns : tie.Need-returns
+returns c =
     let p = c .before in
-    let z = p .before .before .before .before .before in
+    let z = p .before .before .before .before in
     let a = z .args in
-    read-none (a .model) (bytes z) (eight z) (a .s .now) (p .before .before .before .if1 .left) (p .part .result) (p .part .ensures) (c .if2 .taken)
+    read-none (a .model) (bytes z) (eight z) (beforeBlank (a .s .now)) (p .part .result) (p .part .ensures) (c .if1 .taken)
 
 parts-in-requires : tie.Need-parts-in-requires
 parts-in-requires c κs = search needs
@@ -48,35 +46,34 @@ wide-requires-2 c κs = search needs
 within-requires : tie.Need-within-requires
 within-requires c κs = search needs
 
+returns-2 : tie.Need-returns-2
+returns-2 c =
+    let q = c .before .before .before .before in
+    let p = q .before .before in
+    let z = p .before .before .before .before in
+    let a = z .args in
+    taken _ _ _ (sym (rw (q .parts-in .ensures, c .before .before .before .wide .ensures, c .before .before .wide2 .ensures) at (c .before .within .ensures)) ∙ c .if2 .taken)
+    ∙ found-read (a .model) (bytes z) (eight z) (beforeBlank (a .s .now)) (p .part .result) (p .part .ensures)
+
 returns-3 : tie.Need-returns-3
 returns-3 c =
     let q = c .before .before .before .before in
     let p = q .before .before in
-    let z = p .before .before .before .before .before in
+    let z = p .before .before .before .before in
     let a = z .args in
-    taken _ _ _ (sym (rw (q .parts-in .ensures, c .before .before .before .wide .ensures, c .before .before .wide2 .ensures) at (c .before .within .ensures)) ∙ c .if3 .taken)
-    ∙ found-read (a .model) (bytes z) (eight z) (a .s .now) (p .before .before .before .if1 .left) (p .part .result) (p .part .ensures)
-
-returns-4 : tie.Need-returns-4
-returns-4 c =
-    let q = c .before .before .before .before in
-    let p = q .before .before in
-    let z = p .before .before .before .before .before in
-    let a = z .args in
-    left _ _ _ _ (sym (rw (q .parts-in .ensures, c .before .before .before .wide .ensures, c .before .before .wide2 .ensures) at (c .before .within .ensures)) ∙ c .if3 .left) refl
-    ∙ found-read (a .model) (bytes z) (eight z) (a .s .now) (p .before .before .before .if1 .left) (p .part .result) (p .part .ensures)
+    left _ _ _ _ (sym (rw (q .parts-in .ensures, c .before .before .before .wide .ensures, c .before .before .wide2 .ensures) at (c .before .within .ensures)) ∙ c .if2 .left) refl
+    ∙ found-read (a .model) (bytes z) (eight z) (beforeBlank (a .s .now)) (p .part .result) (p .part .ensures)
 
 pub parts-spec : {M : Type 1} → statement M
 parts-spec =
     tie.close
     (tie.spec
-    returns
     slice-aggregate-part
     part-requires
-    returns-2
+    returns
     parts-in-requires
     wide-requires
     wide-requires-2
     within-requires
-    returns-3
-    returns-4)
+    returns-2
+    returns-3)

@@ -17,9 +17,6 @@ number-requires c κs = search needs
 enum-known-n : tie.Need-enum-known-n
 enum-known-n c = search needs
 
-trim-requires : tie.Need-trim-requires
-trim-requires c κs = search needs
-
 is-right-requires : tie.Need-is-right-requires
 is-right-requires c κs = search needs
 
@@ -40,8 +37,10 @@ returns c =
 
 returns-2 : tie.Need-returns-2
 returns-2 c =
+    let n = c .before .before in
+    let a = n .before .before .before .before .before .args in
     c .is-right .ensures
-    ∙ ap isAccepted (by-number _ _ _ _ _ (sym (c .before .before .before .before .before .number .ensures) ∙ c .before .before .before .n .given .1) (c .before .trim .ensures) refl)
+    ∙ ap isAccepted (by-number (a .m .now) (a .f .now) (trimmed (a .f .now)) _ _ (sym (n .before .before .number .ensures) ∙ n .n .given .1) refl refl)
 
 returns-3 : tie.Need-returns-3
 unfolding referencePlaceAnswer
@@ -57,7 +56,6 @@ is-reference-spec =
     (tie.spec
     number-requires
     enum-known-n
-    trim-requires
     is-right-requires
     enum-told
     is-blank-requires
