@@ -154,7 +154,7 @@ pub fn oib_passes(s: &[u8]) -> bool
 pub fn read_oib(s: &[u8]) -> Told
     ensures { λ r. ⌜ r ≡ oibTold (now (s .entry)) ⌝ }
 {
-    check_digits::told(Rule::Mod1110, s)
+    check_digits::tell(Rule::Mod1110, s)
 }
 
 // An OIB: 3 with its byte, 4, 6.

@@ -178,7 +178,7 @@ fn last_told(rule: Rule, run: Run, zeros: bool, b: u8) -> Told
 }
 
 // What a text's digits come to, in one pass; with no byte there are zeros alone.
-pub fn told(rule: Rule, s: &[u8]) -> Told
+pub fn tell(rule: Rule, s: &[u8]) -> Told
     ensures { λ r. ⌜ r ≡ toldOf rule (now (s .entry)) ⌝ }
 {
     let n = s.len();

@@ -1,4 +1,4 @@
--- Laws that this crate's proofs share: of answers joined, of one of three numbers, of a numeric field, of an IBAN's place, of a
+-- Laws that this crate's proofs share: of answers joined, of one of three numbers, of an OIB's place, of an IBAN's place, of a
 -- description tested in parts, of a model's place, and of the blanks at a text's end.
 -- Assumes nothing.
 use mathlib.Core.Path.{_≡_, refl, sym, ap, _∙_}
@@ -10,24 +10,26 @@ use lib.Dec.{eqb}
 use lib.ListN.{length, take, drop, getD, take-append-drop}
 use lib.Seq.{take-all, take-suc, take-take}
 use borrow.Author.Tests.{eq-eqb, ne-eqb, eqb-true}
-use Rattle.refusal.specs.Refusal.{none}
+use Rattle.refusal.specs.Refusal.{none, byteAt}
 use Rattle.refusal.specs.declared.Answer.{Answer}
 use Rattle.refusal.specs.declared.Answer.the-variants.{Accepted, Refused}
 use Rattle.refusal.specs.declared.Refusal.{Refusal}
-use Rattle.refusal.specs.declared.Refusal.the-variants.{Form, Model}
+use Rattle.refusal.specs.declared.Refusal.the-variants.{Form, Check, Model}
 use Rattle.text.specs.Bytes.{isDigit, isLetter, firstBad, allOf, trimmed}
 use Rattle.text.specs.declared.Class.{Class}
 use Rattle.text.specs.declared.Class.the-variants.{Digits, Reference, Blanks, Zeros, Place, Description}
 use Rattle.text.specs.declared.Found.{Found}
 use Rattle.text.specs.declared.Found.the-variants.{At, Nothing}
 use Rattle.text.specs.Digits.{twoDigits}
-use Rattle.account.specs.Account.{ibanFormed, ibanPasses}
-use Rattle.account.specs.Answers.{ibanCheckAnswer}
+use Rattle.check_digits.specs.declared.Told.{Told}
+use Rattle.check_digits.specs.declared.Told.the-variants as told
+use Rattle.check_digits.specs.declared.Told.the-variants.{Wrong, Failing, Passing}
+use Rattle.account.specs.Account.{ibanFormed, ibanPasses, oibPasses}
+use Rattle.account.specs.Answers.{ibanCheckAnswer, oibToldFrom, oibTold}
 use Rattle.models.specs.Models.{modelNumber, modelOf, modelFrom}
 use Rattle.reference.specs.Answers.{textAnswer, modelAnswer, numberAnswer}
 use Rattle.text.proofs.Laws.{taken, left, or-first, or-second, and-first, and-second, both-true, all-joined, all-apart, all-wider}
-use Rattle.wage_contents.specs.Contents.{andThen, onlyIf, numericIn, ibanPlaceAnswer, modelPlaceAnswer, unmodelledAnswer, referencePlaceAnswer}
-use Rattle.wage_contents.specs.declared.Numeric.the-variants.{Wrong, Absent, Present}
+use Rattle.wage_contents.specs.Contents.{andThen, onlyIf, found, bytesAnswer, oibPlaceAnswer, ibanPlaceAnswer, modelPlaceAnswer, unmodelledAnswer, referencePlaceAnswer}
 
 -- ---------------------------------------------------------------------------
 -- Answers joined: j is what the call answered, x what it is defined to answer
@@ -70,38 +72,28 @@ first-of-none [] e = refl
 first-of-none (b ∷ f) e = absurd (omega arith)
 
 -- ---------------------------------------------------------------------------
--- What a numeric field holds, told by two tests of it
+-- An OIB's place
 
--- absent: zeros
-told-absent : (z d : Bool) → cond z Absent (cond d Present Wrong) ≡ Absent → z ≡ true
-told-absent true d e = refl
-told-absent false true e = let n : _≡_ {A = ℕ} 0 1 = cc in absurd (omega arith)
-told-absent false false e = let n : _≡_ {A = ℕ} 0 1 = cc in absurd (omega arith)
+-- what a place answers by what its digits come to
+abbrev pub toldAnswer : Bool → Told → Answer
+toldAnswer absent (Wrong i) = byteAt i
+toldAnswer absent told.Zeros = onlyIf absent (Form none)
+toldAnswer absent Failing = Refused (Check none)
+toldAnswer absent Passing = Accepted
 
--- present: digits, not all of them zeros
-told-present : (z d : Bool) → cond z Absent (cond d Present Wrong) ≡ Present → (z ≡ false) × (d ≡ true)
-told-present true d e = let n : _≡_ {A = ℕ} 0 1 = cc in absurd (omega arith)
-told-present false true e = (refl, refl)
-told-present false false e = let n : _≡_ {A = ℕ} 0 1 = cc in absurd (omega arith)
+-- that is what the place is defined to answer: t is what was told of it
+pub told-oib : (absent : Bool) (f : List ℕ) (t : Told) → t ≡ oibTold f → toldAnswer absent t ≡ oibPlaceAnswer absent f
+unfolding oibPlaceAnswer bytesAnswer
+told-oib absent f t e = rw e (go (firstBad Digits f))
+  where
+    by-tests : (z p : Bool) → toldAnswer absent (cond z told.Zeros (cond p Passing Failing)) ≡ cond z (onlyIf absent (Form none)) (onlyIf p (Check none))
+    by-tests true p = refl
+    by-tests false true = refl
+    by-tests false false = refl
 
--- wrong: no digits
-told-wrong : (z d : Bool) → cond z Absent (cond d Present Wrong) ≡ Wrong → d ≡ false
-told-wrong true d e = let n : _≡_ {A = ℕ} 0 1 = cc in absurd (omega arith)
-told-wrong false true e = let n : _≡_ {A = ℕ} 0 1 = cc in absurd (omega arith)
-told-wrong false false e = refl
-
-module _ (f : List ℕ) where
-  -- zeros are digits
-  pub absent-digits : numericIn f ≡ Absent → (allOf Zeros f ≡ true) × (allOf Digits f ≡ true)
-  absent-digits e =
-      let z = told-absent (allOf Zeros f) (allOf Digits f) e in
-      (z, all-wider Zeros Digits (λ b h. rw (eqb-true b 48 h)) f z)
-
-  pub present-digits : numericIn f ≡ Present → (allOf Zeros f ≡ false) × (allOf Digits f ≡ true)
-  present-digits e = told-present (allOf Zeros f) (allOf Digits f) e
-
-  pub wrong-digits : numericIn f ≡ Wrong → allOf Digits f ≡ false
-  wrong-digits e = told-wrong (allOf Zeros f) (allOf Digits f) e
+    go : (x : Found) → toldAnswer absent (oibToldFrom f x) ≡ andThen (found x) (cond (allOf Zeros f) (onlyIf absent (Form none)) (onlyIf (oibPasses f) (Check none)))
+    go (At i) = refl
+    go Nothing = by-tests (allOf Zeros f) (oibPasses f)
 
 -- ---------------------------------------------------------------------------
 -- An IBAN's place
