@@ -9,8 +9,9 @@ ghost use lib.ListN.{length};
 ghost use Rattle.text.specs.Bytes.{allOf};
 ghost use Rattle.text.specs.Digits.{digitsOf, valueOf};
 ghost use Rattle.account.specs.Account.{ibanFormed, ibanPasses, oibPasses};
-ghost use Rattle.account.specs.Answers.{isIban, ibanCheckAnswer, ibanAnswer, oibAnswer};
+ghost use Rattle.account.specs.Answers.{isIban, ibanCheckAnswer, ibanAnswer, oibTold, oibAnswer};
 use check_digits::Rule;
+use check_digits::Told;
 use refusal::Answer;
 use refusal::Place;
 use refusal::Refusal;
@@ -147,6 +148,13 @@ pub fn oib_passes(s: &[u8]) -> bool
     ensures { λ r. ⌜ r ≡ oibPasses (now (s .entry)) ⌝ }
 {
     check_digits::ends_right(Rule::Mod1110, s)
+}
+
+// What an OIB's digits come to, in one pass: `oib_passes`, and whether they are digits, or zeros alone.
+pub fn read_oib(s: &[u8]) -> Told
+    ensures { λ r. ⌜ r ≡ oibTold (now (s .entry)) ⌝ }
+{
+    check_digits::tell(Rule::Mod1110, s)
 }
 
 // An OIB: 3 with its byte, 4, 6.

@@ -17,13 +17,15 @@ use Rattle.text.specs.Digits.{digitsOf, valueFrom}
 use Rattle.check_digits.specs.declared.Rule.{Rule}
 use Rattle.check_digits.specs.declared.Rule.the-variants.{Ini, Mod1110}
 use Rattle.check_digits.specs.declared.Made.{Made}
+use Rattle.check_digits.specs.declared.Told.{Told}
 use Rattle.check_digits.specs.CheckDigit.{checkDigit, digitFor, remainder, passes}
-use Rattle.check_digits.specs.Answers.{checkAnswer, makeAnswer}
+use Rattle.check_digits.specs.Answers.{checkAnswer, makeAnswer, toldOf}
 
 -- ---------------------------------------------------------------------------
 -- One digit completes any digits
 
-digit-small : (rule : Rule) (r : ℕ) → digitFor rule r < 10
+-- a rule gives a digit for any remainder
+pub digit-small : (rule : Rule) (r : ℕ) → digitFor rule r < 10
 digit-small Ini r = go (ltb r 2) refl
   where
     go : (t : Bool) → ltb r 2 ≡ t → cond t 0 (11 - r) < 10
@@ -66,6 +68,9 @@ check-digit-only rule s = defined-only (checkDigit rule (digitsOf s))
 
 pub ends-right-only : (rule : Rule) (s : List ℕ) → Only (λ (r : Bool). r ≡ passes rule s)
 ends-right-only rule s = defined-only (passes rule s)
+
+pub told-only : (rule : Rule) (s : List ℕ) → Only (λ (r : Told). r ≡ toldOf rule s)
+told-only rule s = defined-only (toldOf rule s)
 
 pub remainder97-only : (before : ℕ) (s : List ℕ) → Only (λ (r : ℕ). r ≡ valueFrom before (digitsOf s) % 97)
 remainder97-only before s = defined-only (valueFrom before (digitsOf s) % 97)

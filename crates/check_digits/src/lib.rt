@@ -8,8 +8,8 @@ ghost use mathlib.Core.List.{[], _∷_};
 ghost use Prim.Native.Nat.{_<_, _+_, _%_};
 ghost use Rattle.text.specs.Digits.{digitsOf, valueFrom};
 ghost use Rattle.check_digits.specs.CheckDigit.{carry, digitFor, checkDigit, passes};
-ghost use Rattle.check_digits.specs.Run.{Small, startOf, stepOf, readOf, digitOf};
-ghost use Rattle.check_digits.specs.Answers.{checkAnswer, makeAnswer};
+ghost use Rattle.check_digits.specs.Run.{Small, startOf, stepOf, readOf, digitOf, lastTold};
+ghost use Rattle.check_digits.specs.Answers.{checkAnswer, makeAnswer, toldOf};
 use refusal::Answer;
 use refusal::Refusal;
 use text::Class;
@@ -24,6 +24,14 @@ pub enum Rule {
 pub enum Made {
     Digit(u8),
     Refused(Refusal),
+}
+
+// What digits that end in their check digit come to: the place of a byte that is no digit, zeros alone, or whether they pass.
+pub enum Told {
+    Wrong(usize),
+    Zeros,
+    Failing,
+    Passing,
 }
 
 // What has been read of the digits so far: for INI the sum of the digits and the sum of those sums, both over 11;
@@ -152,6 +160,44 @@ pub fn ends_right(rule: Rule, s: &[u8]) -> bool
     let last = n - 1;
     let d = check_digit(rule, &s[..last]);
     s[last] == 48 + d
+}
+
+// What the last byte tells, after the digits before it and whether they are zeros.
+fn last_told(rule: Rule, run: Run, zeros: bool, b: u8) -> Told
+    requires { ⌜ Small run ⌝ }
+    ensures { λ r. ⌜ r ≡ lastTold rule run zeros b ⌝ }
+{
+    let d = digit_for(rule, run);
+    if zeros & (b == 48) {
+        return Told::Zeros;
+    }
+    if b == 48 + d {
+        return Told::Passing;
+    }
+    Told::Failing
+}
+
+// What a text's digits come to, in one pass; with no byte there are zeros alone.
+pub fn tell(rule: Rule, s: &[u8]) -> Told
+    ensures { λ r. ⌜ r ≡ toldOf rule (now (s .entry)) ⌝ }
+{
+    let n = s.len();
+    let mut run = started(rule);
+    let mut zeros = true;
+    let mut i = 0;
+    while i < n {
+        let b = s[i];
+        if !text::is_digit(b) {
+            return Told::Wrong(i);
+        }
+        if i == n - 1 {
+            return last_told(rule, run, zeros, b);
+        }
+        zeros = zeros & (b == 48);
+        run = step(rule, run, (b - 48) as u64);
+        i += 1;
+    }
+    Told::Zeros
 }
 
 // One more byte of a number that is kept as it is while it is small, and over 97 where it grows; what is no digit is

@@ -1,5 +1,5 @@
--- Laws that this crate's proofs share: of answers joined, of digits read, of one of three numbers, of a numeric field, of an IBAN's place, of a
--- description tested in parts, of a model's place, and of the blanks at a text's end.
+-- Laws that this crate's proofs share: of answers joined, of digits read, of one of three numbers, of an OIB's place, of an IBAN's place,
+-- of a description tested in parts, of a model's place, and of the blanks at a text's end.
 -- Assumes nothing.
 use mathlib.Core.Path.{_≡_, refl, sym, ap, _∙_}
 use mathlib.Core.Bool.{Bool, true, false, cond, _&&_, _||_, and-true, and-false}
@@ -14,22 +14,24 @@ use Rattle.refusal.specs.Refusal.{none, byteAt}
 use Rattle.refusal.specs.declared.Answer.{Answer}
 use Rattle.refusal.specs.declared.Answer.the-variants.{Accepted, Refused}
 use Rattle.refusal.specs.declared.Refusal.{Refusal}
-use Rattle.refusal.specs.declared.Refusal.the-variants.{Form, Model}
+use Rattle.refusal.specs.declared.Refusal.the-variants.{Form, Check, Model}
 use Rattle.text.specs.Bytes.{isDigit, isLetter, firstBad, allOf, trimmed}
 use Rattle.text.specs.declared.Class.{Class}
 use Rattle.text.specs.declared.Class.the-variants.{Digits, Reference, Blanks, Zeros, Place, Description}
 use Rattle.text.specs.declared.Found.{Found}
 use Rattle.text.specs.declared.Found.the-variants.{At, Nothing}
 use Rattle.text.specs.Digits.{twoDigits}
-use Rattle.account.specs.Account.{ibanFormed, ibanPasses}
-use Rattle.account.specs.Answers.{ibanCheckAnswer}
+use Rattle.check_digits.specs.declared.Told.{Told}
+use Rattle.check_digits.specs.declared.Told.the-variants as told
+use Rattle.check_digits.specs.declared.Told.the-variants.{Failing, Passing}
+use Rattle.account.specs.Account.{ibanFormed, ibanPasses, oibPasses}
+use Rattle.account.specs.Answers.{ibanCheckAnswer, oibToldFrom, oibTold}
 use Rattle.sums.specs.Sums.{readFrom, readIn}
 use Rattle.sums.specs.declared.Reading.the-variants.{Number, Wrong}
 use Rattle.models.specs.Models.{modelNumber, modelOf, modelFrom}
 use Rattle.reference.specs.Answers.{textAnswer, modelAnswer, numberAnswer}
 use Rattle.text.proofs.Laws.{taken, left, or-first, or-second, and-first, and-second, both-true, all-joined, all-apart, all-wider}
-use Rattle.wage_contents.specs.Contents.{andThen, onlyIf, found, bytesAnswer, numberIn, numericIn, ibanPlaceAnswer, modelPlaceAnswer, unmodelledAnswer, referencePlaceAnswer}
-use Rattle.wage_contents.specs.declared.Numeric.the-variants.{Wrong as NoNumber, Absent, Present}
+use Rattle.wage_contents.specs.Contents.{andThen, onlyIf, found, bytesAnswer, numberIn, oibPlaceAnswer, ibanPlaceAnswer, modelPlaceAnswer, unmodelledAnswer, referencePlaceAnswer}
 
 -- ---------------------------------------------------------------------------
 -- Answers joined: j is what the call answered, x what it is defined to answer
@@ -94,38 +96,28 @@ first-of-none [] e = refl
 first-of-none (b ∷ f) e = absurd (omega arith)
 
 -- ---------------------------------------------------------------------------
--- What a numeric field holds, told by two tests of it
+-- An OIB's place
 
--- absent: zeros
-told-absent : (z d : Bool) → cond z Absent (cond d Present NoNumber) ≡ Absent → z ≡ true
-told-absent true d e = refl
-told-absent false true e = let n : _≡_ {A = ℕ} 0 1 = cc in absurd (omega arith)
-told-absent false false e = let n : _≡_ {A = ℕ} 0 1 = cc in absurd (omega arith)
+-- what a place answers by what its digits come to
+abbrev pub toldAnswer : Bool → Told → Answer
+toldAnswer absent (told.Wrong i) = byteAt i
+toldAnswer absent told.Zeros = onlyIf absent (Form none)
+toldAnswer absent Failing = Refused (Check none)
+toldAnswer absent Passing = Accepted
 
--- present: digits, not all of them zeros
-told-present : (z d : Bool) → cond z Absent (cond d Present NoNumber) ≡ Present → (z ≡ false) × (d ≡ true)
-told-present true d e = let n : _≡_ {A = ℕ} 0 1 = cc in absurd (omega arith)
-told-present false true e = (refl, refl)
-told-present false false e = let n : _≡_ {A = ℕ} 0 1 = cc in absurd (omega arith)
+-- that is what the place is defined to answer: t is what was told of it
+pub told-oib : (absent : Bool) (f : List ℕ) (t : Told) → t ≡ oibTold f → toldAnswer absent t ≡ oibPlaceAnswer absent f
+unfolding oibPlaceAnswer bytesAnswer
+told-oib absent f t e = rw e (go (firstBad Digits f))
+  where
+    by-tests : (z p : Bool) → toldAnswer absent (cond z told.Zeros (cond p Passing Failing)) ≡ cond z (onlyIf absent (Form none)) (onlyIf p (Check none))
+    by-tests true p = refl
+    by-tests false true = refl
+    by-tests false false = refl
 
--- wrong: no digits
-told-wrong : (z d : Bool) → cond z Absent (cond d Present NoNumber) ≡ NoNumber → d ≡ false
-told-wrong true d e = let n : _≡_ {A = ℕ} 0 1 = cc in absurd (omega arith)
-told-wrong false true e = let n : _≡_ {A = ℕ} 0 1 = cc in absurd (omega arith)
-told-wrong false false e = refl
-
-module _ (f : List ℕ) where
-  -- zeros are digits
-  pub absent-digits : numericIn f ≡ Absent → (allOf Zeros f ≡ true) × (allOf Digits f ≡ true)
-  absent-digits e =
-      let z = told-absent (allOf Zeros f) (allOf Digits f) e in
-      (z, all-wider Zeros Digits (λ b h. rw (eqb-true b 48 h)) f z)
-
-  pub present-digits : numericIn f ≡ Present → (allOf Zeros f ≡ false) × (allOf Digits f ≡ true)
-  present-digits e = told-present (allOf Zeros f) (allOf Digits f) e
-
-  pub wrong-digits : numericIn f ≡ NoNumber → allOf Digits f ≡ false
-  wrong-digits e = told-wrong (allOf Zeros f) (allOf Digits f) e
+    go : (x : Found) → toldAnswer absent (oibToldFrom f x) ≡ andThen (found x) (cond (allOf Zeros f) (onlyIf absent (Form none)) (onlyIf (oibPasses f) (Check none)))
+    go (At i) = refl
+    go Nothing = by-tests (allOf Zeros f) (oibPasses f)
 
 -- ---------------------------------------------------------------------------
 -- An IBAN's place

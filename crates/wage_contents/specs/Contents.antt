@@ -23,8 +23,6 @@ use Rattle.reference.specs.Answers.{referenceAnswer}
 use Rattle.dates.specs.Dates.{isDate}
 use Rattle.codes.specs.Codes.{codePlace}
 use Rattle.sums.specs.Sums.{numberOf}
-use Rattle.wage_contents.specs.declared.Numeric.{Numeric}
-use Rattle.wage_contents.specs.declared.Numeric.the-variants.{Wrong, Absent, Present}
 
 -- ---------------------------------------------------------------------------
 -- Answers joined
@@ -59,10 +57,6 @@ unfoldable pub amongAnswer : ℕ → ℕ → ℕ → List ℕ → Answer
 amongAnswer a b c f =
     andThen (bytesAnswer Digits f)
     (onlyIf (eqb (numberIn f) a || (eqb (numberIn f) b || eqb (numberIn f) c)) (Form none))
-
--- what a numeric field holds: "digits only (else 3), zeros for absent"
-abbrev pub numericIn : List ℕ → Numeric
-numericIn f = cond (allOf Zeros f) Absent (cond (allOf Digits f) Present Wrong)
 
 -- an OIB; zeros where they may stand for none
 unfoldable pub oibPlaceAnswer : Bool → List ℕ → Answer

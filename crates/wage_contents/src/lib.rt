@@ -11,7 +11,8 @@ ghost use Rattle.refusal.specs.Refusal.{none, byteAt, isAccepted};
 ghost use Rattle.text.specs.Bytes.{allOf, trimmed};
 ghost use Rattle.account.specs.Answers.{ibanCheckAnswer};
 ghost use Rattle.codes.specs.Codes.{codePlace};
-ghost use Rattle.wage_contents.specs.Contents.{bytesAnswer, amongAnswer, numericIn, oibPlaceAnswer, twoOfThree, employerAnswer, todayAnswer, laterAnswer, ibanPlaceAnswer, currencyAnswer, purposePlaceAnswer, signAnswer, modelPlaceAnswer, unmodelledAnswer, referencePlaceAnswer, descriptionAnswer, isFound, codeAnswer};
+ghost use Rattle.wage_contents.specs.Contents.{bytesAnswer, amongAnswer, oibPlaceAnswer, twoOfThree, employerAnswer, todayAnswer, laterAnswer, ibanPlaceAnswer, currencyAnswer, purposePlaceAnswer, signAnswer, modelPlaceAnswer, unmodelledAnswer, referencePlaceAnswer, descriptionAnswer, isFound, codeAnswer};
+use check_digits::Told;
 use refusal::Answer;
 use refusal::Place;
 use refusal::Refusal;
@@ -75,53 +76,20 @@ pub fn judge_among(a: u64, b: u64, c: u64, f: &[u8]) -> Answer
     }
 }
 
-// What a numeric field holds: a byte that is no digit, zeros for absent, or a number.
-pub enum Numeric {
-    Wrong,
-    Absent,
-    Present,
-}
-
-// What a numeric field holds, in one pass with no branch.
-fn read_numeric(f: &[u8]) -> Numeric
-    ensures { λ r. ⌜ r ≡ numericIn (now (f .entry)) ⌝ }
-{
-    let mut right = true;
-    let mut zeros = true;
-    let mut i = 0;
-    while i < f.len() {
-        let b = f[i];
-        right = right & ((48 <= b) & (b <= 57));
-        zeros = zeros & (b == 48);
-        i += 1;
-    }
-    if zeros {
-        return Numeric::Absent;
-    }
-    if right {
-        return Numeric::Present;
-    }
-    Numeric::Wrong
-}
-
 // An OIB, or zeros where they may stand for none: 3, 5, 6.
 pub fn judge_oib(absent: bool, f: &[u8]) -> Answer
     ensures { λ r. ⌜ r ≡ oibPlaceAnswer absent (now (f .entry)) ⌝ }
 {
-    match read_numeric(f) {
-        Numeric::Wrong => judge_bytes(Class::Digits, f),
-        Numeric::Absent => {
+    match account::read_oib(f) {
+        Told::Wrong(i) => wrong_byte(i),
+        Told::Zeros => {
             if absent {
                 return Answer::Accepted;
             }
             form()
         }
-        Numeric::Present => {
-            if account::oib_passes(f) {
-                return Answer::Accepted;
-            }
-            Answer::Refused(Refusal::Check(refusal::nowhere()))
-        }
+        Told::Failing => Answer::Refused(Refusal::Check(refusal::nowhere())),
+        Told::Passing => Answer::Accepted,
     }
 }
 
