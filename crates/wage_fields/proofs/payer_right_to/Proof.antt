@@ -74,14 +74,17 @@ returns-4 c = (omega arith, λ kind. to-three (c .before .before .before .before
 
 returns-5 : tie.Need-returns-5
 unfolding spots spotIn orderRule paymentRule
-returns-5 c = (omega arith, λ kind.
-    let d = c .before .before .before .before in
-    let s = line3 d in
-    let model = c .before .before .before .order-part3 .ensures in
-    let r = told-right _ _ (c .before .is-reference .ensures) (c .if4 .left) in
-    right-next kind s (take 4 (spots Order)) _ _ _
-    (right-next kind s (take 3 (spots Order)) _ _ _ (to-three d kind) model refl (reference-of-model _ _ r))
-    (c .before .before .order-part4 .ensures) (rw (← model)) r)
+returns-5 c = (
+  omega arith,
+  λ kind.
+      let d = c .before .before .before .before in
+      let s = line3 d in
+      let model = c .before .before .before .order-part3 .ensures in
+      let r = told-right _ _ (c .before .is-reference .ensures) (c .if4 .left) in
+      right-next kind s (take 4 (spots Order)) _ _ _
+      (right-next kind s (take 3 (spots Order)) _ _ _ (to-three d kind) model refl (reference-of-model _ _ r))
+      (c .before .before .order-part4 .ensures) (rw (← model)) r,
+)
 
 pub payer-right-to-spec : {M : Type 1} → statement M
 payer-right-to-spec =

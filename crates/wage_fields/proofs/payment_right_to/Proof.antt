@@ -159,10 +159,12 @@ returns-7 c = ((omega arith, omega arith), to-fifteen (c .before .before .before
 
 returns-8 : tie.Need-returns-8
 unfolding spots orderRule paymentRule
-returns-8 c = ((omega arith, omega arith),
-    let d = c .before .before .before .before in
-    right-next (kind6 d) (line6 d) (drop 10 (take 15 (spots Order))) _ _ _ (to-fifteen d)
-    (c .before .before .before .order-part7 .ensures) (c .before .before .judge-oib .ensures) (told-right _ _ (c .before .is-accepted6 .ensures) (c .if7 .left)))
+returns-8 c =
+    let d = c .before .before .before .before in (
+      (omega arith, omega arith),
+      right-next (kind6 d) (line6 d) (drop 10 (take 15 (spots Order))) _ _ _ (to-fifteen d)
+          (c .before .before .before .order-part7 .ensures) (c .before .before .judge-oib .ensures) (told-right _ _ (c .before .is-accepted6 .ensures) (c .if7 .left)),
+    )
 
 pub payment-right-to-spec : {M : Type 1} → statement M
 payment-right-to-spec =

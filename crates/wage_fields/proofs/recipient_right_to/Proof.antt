@@ -97,14 +97,17 @@ returns-5 c = ((omega arith, omega arith), λ kind. to-eight (c .before .before 
 
 returns-6 : tie.Need-returns-6
 unfolding spots spotIn orderRule
-returns-6 c = ((omega arith, omega arith), λ kind.
-    let d = c .before .before .before .before in
-    let s = line4 d in
-    let model = c .before .before .before .order-part4 .ensures in
-    let r = told-right _ _ (c .before .is-reference .ensures) (c .if5 .left) in
-    right-next kind s (drop 5 (take 9 (spots Order))) _ _ _
-    (right-next kind s (drop 5 (take 8 (spots Order))) _ _ _ (to-eight d kind) model refl (reference-of-model _ _ r))
-    (c .before .before .order-part5 .ensures) (rw (← model)) r)
+returns-6 c = (
+  (omega arith, omega arith),
+  λ kind.
+      let d = c .before .before .before .before in
+      let s = line4 d in
+      let model = c .before .before .before .order-part4 .ensures in
+      let r = told-right _ _ (c .before .is-reference .ensures) (c .if5 .left) in
+      right-next kind s (drop 5 (take 9 (spots Order))) _ _ _
+      (right-next kind s (drop 5 (take 8 (spots Order))) _ _ _ (to-eight d kind) model refl (reference-of-model _ _ r))
+      (c .before .before .order-part5 .ensures) (rw (← model)) r,
+)
 
 pub recipient-right-to-spec : {M : Type 1} → statement M
 recipient-right-to-spec =
