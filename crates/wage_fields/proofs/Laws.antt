@@ -1,6 +1,6 @@
--- Laws of a line's places: the byte that a refusal tells, the places from one on, answers joined, the first place that is refused,
--- and the places of a right order. Assumes nothing.
-use mathlib.Core.Path.{_≡_, refl, sym, _∙_}
+-- Laws of a line's places: the byte that a refusal tells, the places from one on, answers joined, the first places accepted, the first
+-- place that is refused, and the places of a right order. Assumes nothing.
+use mathlib.Core.Path.{_≡_, refl, sym, ap, _∙_}
 use mathlib.Core.Logic.{_↔_}
 use mathlib.Core.Bool.{Bool, true, false, not}
 use mathlib.Core.List.{List, [], _∷_, _++_}
@@ -8,9 +8,9 @@ use Prim.Native.Nat.{ℕ, zero, suc, _+_, _≤_, _<_}
 use native.Mathlib.Numerals.{add-one}
 use native.Mathlib.Omega.{arith}
 use lib.Dec.{eqb, ltb}
-use lib.ListN.{length, drop, getD, length-take, drop-of-length-le, List·getD-eq-default}
-use lib.Seq.{drop-cons}
-use borrow.Author.Tests.{ltb-true, ltb-false}
+use lib.ListN.{length, take, drop, getD, length-take, take-append-drop, drop-of-length-le, List·getD-eq-default}
+use lib.Seq.{drop-cons, take-take}
+use borrow.Author.Tests.{ltb-true, ltb-false, not-false}
 use Rattle.refusal.specs.Refusal.{placeOf, isAccepted}
 use Rattle.refusal.specs.declared.Answer.{Answer}
 use Rattle.refusal.specs.declared.Answer.the-variants.{Accepted, Refused}
@@ -166,6 +166,26 @@ told-place p (Marks q) = refl
 told-place p (Beyond q) = refl
 
 -- ---------------------------------------------------------------------------
+-- The first places are accepted
+
+-- where the first k places are accepted, the answer is that of those behind them
+pub places-after : (day kind : ℕ) (t : LineType) (s : List ℕ) (k : ℕ) (ps : List Spot) → placesFrom day kind t (take k ps) s ≡ Accepted → placesFrom day kind t ps s ≡ placesFrom day kind t (drop k ps) s
+unfolding placesFrom
+places-after day kind t s zero ps e = refl
+places-after day kind t s (suc k) [] e = refl
+places-after day kind t s (suc k) (p ∷ ps) e =
+    let both = both-accept (placeAnswer day kind t p s) (placesFrom day kind t (take k ps) s) e in
+    rw (both .0) (places-after day kind t s k ps (both .1))
+
+-- sixteen are all places of any line
+pub sixteen-all : (t : LineType) → take 16 (spots t) ≡ spots t
+unfolding spots
+sixteen-all Label = refl
+sixteen-all Group = refl
+sixteen-all Order = refl
+sixteen-all Closing = refl
+
+-- ---------------------------------------------------------------------------
 -- The first place that is refused
 
 -- the places before it are accepted, and it is refused
@@ -202,29 +222,25 @@ module _ (day kind : ℕ) (t : LineType) (s : List ℕ) (r : Refusal) where
 -- ---------------------------------------------------------------------------
 -- A right order
 
--- false is not true, so whatever was promised of true
-pub untrue : {A : Type 0} → false ≡ true → A
-untrue e = let z : _≡_ {A = ℕ} 0 1 = cc in absurd (omega arith)
-
 -- an answer that was told to refuse nothing
-pub told-right : (a : Answer) (r : Bool) → r ≡ isAccepted a → r ≡ true → a ≡ Accepted
-told-right a r e f = is-acceptance a (sym e ∙ f)
+pub told-right : (a : Answer) (r : Bool) → r ≡ isAccepted a → not r ≡ false → a ≡ Accepted
+told-right a r e f = is-acceptance a (sym e ∙ not-false r f)
 
 module _ (kind : ℕ) (s : List ℕ) where
-  -- a place whose rule's answer is Accepted, before places that are right
-  pub right-place : (p : Spot) (ps : List Spot) (f : List ℕ) (a : Answer) → f ≡ partAt p s → a ≡ orderRule kind (p .field) f s → a ≡ Accepted → OrderRight kind ps s → OrderRight kind (p ∷ ps) s
-  unfolding placesFrom placeAnswer
-  right-place p ps f a g h e rest day =
-      let r : orderRule kind (p .field) (partAt p s) s ≡ Accepted = rw (← g) (sym h ∙ e) in
-      rw r (rest day)
-
   -- where there are no places, each is right
   pub right-none : OrderRight kind [] s
   unfolding placesFrom
   right-none day = refl
 
+  -- a place is right if its rule's answer is Accepted
+  right-place : (p : Spot) (f : List ℕ) (a : Answer) → f ≡ partAt p s → a ≡ orderRule kind (p .field) f s → a ≡ Accepted → OrderRight kind (p ∷ []) s
+  unfolding placesFrom placeAnswer
+  right-place p f a g h e day =
+      let r : orderRule kind (p .field) (partAt p s) s ≡ Accepted = rw (← g) (sym h ∙ e) in
+      rw r refl
+
   -- right places, and right places behind them
-  pub right-joined : (ps qs : List Spot) → OrderRight kind ps s → OrderRight kind qs s → OrderRight kind (ps ++ qs) s
+  right-joined : (ps qs : List Spot) → OrderRight kind ps s → OrderRight kind qs s → OrderRight kind (ps ++ qs) s
   unfolding placesFrom
   right-joined [] qs f g = g
   right-joined (p ∷ ps) qs f g = λ day.
@@ -232,3 +248,14 @@ module _ (kind : ℕ) (s : List ℕ) where
     where
       both : (day : ℕ) → (placeAnswer day kind Order p s ≡ Accepted) × (placesFrom day kind Order ps s ≡ Accepted)
       both day = both-accept (placeAnswer day kind Order p s) (placesFrom day kind Order ps s) (f day)
+
+  -- right places, and behind them one whose rule's answer is Accepted
+  pub right-next : (ps : List Spot) (p : Spot) (f : List ℕ) (a : Answer) → OrderRight kind ps s → f ≡ partAt p s → a ≡ orderRule kind (p .field) f s → a ≡ Accepted → OrderRight kind (ps ++ (p ∷ [])) s
+  right-next ps p f a before g h e = right-joined ps (p ∷ []) before (right-place p f a g h e)
+
+  -- the first i places are right, and those from there, that is from j, to the first r: so the first r are
+  pub right-on : (i j r : ℕ) (ps : List Spot) → i ≡ j → j ≤ r → OrderRight kind (take i ps) s → OrderRight kind (drop j (take r ps)) s → OrderRight kind (take r ps) s
+  right-on i j r ps e h f g =
+      let first : OrderRight kind (take j ps) s = rw (← e) f in
+      let apart : take r ps ≡ take j ps ++ drop j (take r ps) = sym (take-append-drop j (take r ps)) ∙ ap (λ (l : List Spot). l ++ drop j (take r ps)) (take-take j r ps h) in
+      rw apart (right-joined (take j ps) (drop j (take r ps)) first g)

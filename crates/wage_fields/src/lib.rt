@@ -3,13 +3,12 @@
 // Document 01, "The wage file", its lists for 300, 301 and 309. What each kind of content must be is the crate
 // `wage_contents`; where the places stand is the crate `wage_line`.
 ghost use mathlib.Core.Path.{_≡_};
-ghost use mathlib.Core.Bool.{true};
-ghost use lib.ListN.{getD, take, drop};
-ghost use Prim.Native.Nat.{ℕ, _+_, _<_, _^_};
+ghost use lib.ListN.{getD, length, take, drop};
+ghost use Prim.Native.Nat.{ℕ, _+_, _≤_, _<_, _^_};
 ghost use Rattle.refusal.specs.Refusal.{placeOf};
 ghost use Rattle.wage_line.specs.Places.{spots, noSpot};
 ghost use Rattle.wage_line.specs.Line.{partAt};
-ghost use Rattle.wage_fields.specs.Rules.{labelRule, groupRule, paymentRule, orderRule, ruleAnswer, toldAt, placeAnswer, placesAnswer, OrderRight};
+ghost use Rattle.wage_fields.specs.Rules.{labelRule, groupRule, paymentRule, orderRule, ruleAnswer, toldAt, placeAnswer, placesFrom, placesAnswer, OrderRight};
 use refusal::Answer;
 use refusal::Place;
 use refusal::Refusal;
@@ -145,7 +144,8 @@ pub fn judge_place(day: u64, kind: u64, t: LineType, k: usize, s: &[u8]) -> Answ
 // A right order at once
 //
 // Nearly every line of a file is a 309, and nearly every 309 is right. Its places are asked here one behind the other, each with its rule
-// written beside it, so that neither is looked for by its number; a line that is not right goes on to the loop, which finds what to refuse.
+// written beside it, so that neither is looked for by its number; from the first that is not right the loop goes on, which finds what to
+// refuse.
 
 // The bytes of a 309's place, by its order.
 fn order_part(k: usize, s: &[u8]) -> &[u8]
@@ -154,96 +154,109 @@ fn order_part(k: usize, s: &[u8]) -> &[u8]
     wage_line::part(wage_line::spot_at(LineType::Order, k), s)
 }
 
-// The first five places, to the payer's reference; the second, field 2, is not judged, and a reference that is right has a right model.
-// The size is asked first, here and below, so that the compiler knows each place to lie within the line.
-fn is_payer_right(s: &[u8]) -> bool
-    ensures { λ r. ⌜ (r ≡ true → (kind : ℕ) → OrderRight kind (take 5 (spots LineType.Order)) (now (s .entry))) ⌝ }
+// How far a 309 is right, from its first place on: to the payer's reference, the fifth. The second place, field 2, is not judged, and
+// a reference that is right has a right model. The size is asked first, here and below, so that the compiler knows each place to lie
+// within the line.
+fn payer_right_to(s: &[u8]) -> usize
+    ensures { λ r. ⌜ (r ≤ 5) × ((kind : ℕ) → OrderRight kind (take r (spots LineType.Order)) (now (s .entry))) ⌝ }
 {
     if s.len() != 1002 {
-        return false;
+        return 0;
     }
     if !wage_contents::is_iban(order_part(0, s)) {
-        return false;
+        return 0;
     }
     if !refusal::is_accepted(wage_contents::judge_among(0, 191, 191, order_part(2, s))) {
-        return false;
+        return 2;
     }
-    wage_contents::is_reference(order_part(3, s), order_part(4, s))
+    if !wage_contents::is_reference(order_part(3, s), order_part(4, s)) {
+        return 3;
+    }
+    5
 }
 
-// The next five, from the purpose to the recipient's reference.
-fn is_recipient_right(s: &[u8]) -> bool
-    ensures { λ r. ⌜ (r ≡ true → (kind : ℕ) → OrderRight kind (take 5 (drop 5 (spots LineType.Order))) (now (s .entry))) ⌝ }
+// From there on: from the purpose to the recipient's reference, the tenth.
+fn recipient_right_to(s: &[u8]) -> usize
+    ensures { λ r. ⌜ ((5 ≤ r) × (r ≤ 10)) × ((kind : ℕ) → OrderRight kind (drop 5 (take r (spots LineType.Order))) (now (s .entry))) ⌝ }
 {
     if s.len() != 1002 {
-        return false;
+        return 5;
     }
     if !refusal::is_accepted(wage_contents::judge_purpose(order_part(5, s))) {
-        return false;
+        return 5;
     }
     if !wage_contents::is_description(order_part(6, s)) {
-        return false;
+        return 6;
     }
     if !refusal::is_accepted(wage_contents::judge_bytes(Class::Digits, order_part(7, s))) {
-        return false;
+        return 7;
     }
-    wage_contents::is_reference(order_part(8, s), order_part(9, s))
+    if !wage_contents::is_reference(order_part(8, s), order_part(9, s)) {
+        return 8;
+    }
+    10
 }
 
-// The last six, those of `payment_rule`.
-fn is_payment_right(kind: u64, s: &[u8]) -> bool
-    ensures { λ r. ⌜ (r ≡ true → OrderRight kind (drop 10 (spots LineType.Order)) (now (s .entry))) ⌝ }
+// From there on: the last six, those of `payment_rule`.
+fn payment_right_to(kind: u64, s: &[u8]) -> usize
+    ensures { λ r. ⌜ ((10 ≤ r) × (r ≤ 16)) × OrderRight kind (drop 10 (take r (spots LineType.Order))) (now (s .entry)) ⌝ }
 {
     if s.len() != 1002 {
-        return false;
+        return 10;
     }
     if !refusal::is_accepted(wage_contents::judge_among(0, 1, 2, order_part(10, s))) {
-        return false;
+        return 10;
     }
     if !refusal::is_accepted(wage_contents::judge_currency(true, order_part(11, s))) {
-        return false;
+        return 11;
     }
     if !refusal::is_accepted(wage_contents::judge_sign(32, 48, 51, order_part(12, s))) {
-        return false;
+        return 12;
     }
     if !refusal::is_accepted(wage_contents::judge_sign(32, 48, 48, order_part(13, s))) {
-        return false;
+        return 13;
     }
     if !refusal::is_accepted(wage_contents::judge_code(kind, order_part(8, s), order_part(14, s))) {
-        return false;
+        return 14;
     }
-    refusal::is_accepted(wage_contents::judge_oib(kind != 5, order_part(15, s)))
+    if !refusal::is_accepted(wage_contents::judge_oib(kind != 5, order_part(15, s))) {
+        return 15;
+    }
+    16
 }
 
-// Whether a line is a 309 and its places are right.
-fn is_right_order(kind: u64, t: LineType, s: &[u8]) -> bool
-    ensures { λ r. ⌜ (r ≡ true → (day : ℕ) → placesAnswer day kind t (now (s .entry)) ≡ Answer.Accepted) ⌝ }
+// How many of a line's places are known to be right, from the first on; of a line that is no 309 none is.
+fn right_to(kind: u64, t: LineType, s: &[u8]) -> usize
+    ensures { λ r. ⌜ (r ≤ length (spots t)) × ((day : ℕ) → placesFrom day kind t (take r (spots t)) (now (s .entry)) ≡ Answer.Accepted) ⌝ }
 {
     match t {
         LineType::Order => {
-            if !is_payer_right(s) {
-                return false;
+            let payer = payer_right_to(s);
+            if payer < 5 {
+                return payer;
             }
-            if !is_recipient_right(s) {
-                return false;
+            let recipient = recipient_right_to(s);
+            if recipient < 10 {
+                return recipient;
             }
-            is_payment_right(kind, s)
+            payment_right_to(kind, s)
         }
-        LineType::Label => false,
-        LineType::Group => false,
-        LineType::Closing => false,
+        LineType::Label => 0,
+        LineType::Group => 0,
+        LineType::Closing => 0,
     }
 }
 
 // ---------------------------------------------------------------------------
 // A line's places in order
 
-// A line's places in order: the first refusal, with its field and byte.
-fn judge_in_order(day: u64, kind: u64, t: LineType, s: &[u8]) -> Answer
+// A line's places in order, after those that are known to be right: the first refusal, with its field and byte.
+fn judge_from(day: u64, kind: u64, t: LineType, from: usize, s: &[u8]) -> Answer
+    requires { ⌜ (from ≤ length (spots t)) × (placesFrom day kind t (take from (spots t)) (now s) ≡ Answer.Accepted) ⌝ }
     ensures { λ r. ⌜ r ≡ placesAnswer day kind t (now (s .entry)) ⌝ }
 {
     let n = wage_line::count(t);
-    let mut k = 0;
+    let mut k = from;
     'places: loop {
         if n <= k {
             break 'places Answer::Accepted;
@@ -259,13 +272,14 @@ fn judge_in_order(day: u64, kind: u64, t: LineType, s: &[u8]) -> Answer
     }
 }
 
-// A line's places: the first refusal, with its field and byte. A line handed on whole would be copied before it is known to be
-// wrong: its part from the first byte on is not.
+// A line's places: the first refusal, with its field and byte. Sixteen are all places of any line. A line handed on whole would be
+// copied before it is known to be wrong: its part from the first byte on is not.
 pub fn judge_places(day: u64, kind: u64, t: LineType, s: &[u8]) -> Answer
     ensures { λ r. ⌜ r ≡ placesAnswer day kind t (now (s .entry)) ⌝ }
 {
-    if is_right_order(kind, t, s) {
+    let from = right_to(kind, t, s);
+    if from == 16 {
         return Answer::Accepted;
     }
-    judge_in_order(day, kind, t, &s[0..])
+    judge_from(day, kind, t, from, &s[0..])
 }

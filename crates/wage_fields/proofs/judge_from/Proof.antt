@@ -1,28 +1,31 @@
--- `wage_fields::judge_in_order` meets its contract. The loop's invariant: the answer is that of the places from `k` on.
--- Assumes nothing.
+-- `wage_fields::judge_from` meets its contract. The loop's invariant: the answer is that of the places from `k` on; it holds at
+-- first, since those before are accepted. Assumes nothing.
 use Prim.Native.Nat.{_≤_, _-_}
-use mathlib.Core.Path.{_≡_, refl, sym, _∙_}
+use mathlib.Core.Path.{_≡_, sym, _∙_}
 use native.Mathlib.Omega.{arith}
 use borrow.Author.Needs.{needs}
 use lib.ListN.{drop}
 use Rattle.wage_line.specs.Places.{spots}
 use Rattle.wage_fields.specs.Rules.{placesFrom, placesAnswer}
-use Rattle.wage_fields.proofs.Laws.{places-on, places-stop, places-end}
-use Rattle.wage_fields.proofs.judge_in_order.Statement.{statement}
-use Rattle.wage_fields.proofs.judge_in_order.Tie as tie
+use Rattle.wage_fields.proofs.Laws.{places-after, places-on, places-stop, places-end}
+use Rattle.wage_fields.proofs.judge_from.Statement.{statement}
+use Rattle.wage_fields.proofs.judge_from.Tie as tie
 
 abbrev Inv-places : tie.InvT-places
-Inv-places day kind t s n k₀ k = (k ≤ n) × (placesAnswer day kind t s ≡ placesFrom day kind t (drop k (spots t)) s)
+Inv-places day kind t from s n k₀ k = (k ≤ n) × (placesAnswer day kind t s ≡ placesFrom day kind t (drop k (spots t)) s)
 
 abbrev μ-places : tie.MeasureT-places
-μ-places day kind t s n k₀ k = n - k
+μ-places day kind t from s n k₀ k = n - k
 
 count-requires : tie.Need-count-requires Inv-places μ-places
 count-requires c κs = tt
 
 places-holds : tie.Need-places-holds Inv-places μ-places
 unfolding placesAnswer
-places-holds c = (omega arith, refl)
+places-holds c =
+    let a = c .before .before .args in
+    let known = c .before .before .pre in
+    (omega (arith, known .0, c .count .ensures), places-after (a .day) (a .kind) (a .t) (a .s .now) (a .from) (spots (a .t)) (known .1))
 
 judge-place-requires : tie.Need-judge-place-requires Inv-places μ-places
 judge-place-requires c κs = tt
@@ -57,8 +60,8 @@ returns-2 c =
     let l = c .before .before .before .before .before .places in
     places-stop (a .day) (a .kind) (a .t) (a .s .now) (l .k) (c .before .r .given .0 .0) (omega (arith, c .before .before .before .before .before .before .count .ensures)) (sym (c .before .before .before .judge-place .ensures) ∙ c .before .r .given .1) ∙ sym (l .inv .1)
 
-pub judge-in-order-spec : {M : Type 1} → statement M
-judge-in-order-spec =
+pub judge-from-spec : {M : Type 1} → statement M
+judge-from-spec =
     tie.close
     (tie.spec
     Inv-places
