@@ -17,7 +17,7 @@ use Rattle.text.specs.Split.{longer, split}
 use Rattle.reference.specs.Parts.{partsOf, partsFit, formed, groupsRight}
 use Rattle.reference.specs.Groups.{afterHyphens, groupsHold}
 use Rattle.reference.specs.Answers.{obeys}
-use Rattle.reference.proofs.Laws.{formed-groups}
+use Rattle.reference.proofs.Stretches.{formed-groups}
 
 -- ---------------------------------------------------------------------------
 -- The shape

@@ -1,5 +1,5 @@
 -- A check group as a stretch of the text, hyphens and all: it mirrors src/, and is what a listing asks of each filling. Where the text
--- is formed, proofs/Laws.antt says that it is `groupsRight` of Parts.antt.
+-- is formed, proofs/Stretches.antt says that it is `groupsRight` of Parts.antt.
 use Prim.Native.Nat.{ℕ, zero, suc, _-_}
 use mathlib.Core.Bool.{Bool, true, cond, _&&_}
 use mathlib.Core.List.{List, [], _∷_}

@@ -1,4 +1,4 @@
--- How the digit reader and the part reader go through a reference: it mirrors src/, and proofs/Laws.antt leads from it to `formed`
+-- How the digit reader and the part reader go through a reference: it mirrors src/, and proofs/Sizes.antt leads from it to `formed`
 -- of Parts.antt. What is read is the sizes of the parts as one number, a digit of base 256 for each, and 0 where one does not fit. No
 -- contract of a public call cites it.
 use Prim.Native.Nat.{ℕ, _+_, _*_, _/_, _%_, _≤_, _<_}

@@ -11,7 +11,7 @@ use borrow.Author.Tests.{lt-ltb, le-ltb}
 use Rattle.text.proofs.Laws.{left, entered, to-the-end}
 use Rattle.text.specs.Bytes.{beforeBlank}
 use Rattle.reference.specs.Readers.{digitRead}
-use Rattle.reference.proofs.Laws.{fits-lengths, room-for, room-left, last-reads, blank-reads, hyphen-fits, hyphen-breaks, digit-reads, other-breaks}
+use Rattle.reference.proofs.Readers.{fits-lengths, room-for, room-left, last-reads, blank-reads, hyphen-fits, hyphen-breaks, digit-reads, other-breaks}
 use borrow.Fn.Kinds.{In}
 use borrow.Fn.PlainCycle.{Measures, is, falls, and}
 use Rattle.reference.proofs.digit.Reads as digit

@@ -1,7 +1,7 @@
 -- `reference::after` meets its contract: with fewer hyphens there is no place, and else the one that is known or sought. Assumes nothing.
 use borrow.Author.Needs.{needs}
 use Rattle.reference.specs.Groups.{afterHyphens}
-use Rattle.reference.proofs.Laws.{after-few, after-many}
+use Rattle.reference.proofs.Places.{after-few, after-many}
 use Rattle.reference.proofs.after.Statement.{statement}
 use Rattle.reference.proofs.after.Tie as tie
 

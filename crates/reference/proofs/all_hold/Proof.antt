@@ -1,6 +1,6 @@
 -- `reference::all_hold` meets its contract. The loop's invariant: the groups hold where those from `i` on do. Assumes nothing.
 use Rattle.models.specs.Models.{noGroup}
-use Rattle.reference.proofs.Laws.{groups-on, groups-stop, groups-end}
+use Rattle.reference.proofs.Places.{groups-on, groups-stop, groups-end}
 use Prim.Native.Nat.{_≤_, _-_}
 use mathlib.Core.Path.{_≡_, refl, sym, _∙_}
 use native.Mathlib.Omega.{arith}

@@ -6,7 +6,7 @@ use native.Mathlib.Omega.{arith}
 use native.Mathlib.Nat.{zero-add}
 use lib.ListN.{length, drop}
 use Rattle.reference.specs.Groups.{hyphensIn}
-use Rattle.reference.proofs.Laws.{hyphens-more, hyphens-same, hyphens-end}
+use Rattle.reference.proofs.Places.{hyphens-more, hyphens-same, hyphens-end}
 use Rattle.reference.proofs.count_hyphens.Statement.{statement}
 use Rattle.reference.proofs.count_hyphens.Tie as tie
 

@@ -5,7 +5,7 @@ use native.Mathlib.Omega.{arith}
 use borrow.Author.Needs.{needs}
 use Rattle.text.proofs.Laws.{taken, left}
 use Rattle.reference.specs.Readers.{digitRead}
-use Rattle.reference.proofs.Laws.{room-for}
+use Rattle.reference.proofs.Readers.{room-for}
 use Rattle.reference.proofs.ended.Statement.{statement}
 use Rattle.reference.proofs.ended.Tie as tie
 

@@ -3,7 +3,7 @@
 use mathlib.Core.Path.{sym, ap, _∙_}
 use native.Mathlib.Omega.{arith}
 use Rattle.reference.specs.Groups.{heldFrom}
-use Rattle.reference.proofs.Laws.{found-within, ends-above, group-empty, group-ended, group-last}
+use Rattle.reference.proofs.Places.{found-within, ends-above, group-empty, group-ended, group-last}
 use borrow.Author.Needs.{needs}
 use Rattle.reference.proofs.group_holds.Statement.{statement}
 use Rattle.reference.proofs.group_holds.Tie as tie

@@ -5,7 +5,8 @@ use Prim.Native.Nat.{_≤_}
 use native.Mathlib.Omega.{arith}
 use lib.ListN.{length}
 use borrow.Author.Needs.{needs}
-use Rattle.reference.proofs.Laws.{formed-none, Bytes, none-before, extent-formed}
+use Rattle.reference.proofs.Readers.{formed-none, Bytes}
+use Rattle.reference.proofs.Blanks.{none-before, extent-formed}
 use Rattle.reference.proofs.is_formed.Statement.{statement}
 use Rattle.reference.proofs.is_formed.Tie as tie
 

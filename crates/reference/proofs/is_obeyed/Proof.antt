@@ -8,7 +8,8 @@ use borrow.Author.Tests.{eq-eqb, ne-eqb, not-true, not-false}
 use Rattle.text.specs.Bytes.{allOf}
 use Rattle.text.specs.declared.Class.the-variants.{Blanks}
 use Rattle.text.proofs.Laws.{to-the-end, and-first, and-second}
-use Rattle.reference.proofs.Laws.{Bytes, none-accepted, extent-within, extent-refused, behind-refused, extent-between, extent-accepted}
+use Rattle.reference.proofs.Readers.{Bytes}
+use Rattle.reference.proofs.Blanks.{none-accepted, extent-within, extent-refused, behind-refused, extent-between, extent-accepted}
 use borrow.Author.Needs.{needs}
 use Rattle.reference.proofs.is_obeyed.Statement.{statement}
 use Rattle.reference.proofs.is_obeyed.Tie as tie

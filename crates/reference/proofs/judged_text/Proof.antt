@@ -9,7 +9,10 @@ use borrow.Author.Tests.{lt-leb, eq-eqb, ne-eqb}
 use Rattle.text.specs.Bytes.{firstBad}
 use Rattle.text.specs.declared.Class.the-variants.{Reference}
 use Rattle.text.proofs.Laws.{taken, left}
-use Rattle.reference.proofs.Laws.{Bytes, none-before, part-unformed, whole-found, whole-formed, found-between, empty-text, unformed-text, formed-text, short-text}
+use Rattle.reference.proofs.Readers.{Bytes}
+use Rattle.reference.proofs.Sizes.{found-between}
+use Rattle.reference.proofs.Laws.{empty-text, unformed-text, formed-text, short-text}
+use Rattle.reference.proofs.Blanks.{none-before, part-unformed, whole-found, whole-formed}
 use borrow.Author.Needs.{needs}
 use Rattle.reference.proofs.judged_text.Statement.{statement}
 use Rattle.reference.proofs.judged_text.Tie as tie

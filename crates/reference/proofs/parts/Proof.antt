@@ -7,7 +7,8 @@ use Prim.Native.Nat.{_≤_}
 use borrow.Author.Needs.{needs}
 use Rattle.text.specs.Bytes.{beforeBlank}
 use Rattle.text.proofs.Laws.{taken, left}
-use Rattle.reference.proofs.Laws.{Bytes, found-read, read-none}
+use Rattle.reference.proofs.Readers.{Bytes}
+use Rattle.reference.proofs.Sizes.{found-read, read-none}
 use Rattle.reference.proofs.parts.Statement.{statement}
 use Rattle.reference.proofs.parts.Tie as tie
 

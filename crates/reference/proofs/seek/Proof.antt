@@ -6,7 +6,7 @@ use native.Mathlib.Omega.{arith}
 use lib.ListN.{length, drop}
 use Rattle.text.proofs.Laws.{shifted, shifted-zero}
 use Rattle.reference.specs.Groups.{afterHyphens}
-use Rattle.reference.proofs.Laws.{after-none, after-hyphen, after-other, after-end}
+use Rattle.reference.proofs.Places.{after-none, after-hyphen, after-other, after-end}
 use Rattle.reference.proofs.seek.Statement.{statement}
 use Rattle.reference.proofs.seek.Tie as tie
 
