@@ -17,7 +17,7 @@ use Rattle.text.specs.declared.Class.the-variants.{Digits}
 use Rattle.text.specs.declared.Found.{Found}
 use Rattle.text.specs.declared.Found.the-variants.{At, Nothing}
 use Rattle.text.proofs.Laws.{isNothing, all-of-nothing}
-use Rattle.check_digits.specs.declared.Told.{Told}
+use Rattle.check_digits.specs.declared.Verdict.{Verdict}
 use Rattle.account.specs.Account.{ibanFormed, ibanPasses, oibPasses}
 use Rattle.account.specs.Answers.{isIban, ibanCheckAnswer, ibanAnswer, oibTold, oibFrom, oibAnswer}
 
@@ -72,5 +72,5 @@ iban-formed-only s = defined-only (ibanFormed s)
 pub oib-passes-only : (s : List ℕ) → Only (λ (r : Bool). r ≡ oibPasses s)
 oib-passes-only s = defined-only (oibPasses s)
 
-pub read-oib-only : (s : List ℕ) → Only (λ (r : Told). r ≡ oibTold s)
+pub read-oib-only : (s : List ℕ) → Only (λ (r : Verdict). r ≡ oibTold s)
 read-oib-only s = defined-only (oibTold s)

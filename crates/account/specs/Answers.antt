@@ -8,13 +8,12 @@ use Rattle.refusal.specs.Refusal.{none, byteAt}
 use Rattle.refusal.specs.declared.Answer.{Answer}
 use Rattle.refusal.specs.declared.Answer.the-variants.{Accepted, Refused}
 use Rattle.refusal.specs.declared.Refusal.the-variants.{Length, Form, Check}
-use Rattle.text.specs.Bytes.{firstBad, allOf}
-use Rattle.text.specs.declared.Class.the-variants as class
+use Rattle.text.specs.Bytes.{firstBad}
 use Rattle.text.specs.declared.Class.the-variants.{Digits, Account}
 use Rattle.text.specs.declared.Found.{Found}
 use Rattle.text.specs.declared.Found.the-variants.{At, Nothing}
-use Rattle.check_digits.specs.declared.Told.{Told}
-use Rattle.check_digits.specs.declared.Told.the-variants.{Wrong, Zeros, Failing, Passing}
+use Rattle.check_digits.specs.Answers.{toldFrom}
+use Rattle.check_digits.specs.declared.Verdict.{Verdict}
 use Rattle.account.specs.Account.{ibanFormed, ibanPasses, oibPasses}
 
 -- an IBAN's text that is accepted
@@ -34,13 +33,9 @@ ibanFrom s Nothing = cond (eqb (length s) 21) (ibanCheckAnswer s) (Refused (Leng
 abbrev pub ibanAnswer : List ℕ → Answer
 ibanAnswer s = ibanFrom s (firstBad Account s)
 
--- what an OIB's digits come to, where a scan found nothing else among them: zeros alone, or whether they pass
-abbrev pub oibToldFrom : List ℕ → Found → Told
-oibToldFrom s (At i) = Wrong i
-oibToldFrom s Nothing = cond (allOf class.Zeros s) Zeros (cond (oibPasses s) Passing Failing)
-
-abbrev pub oibTold : List ℕ → Told
-oibTold s = oibToldFrom s (firstBad Digits s)
+-- what an OIB's digits come to
+abbrev pub oibTold : List ℕ → Verdict
+oibTold s = toldFrom (oibPasses s) s (firstBad Digits s)
 
 -- 3 with its byte, then 4, then 6
 abbrev pub oibFrom : List ℕ → Found → Answer

@@ -11,7 +11,7 @@ ghost use Rattle.text.specs.Digits.{digitsOf, valueOf};
 ghost use Rattle.account.specs.Account.{ibanFormed, ibanPasses, oibPasses};
 ghost use Rattle.account.specs.Answers.{isIban, ibanCheckAnswer, ibanAnswer, oibTold, oibAnswer};
 use check_digits::Rule;
-use check_digits::Told;
+use check_digits::Verdict;
 use refusal::Answer;
 use refusal::Place;
 use refusal::Refusal;
@@ -151,10 +151,10 @@ pub fn oib_passes(s: &[u8]) -> bool
 }
 
 // What an OIB's digits come to, in one pass: `oib_passes`, and whether they are digits, or zeros alone.
-pub fn read_oib(s: &[u8]) -> Told
+pub fn read_oib(s: &[u8]) -> Verdict
     ensures { λ r. ⌜ r ≡ oibTold (now (s .entry)) ⌝ }
 {
-    check_digits::tell(Rule::Mod1110, s)
+    check_digits::told(Rule::Mod1110, s)
 }
 
 // An OIB: 3 with its byte, 4, 6.

@@ -19,7 +19,7 @@ use Rattle.text.specs.Digits.{digitsOf, valueFrom}
 use Rattle.check_digits.specs.declared.Rule.{Rule}
 use Rattle.check_digits.specs.declared.Rule.the-variants.{Ini, Mod1110}
 use Rattle.check_digits.specs.declared.Run.{Run}
-use Rattle.check_digits.specs.declared.Told.the-variants as told
+use Rattle.check_digits.specs.declared.Verdict.the-variants as told
 use Rattle.check_digits.specs.CheckDigit.{weighted, carry, carriedOver, checkDigit, digitFor, tenForZero, passes}
 use Rattle.check_digits.specs.Answers.{sized, toldOf}
 use Rattle.check_digits.specs.Run.{Small, startOf, stepOf, readOf, runOf, digitOf, lastTold}

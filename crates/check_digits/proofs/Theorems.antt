@@ -17,7 +17,7 @@ use Rattle.text.specs.Digits.{digitsOf, valueFrom}
 use Rattle.check_digits.specs.declared.Rule.{Rule}
 use Rattle.check_digits.specs.declared.Rule.the-variants.{Ini, Mod1110}
 use Rattle.check_digits.specs.declared.Made.{Made}
-use Rattle.check_digits.specs.declared.Told.{Told}
+use Rattle.check_digits.specs.declared.Verdict.{Verdict}
 use Rattle.check_digits.specs.CheckDigit.{checkDigit, digitFor, remainder, passes}
 use Rattle.check_digits.specs.Answers.{checkAnswer, makeAnswer, toldOf}
 
@@ -69,8 +69,8 @@ check-digit-only rule s = defined-only (checkDigit rule (digitsOf s))
 pub ends-right-only : (rule : Rule) (s : List ℕ) → Only (λ (r : Bool). r ≡ passes rule s)
 ends-right-only rule s = defined-only (passes rule s)
 
-pub tell-only : (rule : Rule) (s : List ℕ) → Only (λ (r : Told). r ≡ toldOf rule s)
-tell-only rule s = defined-only (toldOf rule s)
+pub told-only : (rule : Rule) (s : List ℕ) → Only (λ (r : Verdict). r ≡ toldOf rule s)
+told-only rule s = defined-only (toldOf rule s)
 
 pub remainder97-only : (before : ℕ) (s : List ℕ) → Only (λ (r : ℕ). r ≡ valueFrom before (digitsOf s) % 97)
 remainder97-only before s = defined-only (valueFrom before (digitsOf s) % 97)

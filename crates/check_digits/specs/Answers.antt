@@ -17,8 +17,8 @@ use Rattle.text.specs.declared.Found.the-variants.{At, Nothing}
 use Rattle.check_digits.specs.declared.Rule.{Rule}
 use Rattle.check_digits.specs.declared.Made.{Made}
 use Rattle.check_digits.specs.declared.Made.the-variants as made
-use Rattle.check_digits.specs.declared.Told.{Told}
-use Rattle.check_digits.specs.declared.Told.the-variants.{Wrong, Zeros, Failing, Passing}
+use Rattle.check_digits.specs.declared.Verdict.{Verdict}
+use Rattle.check_digits.specs.declared.Verdict.the-variants.{Wrong, Zeros, Failing, Passing}
 use Rattle.check_digits.specs.CheckDigit.{checkDigit, passes}
 
 -- a size of a to b
@@ -44,10 +44,10 @@ makeAnswer rule s =
     (made.Refused (Size none))
 
 -- "Numeric fields are digits only (else 3), zeros for absent": what digits that end in their check digit come to, where a scan found
--- nothing else among them
-abbrev pub toldFrom : Rule → List ℕ → Found → Told
-toldFrom rule s (At i) = Wrong i
-toldFrom rule s Nothing = cond (allOf class.Zeros s) Zeros (cond (passes rule s) Passing Failing)
+-- nothing else among them, and whether they pass
+abbrev pub toldFrom : Bool → List ℕ → Found → Verdict
+toldFrom pass s (At i) = Wrong i
+toldFrom pass s Nothing = cond (allOf class.Zeros s) Zeros (cond pass Passing Failing)
 
-abbrev pub toldOf : Rule → List ℕ → Told
-toldOf rule s = toldFrom rule s (firstBad Digits s)
+abbrev pub toldOf : Rule → List ℕ → Verdict
+toldOf rule s = toldFrom (passes rule s) s (firstBad Digits s)

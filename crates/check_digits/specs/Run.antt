@@ -9,8 +9,8 @@ use Rattle.check_digits.specs.CheckDigit.{carry, digitFor}
 use Rattle.check_digits.specs.declared.Rule.{Rule}
 use Rattle.check_digits.specs.declared.Rule.the-variants.{Ini, Mod1110}
 use Rattle.check_digits.specs.declared.Run.{Run}
-use Rattle.check_digits.specs.declared.Told.{Told}
-use Rattle.check_digits.specs.declared.Told.the-variants.{Zeros, Failing, Passing}
+use Rattle.check_digits.specs.declared.Verdict.{Verdict}
+use Rattle.check_digits.specs.declared.Verdict.the-variants.{Zeros, Failing, Passing}
 
 -- both numbers stay below 11
 abbrev pub Small : Run → Type 0
@@ -36,5 +36,5 @@ digitOf Ini run = digitFor Ini ((run .sum + run .sums) % 11)
 digitOf Mod1110 run = digitFor Mod1110 (run .sum)
 
 -- what a digit tells as the last, after others and whether they are zeros
-abbrev pub lastTold : Rule → Run → Bool → ℕ → Told
+abbrev pub lastTold : Rule → Run → Bool → ℕ → Verdict
 lastTold rule run zeros b = cond (zeros && eqb b 48) Zeros (cond (eqb b (48 + digitOf rule run)) Passing Failing)

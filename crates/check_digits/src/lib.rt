@@ -27,7 +27,7 @@ pub enum Made {
 }
 
 // What digits that end in their check digit come to: the place of a byte that is no digit, zeros alone, or whether they pass.
-pub enum Told {
+pub enum Verdict {
     Wrong(usize),
     Zeros,
     Failing,
@@ -163,22 +163,22 @@ pub fn ends_right(rule: Rule, s: &[u8]) -> bool
 }
 
 // What the last byte tells, after the digits before it and whether they are zeros.
-fn last_told(rule: Rule, run: Run, zeros: bool, b: u8) -> Told
+fn last_told(rule: Rule, run: Run, zeros: bool, b: u8) -> Verdict
     requires { ⌜ Small run ⌝ }
     ensures { λ r. ⌜ r ≡ lastTold rule run zeros b ⌝ }
 {
     let d = digit_for(rule, run);
     if zeros & (b == 48) {
-        return Told::Zeros;
+        return Verdict::Zeros;
     }
     if b == 48 + d {
-        return Told::Passing;
+        return Verdict::Passing;
     }
-    Told::Failing
+    Verdict::Failing
 }
 
 // What a text's digits come to, in one pass; with no byte there are zeros alone.
-pub fn tell(rule: Rule, s: &[u8]) -> Told
+pub fn told(rule: Rule, s: &[u8]) -> Verdict
     ensures { λ r. ⌜ r ≡ toldOf rule (now (s .entry)) ⌝ }
 {
     let n = s.len();
@@ -188,7 +188,7 @@ pub fn tell(rule: Rule, s: &[u8]) -> Told
     while i < n {
         let b = s[i];
         if !text::is_digit(b) {
-            return Told::Wrong(i);
+            return Verdict::Wrong(i);
         }
         if i == n - 1 {
             return last_told(rule, run, zeros, b);
@@ -197,7 +197,7 @@ pub fn tell(rule: Rule, s: &[u8]) -> Told
         run = step(rule, run, (b - 48) as u64);
         i += 1;
     }
-    Told::Zeros
+    Verdict::Zeros
 }
 
 // One more byte of a number that is kept as it is while it is small, and over 97 where it grows; what is no digit is

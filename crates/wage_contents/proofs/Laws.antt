@@ -21,11 +21,12 @@ use Rattle.text.specs.declared.Class.the-variants.{Digits, Reference, Blanks, Z
 use Rattle.text.specs.declared.Found.{Found}
 use Rattle.text.specs.declared.Found.the-variants.{At, Nothing}
 use Rattle.text.specs.Digits.{twoDigits}
-use Rattle.check_digits.specs.declared.Told.{Told}
-use Rattle.check_digits.specs.declared.Told.the-variants as told
-use Rattle.check_digits.specs.declared.Told.the-variants.{Failing, Passing}
+use Rattle.check_digits.specs.declared.Verdict.{Verdict}
+use Rattle.check_digits.specs.declared.Verdict.the-variants as told
+use Rattle.check_digits.specs.declared.Verdict.the-variants.{Failing, Passing}
 use Rattle.account.specs.Account.{ibanFormed, ibanPasses, oibPasses}
-use Rattle.account.specs.Answers.{ibanCheckAnswer, oibToldFrom, oibTold}
+use Rattle.check_digits.specs.Answers.{toldFrom}
+use Rattle.account.specs.Answers.{ibanCheckAnswer, oibTold}
 use Rattle.sums.specs.Sums.{readFrom, readIn}
 use Rattle.sums.specs.declared.Reading.the-variants.{Number, Wrong}
 use Rattle.models.specs.Models.{modelNumber, modelOf, modelFrom}
@@ -99,14 +100,14 @@ first-of-none (b ∷ f) e = absurd (omega arith)
 -- An OIB's place
 
 -- what a place answers by what its digits come to
-abbrev pub toldAnswer : Bool → Told → Answer
+abbrev pub toldAnswer : Bool → Verdict → Answer
 toldAnswer absent (told.Wrong i) = byteAt i
 toldAnswer absent told.Zeros = onlyIf absent (Form none)
 toldAnswer absent Failing = Refused (Check none)
 toldAnswer absent Passing = Accepted
 
 -- that is what the place is defined to answer: t is what was told of it
-pub told-oib : (absent : Bool) (f : List ℕ) (t : Told) → t ≡ oibTold f → toldAnswer absent t ≡ oibPlaceAnswer absent f
+pub told-oib : (absent : Bool) (f : List ℕ) (t : Verdict) → t ≡ oibTold f → toldAnswer absent t ≡ oibPlaceAnswer absent f
 unfolding oibPlaceAnswer bytesAnswer
 told-oib absent f t e = rw e (go (firstBad Digits f))
   where
@@ -115,7 +116,7 @@ told-oib absent f t e = rw e (go (firstBad Digits f))
     by-tests false true = refl
     by-tests false false = refl
 
-    go : (x : Found) → toldAnswer absent (oibToldFrom f x) ≡ andThen (found x) (cond (allOf Zeros f) (onlyIf absent (Form none)) (onlyIf (oibPasses f) (Check none)))
+    go : (x : Found) → toldAnswer absent (toldFrom (oibPasses f) f x) ≡ andThen (found x) (cond (allOf Zeros f) (onlyIf absent (Form none)) (onlyIf (oibPasses f) (Check none)))
     go (At i) = refl
     go Nothing = by-tests (allOf Zeros f) (oibPasses f)
 

@@ -12,7 +12,7 @@ ghost use Rattle.text.specs.Bytes.{allOf, trimmed};
 ghost use Rattle.account.specs.Answers.{ibanCheckAnswer};
 ghost use Rattle.codes.specs.Codes.{codePlace};
 ghost use Rattle.wage_contents.specs.Contents.{bytesAnswer, amongAnswer, oibPlaceAnswer, twoOfThree, employerAnswer, todayAnswer, laterAnswer, ibanPlaceAnswer, currencyAnswer, purposePlaceAnswer, signAnswer, modelPlaceAnswer, unmodelledAnswer, referencePlaceAnswer, descriptionAnswer, isFound, codeAnswer};
-use check_digits::Told;
+use check_digits::Verdict;
 use refusal::Answer;
 use refusal::Place;
 use refusal::Refusal;
@@ -81,15 +81,15 @@ pub fn judge_oib(absent: bool, f: &[u8]) -> Answer
     ensures { λ r. ⌜ r ≡ oibPlaceAnswer absent (now (f .entry)) ⌝ }
 {
     match account::read_oib(f) {
-        Told::Wrong(i) => wrong_byte(i),
-        Told::Zeros => {
+        Verdict::Wrong(i) => wrong_byte(i),
+        Verdict::Zeros => {
             if absent {
                 return Answer::Accepted;
             }
             form()
         }
-        Told::Failing => Answer::Refused(Refusal::Check(refusal::nowhere())),
-        Told::Passing => Answer::Accepted,
+        Verdict::Failing => Answer::Refused(Refusal::Check(refusal::nowhere())),
+        Verdict::Passing => Answer::Accepted,
     }
 }
 

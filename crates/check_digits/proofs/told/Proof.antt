@@ -1,4 +1,4 @@
--- `check_digits::tell` meets its contract. The loop's invariant: what was read is what the first `i` bytes come to, zeros are the test so far
+-- `check_digits::told` meets its contract. The loop's invariant: what was read is what the first `i` bytes come to, zeros are the test so far
 -- and that of what is left from `i` on, and the scan's answer is that of what is left. Assumes nothing.
 use Prim.Native.Nat.{_+_, _-_, _≤_}
 use mathlib.Core.Path.{_≡_, refl, sym, ap, _∙_}
@@ -11,10 +11,11 @@ use Rattle.text.specs.declared.Class.the-variants.{Digits, Zeros}
 use Rattle.text.proofs.Laws.{shifted, shifted-zero, scan-on, scan-stops, scan-ends, tested-on, tested-all, digit-bounds}
 use Rattle.check_digits.specs.Run.{Small, startOf, stepOf, runOf}
 use Rattle.check_digits.specs.declared.Run.{Run}
+use Rattle.check_digits.specs.CheckDigit.{passes}
 use Rattle.check_digits.specs.Answers.{toldFrom}
 use Rattle.check_digits.proofs.Laws.{start-small, step-small, run-more, last-tells, nothing-told}
-use Rattle.check_digits.proofs.tell.Statement.{statement}
-use Rattle.check_digits.proofs.tell.Tie as tie
+use Rattle.check_digits.proofs.told.Statement.{statement}
+use Rattle.check_digits.proofs.told.Tie as tie
 
 abbrev Inv-loop : tie.InvT-loop
 Inv-loop rule s n run₀ zeros₀ i₀ run zeros i =
@@ -46,7 +47,7 @@ returns : tie.Need-returns Inv-loop μ-loop
 returns c =
     let a = c .before .before .before .before .before .before .before .args in
     let l = c .before .before .before .before .loop in
-    ap (toldFrom (a .rule) (a .s .now))
+    ap (toldFrom (passes (a .rule) (a .s .now)) (a .s .now))
     (scan-stops Digits (a .s .now) (l .i) (omega arith) (sym (c .before .is-digit .ensures) ∙ not-true _ (c .if1 .taken)) ∙ sym (l .inv .4))
 
 sub-if2 : tie.Need-sub-if2 Inv-loop μ-loop
@@ -104,8 +105,8 @@ loop-again c =
 returns-3 : tie.Need-returns-3 Inv-loop μ-loop
 returns-3 c = nothing-told (c .before .before .before .before .args .rule) (c .before .before .before .before .args .s .now) (omega arith)
 
-pub tell-spec : {M : Type 1} → statement M
-tell-spec =
+pub told-spec : {M : Type 1} → statement M
+told-spec =
     tie.close
     (tie.spec
     Inv-loop
