@@ -9,6 +9,8 @@ use native.Mathlib.Omega.{arith}
 use lib.Dec.{eqb}
 use lib.ListN.{length}
 use Rattle.refusal.specs.Only.{Only, defined-only}
+use Rattle.refusal.specs.Refusal.{Tells}
+use Rattle.refusal.proofs.Tells.{tells-only}
 use Rattle.refusal.specs.declared.Answer.{Answer}
 use Rattle.refusal.specs.declared.Answer.the-variants.{Accepted, Refused}
 use Rattle.refusal.specs.declared.Refusal.{Refusal}
@@ -54,11 +56,8 @@ oib-accepted-exactly s = rw (← all-of-nothing Digits s) (go (firstBad Digits s
 pub iban-only : (s : List ℕ) → Only (λ (r : Answer). r ≡ ibanAnswer s)
 iban-only s = defined-only (ibanAnswer s)
 
-pub iban-check-only : (s : List ℕ) → Only (λ (r : Answer). r ≡ ibanCheckAnswer s)
-iban-check-only s = defined-only (ibanCheckAnswer s)
-
-pub is-iban-only : (s : List ℕ) → Only (λ (r : Bool). r ≡ isIban s)
-is-iban-only s = defined-only (isIban s)
+pub tell-iban-only : (s : List ℕ) → Only (λ (r : ℕ). Tells r (ibanCheckAnswer s))
+tell-iban-only s = tells-only (ibanCheckAnswer s)
 
 pub iban-passes-only : (s : List ℕ) → Only (λ (r : Bool). r ≡ ibanPasses s)
 iban-passes-only s = defined-only (ibanPasses s)

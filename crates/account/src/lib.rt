@@ -9,11 +9,11 @@ ghost use lib.ListN.{length};
 ghost use Rattle.text.specs.Bytes.{allOf};
 ghost use Rattle.text.specs.Digits.{digitsOf, valueOf};
 ghost use Rattle.account.specs.Account.{ibanFormed, ibanPasses, oibPasses};
-ghost use Rattle.account.specs.Answers.{isIban, ibanCheckAnswer, ibanAnswer, oibTold, oibAnswer};
+ghost use Rattle.account.specs.Answers.{ibanCheckAnswer, ibanAnswer, oibTold, oibAnswer};
+ghost use Rattle.refusal.specs.Refusal.{Tells};
 use check_digits::Rule;
 use check_digits::Verdict;
 use refusal::Answer;
-use refusal::Place;
 use refusal::Refusal;
 use text::Class;
 use text::Found;
@@ -91,27 +91,17 @@ pub fn iban_passes(s: &[u8]) -> bool
     }
 }
 
-// Whether a text is an IBAN: its form, then its check.
-pub fn is_iban(s: &[u8]) -> bool
-    ensures { λ r. ⌜ r ≡ isIban (now (s .entry)) ⌝ }
+// An IBAN's form, then its check, told as a number: 5, 6.
+pub fn tell_iban(s: &[u8]) -> usize
+    ensures { λ r. ⌜ Tells r (ibanCheckAnswer (now (s .entry))) ⌝ }
 {
     if !is_iban_formed(s) {
-        return false;
-    }
-    formed_passes(s)
-}
-
-// 5 where a text has not an IBAN's form, then 6 where its check fails.
-pub fn iban_check(s: &[u8]) -> Answer
-    ensures { λ r. ⌜ r ≡ ibanCheckAnswer (now (s .entry)) ⌝ }
-{
-    if !is_iban_formed(s) {
-        return Answer::Refused(Refusal::Form(refusal::nowhere()));
+        return 5;
     }
     if !formed_passes(s) {
-        return Answer::Refused(Refusal::Check(refusal::nowhere()));
+        return 6;
     }
-    Answer::Accepted
+    0
 }
 
 // An IBAN, one rule after the other: 3 with its byte, 4, 5, 6.
@@ -119,16 +109,12 @@ fn judged(s: &[u8]) -> Answer
     ensures { λ r. ⌜ r ≡ ibanAnswer (now (s .entry)) ⌝ }
 {
     match text::first_bad(Class::Account, s) {
-        Found::At(i) => Answer::Refused(Refusal::Byte(Place {
-            line: 0,
-            field: 0,
-            byte: i,
-        })),
+        Found::At(i) => refusal::byte_at(i),
         Found::Nothing => {
             if s.len() != 21 {
                 return Answer::Refused(Refusal::Length(refusal::nowhere()));
             }
-            iban_check(s)
+            refusal::heard(tell_iban(s))
         }
     }
 }
@@ -137,7 +123,7 @@ fn judged(s: &[u8]) -> Answer
 pub fn iban(s: &[u8]) -> Answer
     ensures { λ r. ⌜ r ≡ ibanAnswer (now (s .entry)) ⌝ }
 {
-    if is_iban(s) {
+    if tell_iban(s) == 0 {
         return Answer::Accepted;
     }
     judged(s)
@@ -162,11 +148,7 @@ pub fn oib(s: &[u8]) -> Answer
     ensures { λ r. ⌜ r ≡ oibAnswer (now (s .entry)) ⌝ }
 {
     match text::first_bad(Class::Digits, s) {
-        Found::At(i) => Answer::Refused(Refusal::Byte(Place {
-            line: 0,
-            field: 0,
-            byte: i,
-        })),
+        Found::At(i) => refusal::byte_at(i),
         Found::Nothing => {
             if s.len() != 11 {
                 return Answer::Refused(Refusal::Length(refusal::nowhere()));

@@ -213,25 +213,7 @@ fn refusal_from(t: Told) -> Refusal
     };
     let needed = t.needed;
     let number = t.number;
-    match number {
-        1 => Refusal::Size(p),
-        2 => Refusal::Ends(p),
-        3 => Refusal::Byte(p),
-        4 => Refusal::Length(p),
-        5 => Refusal::Form(p),
-        6 => Refusal::Check(p),
-        7 => Refusal::Model(p),
-        8 => Refusal::Parts(p),
-        9 => Refusal::Digit(p),
-        10 => Refusal::Misplaced(p),
-        11 => Refusal::Date(p),
-        12 => Refusal::Orders(p),
-        13 => Refusal::Sum(p),
-        14 => Refusal::Unfinished(p),
-        15 => Refusal::Room(p, needed),
-        16 => Refusal::Marks(p),
-        _ => Refusal::Beyond(p),
-    }
+    refusal::made(number, p, needed)
 }
 
 // The condition that a number tells.

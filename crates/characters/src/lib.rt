@@ -6,7 +6,6 @@ ghost use Rattle.text.specs.Bytes.{isLetter};
 ghost use Rattle.characters.specs.Characters.{isSmallLetter, isSign, isSingle, afterC4, afterC5, isPair, isCompleted};
 ghost use Rattle.characters.specs.Answers.{textAnswer};
 use refusal::Answer;
-use refusal::Place;
 use refusal::Refusal;
 
 // Whether a byte is a letter, A to Z.
@@ -141,11 +140,7 @@ pub fn judge(most: usize, s: &[u8]) -> Answer
         } else {
             let second = i + 1;
             if !is_completed(s[i], s, second) {
-                return Answer::Refused(Refusal::Byte(Place {
-                    line: 0,
-                    field: 0,
-                    byte: i,
-                }));
+                return refusal::byte_at(i);
             }
             n += 1;
             i += 2;

@@ -1,8 +1,8 @@
 -- A text before its first blank: what the sizes of the parts found there say of the whole text, and of the text without the blanks at its end.
 -- Assumes nothing.
 use mathlib.Core.Path.{_≡_, refl, sym, ap, _∙_}
-use mathlib.Core.Bool.{Bool, true, false, _&&_, and-true, and-false, false≢true}
-use mathlib.Core.List.{List, []}
+use mathlib.Core.Bool.{Bool, true, false, false≢true}
+use mathlib.Core.List.{List}
 use Prim.Native.Nat.{ℕ, _-_, _≤_, _<_}
 use native.Mathlib.Omega.{arith}
 use lib.Dec.{eqb}
@@ -11,16 +11,18 @@ use borrow.Author.Tests.{eq-eqb, eqb-true}
 use Rattle.text.specs.Bytes.{allOf, firstBad, trimmed, beforeBlank}
 use Rattle.text.specs.declared.Class.the-variants.{Reference, Blanks}
 use Rattle.text.proofs.Laws.{isNothing, all-of-nothing}
-use Rattle.text.proofs.Blanks.{before-taken, before-shorter, before-whole, before-permitted, trimmed-blanks, trimmed-some, trimmed-before, trimmed-permitted}
+use Rattle.text.proofs.Blanks.{before-taken, before-shorter, before-whole, before-permitted, trimmed-blanks, trimmed-some, trimmed-before, trimmed-permitted, trimmed-bad}
 use Rattle.models.specs.declared.Model.{Model}
-use Rattle.refusal.specs.Refusal.{isAccepted}
+use Rattle.refusal.specs.Refusal.{none, byteAt}
+use Rattle.refusal.specs.declared.Answer.the-variants.{Refused}
+use Rattle.refusal.specs.declared.Refusal.the-variants.{Length}
 use Rattle.reference.specs.Parts.{formed}
 use Rattle.reference.specs.Readers.{partsFound, extentOf, hyphensBetween}
-use Rattle.reference.specs.Answers.{textAnswer}
-use Rattle.reference.specs.Groups.{hyphensOf, groupsHold}
+use Rattle.reference.specs.Answers.{groupsAnswer, textAnswer, bareOf, bareAnswer}
+use Rattle.reference.specs.Groups.{hyphensOf}
 use Rattle.reference.proofs.Readers.{Bytes}
 use Rattle.reference.proofs.Sizes.{some-formed, none-unformed, found-between, found-some, found-extent}
-use Rattle.reference.proofs.Laws.{formed-bytes, empty-accepted, long-refused, unformed-refused, formed-accepted}
+use Rattle.reference.proofs.Laws.{formed-bytes, empty-bare, unformed-bare, short-text, long-text}
 
 -- ---------------------------------------------------------------------------
 -- A text before its first blank
@@ -55,13 +57,13 @@ module _ (model : Model) (s : List ℕ) (n : ℕ) (e : n ≡ partsFound model (b
       refuted (formed model (trimmed s))
       (λ f. none-unformed model (trimmed s) (trimmed-some s h) n (e ∙ ap (partsFound model) (sym (trimmed-before s (formed-trimmed model s f)))) z)
 
-  -- so that is accepted of blanks alone, where the model asks no part
-  pub none-accepted : n ≡ 0 → (eqb (model .fewest) 0 && allOf Blanks s) ≡ isAccepted (textAnswer model (trimmed s) (firstBad Reference (trimmed s)))
-  none-accepted z = go (allOf Blanks s) refl
+  -- so it answers by its size without them
+  pub none-told : n ≡ 0 → textAnswer model (trimmed s) (firstBad Reference (trimmed s)) ≡ bareAnswer (model .fewest) (bareOf s)
+  none-told z = go (allOf Blanks s) refl
     where
-      go : (t : Bool) → allOf Blanks s ≡ t → (eqb (model .fewest) 0 && t) ≡ isAccepted (textAnswer model (trimmed s) (firstBad Reference (trimmed s)))
-      go true f = rw (and-true, trimmed-blanks s f) (empty-accepted model [] refl)
-      go false f = rw and-false (unformed-refused model (trimmed s) (none-trimmed f z) (firstBad Reference (trimmed s)))
+      go : (t : Bool) → allOf Blanks s ≡ t → textAnswer model (trimmed s) (firstBad Reference (trimmed s)) ≡ bareAnswer (model .fewest) (bareOf s)
+      go true f = rw (trimmed-blanks s f) (empty-bare model)
+      go false f = unformed-bare model (trimmed s) (none-trimmed f z) (trimmed-some s f) (firstBad Reference (trimmed s))
 
   -- some were found
   module _ (b : Bytes (model .lengths)) (l : length (model .lengths) ≤ 8) (g : n ≡ 0 → ⊥) (m : ℕ) (d : m ≡ extentOf n) where
@@ -69,11 +71,15 @@ module _ (model : Model) (s : List ℕ) (n : ℕ) (e : n ≡ partsFound model (b
     extent-before : m ≡ length (beforeBlank s)
     extent-before = d ∙ found-extent model b l (beforeBlank s) n e g
 
-    -- no more than the text has
+    -- those are formed
+    before-formed : formed model (beforeBlank s) ≡ true
+    before-formed = some-formed model (beforeBlank s) (found-some model (beforeBlank s) n e g) n e g
+
+    -- and no more than the text has
     pub extent-within : m ≤ length s
     extent-within = omega (arith, extent-before, before-shorter s)
 
-    -- those are the text's beginning, lent from place 0 on
+    -- they are the text's beginning, lent from place 0 on
     extent-taken : take (m - 0) s ≡ beforeBlank s
     extent-taken = let z : m - 0 ≡ length (beforeBlank s) = omega (arith, extent-before) in rw z (sym (before-taken s))
 
@@ -101,26 +107,19 @@ module _ (model : Model) (s : List ℕ) (n : ℕ) (e : n ≡ partsFound model (b
     extent-trimmed : allOf Blanks (drop m s) ≡ true → trimmed s ≡ beforeBlank s
     extent-trimmed f = trimmed-before s (rw extent-before at f)
 
-    -- with another byte behind them, that is not formed, and not accepted
-    pub behind-refused : allOf Blanks (drop m s) ≡ false → false ≡ isAccepted (textAnswer model (trimmed s) (firstBad Reference (trimmed s)))
-    behind-refused f =
-        unformed-refused model (trimmed s)
-        (refuted (formed model (trimmed s)) (λ i. absurd (false≢true (sym (rw extent-before at f) ∙ formed-trimmed model s i))))
-        (firstBad Reference (trimmed s))
+    -- with another byte behind them, it answers 3 with the first blank
+    pub behind-told : allOf Blanks (drop m s) ≡ false → textAnswer model (trimmed s) (firstBad Reference (trimmed s)) ≡ byteAt m
+    behind-told f =
+        ap (textAnswer model (trimmed s)) (trimmed-bad Reference refl s (formed-permitted model (beforeBlank s) before-formed) (rw extent-before at f)) ∙
+        ap byteAt (sym extent-before)
 
-    -- nor is it where they are over 22
-    pub extent-refused : 22 < m → false ≡ isAccepted (textAnswer model (trimmed s) (firstBad Reference (trimmed s)))
-    extent-refused h = go (allOf Blanks (drop m s)) refl
-      where
-        go : (t : Bool) → allOf Blanks (drop m s) ≡ t → false ≡ isAccepted (textAnswer model (trimmed s) (firstBad Reference (trimmed s)))
-        go true f = long-refused model (trimmed s) (rw (extent-trimmed f) (omega (arith, extent-before))) (firstBad Reference (trimmed s))
-        go false f = behind-refused f
+    -- over 22, and blanks alone behind them: 4
+    pub long-told : 22 < m → allOf Blanks (drop m s) ≡ true → textAnswer model (trimmed s) (firstBad Reference (trimmed s)) ≡ Refused (Length none)
+    long-told h f = rw (extent-trimmed f) (sym (long-text model (beforeBlank s) before-formed (omega (arith, extent-before))))
 
-    -- of 22 at most, and blanks alone behind them, it is where its groups hold
-    pub extent-accepted : m ≤ 22 → allOf Blanks (drop m s) ≡ true → groupsHold (model .groups) (take (m - 0) s) ≡ isAccepted (textAnswer model (trimmed s) (firstBad Reference (trimmed s)))
-    extent-accepted h f =
-        rw (extent-taken, extent-trimmed f)
-        (formed-accepted model (beforeBlank s) (some-formed model (beforeBlank s) (found-some model (beforeBlank s) n e g) n e g) (omega (arith, extent-before)))
+    -- of 22 at most, and blanks alone behind them: what its groups say
+    pub group-told : m ≤ 22 → allOf Blanks (drop m s) ≡ true → textAnswer model (trimmed s) (firstBad Reference (trimmed s)) ≡ groupsAnswer (model .groups) (take (m - 0) s)
+    group-told h f = rw (extent-taken, extent-trimmed f) (sym (short-text model (beforeBlank s) before-formed (omega (arith, extent-before))))
 
     -- where their hyphens stand
     pub extent-between : hyphensBetween n ≡ hyphensOf (take (m - 0) s)

@@ -6,10 +6,10 @@ use mathlib.Core.Bool.{Bool, true, false, cond, false≢true}
 use mathlib.Core.List.{List, [], _∷_}
 use Prim.Native.Nat.{ℕ, _≤_, _<_}
 use native.Mathlib.Omega.{arith}
-use lib.Dec.{eqb, leb}
+use lib.Dec.{eqb}
 use lib.ListN.{length}
 use lib.Seq.{drop-nil, take-nil}
-use borrow.Author.Tests.{eqb-true, lt-leb, le-leb}
+use borrow.Author.Tests.{eqb-true, ne-eqb, lt-leb, le-leb}
 use Rattle.text.specs.Bytes.{isDigit, allOf, firstBad}
 use Rattle.text.specs.declared.Class.the-variants.{Digits, Reference}
 use Rattle.text.specs.declared.Found.{Found}
@@ -17,14 +17,12 @@ use Rattle.text.specs.declared.Found.the-variants.{At, Nothing}
 use Rattle.text.proofs.Laws.{taken, left, entered, both-true}
 use Rattle.models.specs.declared.Group.{Group}
 use Rattle.models.specs.declared.Model.{Model}
-use Rattle.refusal.specs.Refusal.{none, isAccepted}
+use Rattle.refusal.specs.Refusal.{none}
 use Rattle.refusal.specs.declared.Answer.the-variants.{Accepted, Refused}
-use Rattle.refusal.specs.declared.Refusal.{Refusal}
-use Rattle.refusal.specs.declared.Refusal.the-variants.{Model as Unhandled, Parts as WrongParts, Digit}
+use Rattle.refusal.specs.declared.Refusal.the-variants.{Length, Model as Unhandled, Parts as WrongParts, Digit}
 use Rattle.text.specs.Split.{longer, split}
 use Rattle.reference.specs.Parts.{partsOf, partsFit, formed, groupRight, groupsRight}
-use Rattle.reference.specs.Answers.{groupsAnswer, obeyAnswer, unformedAnswer, textAnswer, modelAnswer}
-use Rattle.reference.specs.Groups.{groupsHold}
+use Rattle.reference.specs.Answers.{groupsAnswer, obeyAnswer, unformedAnswer, textAnswer, modelAnswer, bareFrom, bareAnswer}
 use Rattle.reference.proofs.Readers.{formed-none}
 use Rattle.reference.proofs.Stretches.{fit-first, formed-fit, formed-groups}
 
@@ -78,12 +76,25 @@ unfolding obeyAnswer firstBad partsOf
 empty-text model [] h = rw (formed-none model [] refl, groups-of-none (model .groups))
 empty-text model (b ∷ s) h = absurd (omega arith)
 
+-- the same by its size
+pub empty-bare : (model : Model) → textAnswer model [] (firstBad Reference []) ≡ bareAnswer (model .fewest) (bareFrom [] (firstBad Reference []))
+unfolding firstBad
+empty-bare model = sym (empty-text model [] refl)
+
 module _ (model : Model) (s : List ℕ) where
   -- not formed: 3, 4, then 8
   pub unformed-text : formed model s ≡ false → (f : Found) → unformedAnswer s f ≡ textAnswer model s f
   unfolding obeyAnswer
   unformed-text e (At i) = refl
   unformed-text e Nothing = rw e
+
+  -- the same by its size, of some bytes
+  pub unformed-bare : formed model s ≡ false → (length s ≡ 0 → ⊥) → (f : Found) → textAnswer model s f ≡ bareAnswer (model .fewest) (bareFrom s f)
+  unformed-bare e h f = sym (unformed-text e f) ∙ go f
+    where
+      go : (f : Found) → unformedAnswer s f ≡ bareAnswer (model .fewest) (bareFrom s f)
+      go (At i) = refl
+      go Nothing = rw (ne-eqb (length s) 0 h)
 
   module _ (e : formed model s ≡ true) where
     -- formed: what its groups say
@@ -99,6 +110,10 @@ module _ (model : Model) (s : List ℕ) where
     pub short-text : length s ≤ 22 → groupsAnswer (model .groups) s ≡ textAnswer model s (firstBad Reference s)
     short-text h = entered _ _ _ _ (le-leb _ _ h) formed-answer ∙ formed-text
 
+    -- and of more, 4
+    pub long-text : 22 < length s → Refused (Length none) ≡ textAnswer model s (firstBad Reference s)
+    long-text h = left _ _ _ _ (lt-leb _ _ h) refl ∙ formed-text
+
 -- ---------------------------------------------------------------------------
 -- Answers, by whether the model is handled
 
@@ -110,34 +125,3 @@ module _ (s : List ℕ) (m : Model) where
   -- under one that is, the text is judged
   pub handled-text : m .handled ≡ true → textAnswer m s (firstBad Reference s) ≡ modelAnswer s m
   handled-text e = taken (m .handled) (textAnswer m s (firstBad Reference s)) (Refused (Unhandled none)) e
-
--- ---------------------------------------------------------------------------
--- Whether a text is accepted
-
--- accepted or refused by a test
-accepted-by : (t : Bool) (r : Refusal) → t ≡ isAccepted (cond t Accepted (Refused r))
-accepted-by true r = refl
-accepted-by false r = refl
-
-module _ (model : Model) (s : List ℕ) where
-  -- an empty text is, where the model asks no part
-  pub empty-accepted : length s ≡ 0 → eqb (model .fewest) 0 ≡ isAccepted (textAnswer model s (firstBad Reference s))
-  empty-accepted h = accepted-by (eqb (model .fewest) 0) (WrongParts none) ∙ ap isAccepted (empty-text model s h)
-
-  -- over 22 bytes none is
-  pub long-refused : 22 < length s → (f : Found) → false ≡ isAccepted (textAnswer model s f)
-  long-refused h (At i) = refl
-  long-refused h Nothing = rw (lt-leb (length s) 22 h)
-
-  -- not formed, none is
-  pub unformed-refused : formed model s ≡ false → (f : Found) → false ≡ isAccepted (textAnswer model s f)
-  unformed-refused e f = go (leb (length s) 22) refl f ∙ ap isAccepted (unformed-text model s e f)
-    where
-      go : (t : Bool) → leb (length s) 22 ≡ t → (f : Found) → false ≡ isAccepted (unformedAnswer s f)
-      go t h (At i) = refl
-      go true h Nothing = rw h
-      go false h Nothing = rw h
-
-  -- formed and of 22 bytes at most, it is where its groups hold
-  pub formed-accepted : formed model s ≡ true → length s ≤ 22 → groupsHold (model .groups) s ≡ isAccepted (textAnswer model s (firstBad Reference s))
-  formed-accepted e h = accepted-by (groupsHold (model .groups) s) (Digit none) ∙ ap isAccepted (short-text model s e h)

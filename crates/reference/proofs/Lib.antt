@@ -5,6 +5,7 @@ pub mod Stretches
 pub mod Sizes
 pub mod Laws
 pub mod Blanks
+mod Onward
 pub mod Shape
 pub mod Theorems
 pub mod ByteWithin

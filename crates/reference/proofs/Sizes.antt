@@ -6,7 +6,6 @@ use mathlib.Core.Bool.{Bool, true, false, cond, not, _&&_, and-true, and-false, 
 use mathlib.Core.List.{List, [], _∷_}
 use Prim.Native.Nat.{ℕ, zero, suc, _+_, _*_, _-_, _/_, _%_, _≤_, _<_}
 use native.Mathlib.Omega.{arith}
-use native.Mathlib.Nat.{zero-add}
 use lib.Dec.{eqb, leb, ltb}
 use lib.ListN.{length}
 use borrow.Author.Tests.{eq-eqb, ne-eqb, lt-ltb, le-ltb, leb-true}
@@ -133,62 +132,84 @@ hyphens-among s =
     let n : length (split 45 s) - 1 ≡ hyphensIn s = omega (arith, pieces-hyphens s) in
     rw (n, ← (after-place 1 s), ← (after-place 2 s))
 
--- a number of base 256 tells how many digits it has, and with them where hyphens stand
-abbrev Tells : ℕ → ℕ → ℕ → ℕ → Type 0
-Tells n k x y = (partsIn n ≡ suc k) × (hyphensBetween n ≡ record { count = k; first = x; second = y })
+-- ---------------------------------------------------------------------------
+-- The extent of a text, by its parts
 
-one-tells : (a : ℕ) → a < 256 → Tells a 0 0 0
-one-tells a f = let t = lt-ltb a 256 f in (rw t, rw t)
+-- the lengths of parts, and one more for each
+unfoldable spanOf : List (List ℕ) → ℕ
+spanOf [] = 0
+spanOf (p ∷ ps) = suc (length p) + spanOf ps
 
-module _ (a b : ℕ) (f : 0 < a) (g : a < 256) (h : b < 256) (n : ℕ) where
-  two-tells : n ≡ a * 256 + b → (x : ℕ) → x ≡ a + 1 → Tells n 1 x 0
-  two-tells e x i =
-      let t = le-ltb n 256 (omega arith) in
-      let u = lt-ltb n 65536 (omega arith) in
-      let q : n / 256 ≡ a = omega arith in
-      (rw (t, u), rw (t, u, q, i))
+-- are those of the text and one
+parts-span : (s : List ℕ) → spanOf (split 45 s) ≡ suc (length s)
+unfolding split spanOf
+parts-span [] = refl
+parts-span (b ∷ s) = go (eqb b 45) (first-part s) (parts-span s)
+  where
+    go : (h : Bool) → (p : List ℕ) × (ps : List (List ℕ)) × (split 45 s ≡ p ∷ ps) → spanOf (split 45 s) ≡ suc (length s) → spanOf (cond h ([] ∷ split 45 s) (longer b (split 45 s))) ≡ suc (suc (length s))
+    go true w e = omega arith
+    go false w e = ap (λ (ps : List (List ℕ)). spanOf (longer b ps)) (w .2) ∙ longest (w .0) (w .1) ∙ ap suc (sym (ap spanOf (w .2)) ∙ e)
+      where
+        longest : (p : List ℕ) (ps : List (List ℕ)) → spanOf ((b ∷ p) ∷ ps) ≡ suc (spanOf (p ∷ ps))
+        longest p ps = omega arith
 
-  three-tells : (c : ℕ) → c < 256 → n ≡ (a * 256 + b) * 256 + c → (x y : ℕ) → x ≡ a + 1 → y ≡ a + 1 + b + 1 → Tells n 2 x y
-  three-tells c j e x y i k =
-      let t = le-ltb n 256 (omega arith) in
-      let u = le-ltb n 65536 (omega arith) in
-      let v = lt-ltb n 16777216 (omega arith) in
-      let q : n / 65536 ≡ a = omega arith in
-      let r : n / 256 % 256 ≡ b = omega arith in
-      (rw (t, u, v), rw (t, u, v, q, r, i, k))
+-- ---------------------------------------------------------------------------
+-- What the sizes tell
 
-  four-tells : (c d : ℕ) → c < 256 → d < 256 → n ≡ ((a * 256 + b) * 256 + c) * 256 + d → (x y : ℕ) → x ≡ a + 1 → y ≡ a + 1 + b + 1 → Tells n 3 x y
-  four-tells c d j l e x y i k =
-      let t = le-ltb n 256 (omega arith) in
-      let u = le-ltb n 65536 (omega arith) in
-      let v = le-ltb n 16777216 (omega arith) in
-      let q : n / 16777216 ≡ a = omega arith in
-      let r : n / 65536 % 256 ≡ b = omega arith in
-      (rw (t, u, v), rw (t, u, v, q, r, i, k))
+-- a number tells how many parts there are, where hyphens stand between them, and how long they are with these
+abbrev Reckoned : ℕ → List (List ℕ) → Type 0
+Reckoned n ps = (partsIn n ≡ length ps) × (hyphensBetween n ≡ hyphensAmong ps) × (suc (extentOf n) ≡ spanOf ps)
 
--- so the sizes of one to four parts do
-sizes-tell : (ps : List (List ℕ)) → Sized ps → 0 < length ps → length ps ≤ 4 → (partsIn (sizesFrom 0 ps) ≡ length ps) × (hyphensBetween (sizesFrom 0 ps) ≡ hyphensAmong ps)
-unfolding sizesFrom placeAfter shifted
-sizes-tell [] h g f = absurd (omega arith)
-sizes-tell (p ∷ []) h g f = rw (← (zero-add (length p))) at (one-tells (length p) (h .1))
-sizes-tell (p ∷ (q ∷ [])) h g f =
-    two-tells (length p) (length q) (h .0) (h .1) (h .2 .1) ((0 * 256 + length p) * 256 + length q) (omega arith) (suc (length p) + 0) (omega arith)
-sizes-tell (p ∷ (q ∷ (r ∷ []))) h g f =
-    three-tells (length p) (length q) (h .0) (h .1) (h .2 .1) (((0 * 256 + length p) * 256 + length q) * 256 + length r) (length r) (h .2 .2 .1) (omega arith) (suc (length p) + 0) (suc (length p) + (suc (length q) + 0)) (omega arith) (omega arith)
-sizes-tell (p ∷ (q ∷ (r ∷ (t ∷ [])))) h g f =
-    four-tells (length p) (length q) (h .0) (h .1) (h .2 .1) ((((0 * 256 + length p) * 256 + length q) * 256 + length r) * 256 + length t) (length r) (length t) (h .2 .2 .1) (h .2 .2 .2 .1) (omega arith) (suc (length p) + 0) (suc (length p) + (suc (length q) + 0)) (omega arith) (omega arith)
-sizes-tell (p ∷ (q ∷ (r ∷ (t ∷ (u ∷ ps))))) h g f = absurd (omega arith)
+-- the sizes of one to four parts do
+sizes-reckoned : (ps : List (List ℕ)) → Sized ps → 0 < length ps → length ps ≤ 4 → (n : ℕ) → n ≡ sizesFrom 0 ps → Reckoned n ps
+unfolding sizesFrom placeAfter shifted spanOf
+sizes-reckoned [] h g f n e = absurd (omega arith)
+sizes-reckoned (p ∷ []) h g f n e =
+    let within-one = lt-ltb n 256 (omega (arith, h .1)) in
+    (rw within-one, rw within-one, rw within-one (omega arith))
+sizes-reckoned (p ∷ (q ∷ [])) h g f n e =
+    let over-one = le-ltb n 256 (omega (arith, h .0)) in
+    let within-two = lt-ltb n 65536 (omega (arith, h .1, h .2 .1)) in
+    let a : n / 256 ≡ length p = omega (arith, h .2 .1) in
+    let b : n % 256 ≡ length q = omega (arith, h .2 .1) in
+    let x : suc (length p) + 0 ≡ length p + 1 = omega arith in
+    (rw (over-one, within-two), rw (over-one, within-two, a, x), rw (over-one, within-two, a, b) (omega arith))
+sizes-reckoned (p ∷ (q ∷ (r ∷ []))) h g f n e =
+    let over-one = le-ltb n 256 (omega (arith, h .0)) in
+    let over-two = le-ltb n 65536 (omega (arith, h .0)) in
+    let within-three = lt-ltb n 16777216 (omega (arith, h .1, h .2 .1, h .2 .2 .1)) in
+    let a : n / 65536 ≡ length p = omega (arith, h .2 .1, h .2 .2 .1) in
+    let b : n / 256 % 256 ≡ length q = omega (arith, h .2 .1, h .2 .2 .1) in
+    let c : n % 256 ≡ length r = omega (arith, h .2 .2 .1) in
+    let x : suc (length p) + 0 ≡ length p + 1 = omega arith in
+    let y : suc (length p) + (suc (length q) + 0) ≡ length p + 1 + length q + 1 = omega arith in
+    (rw (over-one, over-two, within-three), rw (over-one, over-two, within-three, a, b, x, y), rw (over-one, over-two, within-three, a, b, c) (omega arith))
+sizes-reckoned (p ∷ (q ∷ (r ∷ (t ∷ [])))) h g f n e =
+    let over-one = le-ltb n 256 (omega (arith, h .0)) in
+    let over-two = le-ltb n 65536 (omega (arith, h .0)) in
+    let over-three = le-ltb n 16777216 (omega (arith, h .0)) in
+    let a : n / 16777216 ≡ length p = omega (arith, h .2 .1, h .2 .2 .1, h .2 .2 .2 .1) in
+    let b : n / 65536 % 256 ≡ length q = omega (arith, h .2 .1, h .2 .2 .1, h .2 .2 .2 .1) in
+    let c : n / 256 % 256 ≡ length r = omega (arith, h .2 .2 .1, h .2 .2 .2 .1) in
+    let d : n % 256 ≡ length t = omega (arith, h .2 .2 .2 .1) in
+    let x : suc (length p) + 0 ≡ length p + 1 = omega arith in
+    let y : suc (length p) + (suc (length q) + 0) ≡ length p + 1 + length q + 1 = omega arith in
+    (rw (over-one, over-two, over-three), rw (over-one, over-two, over-three, a, b, x, y), rw (over-one, over-two, over-three, a, b, c, d) (omega arith))
+sizes-reckoned (p ∷ (q ∷ (r ∷ (t ∷ (u ∷ ps))))) h g f n e = absurd (omega arith)
 
 -- so do those of a text's parts where they fit
 module _ (lengths : List ℕ) (h : Bytes lengths) (l : length lengths ≤ 8) (s : List ℕ) (e : partsFit lengths (split 45 s) ≡ true) where
-  fit-tell : (partsIn (sizesFrom 0 (split 45 s)) ≡ length (split 45 s)) × (hyphensBetween (sizesFrom 0 (split 45 s)) ≡ hyphensAmong (split 45 s))
-  fit-tell = sizes-tell (split 45 s) (fit-sized lengths (split 45 s) h e) (rw (first-part s .2) (omega arith)) (omega (arith, fit-few lengths (split 45 s) e))
+  fit-reckoned : Reckoned (sizesFrom 0 (split 45 s)) (split 45 s)
+  fit-reckoned = sizes-reckoned (split 45 s) (fit-sized lengths (split 45 s) h e) (rw (first-part s .2) (omega arith)) (omega (arith, fit-few lengths (split 45 s) e)) (sizesFrom 0 (split 45 s)) refl
 
   sizes-in : partsIn (sizesFrom 0 (split 45 s)) ≡ length (split 45 s)
-  sizes-in = fit-tell .0
+  sizes-in = fit-reckoned .0
 
   sizes-between : hyphensBetween (sizesFrom 0 (split 45 s)) ≡ hyphensOf s
-  sizes-between = fit-tell .1 ∙ hyphens-among s
+  sizes-between = fit-reckoned .1 ∙ hyphens-among s
+
+  sizes-extent : extentOf (sizesFrom 0 (split 45 s)) ≡ length s
+  sizes-extent = omega (arith, fit-reckoned .2, parts-span s)
 
 -- ---------------------------------------------------------------------------
 -- What is read of a text are the sizes of its parts
@@ -220,75 +241,6 @@ module _ (model : Model) (b : Bytes (model .lengths)) (l : length (model .length
       go [] i f = absurd (i refl)
       go (c ∷ r) i f = sizes-between (model .lengths) b l (c ∷ r) f
 
--- ---------------------------------------------------------------------------
--- The extent of a text, by the sizes of its parts
-
--- the lengths of parts, and one more for each
-unfoldable spanOf : List (List ℕ) → ℕ
-spanOf [] = 0
-spanOf (p ∷ ps) = suc (length p) + spanOf ps
-
--- are those of the text and one
-parts-span : (s : List ℕ) → spanOf (split 45 s) ≡ suc (length s)
-unfolding split spanOf
-parts-span [] = refl
-parts-span (b ∷ s) = go (eqb b 45) (first-part s) (parts-span s)
-  where
-    go : (h : Bool) → (p : List ℕ) × (ps : List (List ℕ)) × (split 45 s ≡ p ∷ ps) → spanOf (split 45 s) ≡ suc (length s) → spanOf (cond h ([] ∷ split 45 s) (longer b (split 45 s))) ≡ suc (suc (length s))
-    go true w e = omega arith
-    go false w e = ap (λ (ps : List (List ℕ)). spanOf (longer b ps)) (w .2) ∙ longest (w .0) (w .1) ∙ ap suc (sym (ap spanOf (w .2)) ∙ e)
-      where
-        longest : (p : List ℕ) (ps : List (List ℕ)) → spanOf ((b ∷ p) ∷ ps) ≡ suc (spanOf (p ∷ ps))
-        longest p ps = omega arith
-
--- a number of base 256 tells how many bytes its digits and the hyphens between them are
-one-extent : (a : ℕ) → a < 256 → (n : ℕ) → n ≡ a → extentOf n ≡ a
-one-extent a f n e = rw (e, lt-ltb a 256 f)
-
-module _ (a b : ℕ) (f : 0 < a) (g : a < 256) (h : b < 256) (n : ℕ) where
-  two-extent : n ≡ a * 256 + b → extentOf n ≡ a + 1 + b
-  two-extent e =
-      let t = le-ltb n 256 (omega arith) in
-      let u = lt-ltb n 65536 (omega arith) in
-      let q : n / 256 ≡ a = omega arith in
-      let r : n % 256 ≡ b = omega arith in
-      rw (t, u, q, r)
-
-  three-extent : (c : ℕ) → c < 256 → n ≡ (a * 256 + b) * 256 + c → extentOf n ≡ a + 1 + b + 1 + c
-  three-extent c j e =
-      let t = le-ltb n 256 (omega arith) in
-      let u = le-ltb n 65536 (omega arith) in
-      let v = lt-ltb n 16777216 (omega arith) in
-      let q : n / 65536 ≡ a = omega arith in
-      let r : n / 256 % 256 ≡ b = omega arith in
-      let w : n % 256 ≡ c = omega arith in
-      rw (t, u, v, q, r, w)
-
-  four-extent : (c d : ℕ) → c < 256 → d < 256 → n ≡ ((a * 256 + b) * 256 + c) * 256 + d → extentOf n ≡ a + 1 + b + 1 + c + 1 + d
-  four-extent c d j l e =
-      let t = le-ltb n 256 (omega arith) in
-      let u = le-ltb n 65536 (omega arith) in
-      let v = le-ltb n 16777216 (omega arith) in
-      let q : n / 16777216 ≡ a = omega arith in
-      let r : n / 65536 % 256 ≡ b = omega arith in
-      let w : n / 256 % 256 ≡ c = omega arith in
-      let x : n % 256 ≡ d = omega arith in
-      rw (t, u, v, q, r, w, x)
-
--- so the sizes of one to four parts do
-sizes-extent : (ps : List (List ℕ)) → Sized ps → 0 < length ps → length ps ≤ 4 → suc (extentOf (sizesFrom 0 ps)) ≡ spanOf ps
-unfolding sizesFrom spanOf
-sizes-extent [] h g f = absurd (omega arith)
-sizes-extent (p ∷ []) h g f =
-    omega (arith, one-extent (length p) (h .1) (0 * 256 + length p) (omega arith))
-sizes-extent (p ∷ (q ∷ [])) h g f =
-    omega (arith, two-extent (length p) (length q) (h .0) (h .1) (h .2 .1) ((0 * 256 + length p) * 256 + length q) (omega arith))
-sizes-extent (p ∷ (q ∷ (r ∷ []))) h g f =
-    omega (arith, three-extent (length p) (length q) (h .0) (h .1) (h .2 .1) (((0 * 256 + length p) * 256 + length q) * 256 + length r) (length r) (h .2 .2 .1) (omega arith))
-sizes-extent (p ∷ (q ∷ (r ∷ (t ∷ [])))) h g f =
-    omega (arith, four-extent (length p) (length q) (h .0) (h .1) (h .2 .1) ((((0 * 256 + length p) * 256 + length q) * 256 + length r) * 256 + length t) (length r) (length t) (h .2 .2 .1) (h .2 .2 .2 .1) (omega arith))
-sizes-extent (p ∷ (q ∷ (r ∷ (t ∷ (u ∷ ps))))) h g f = absurd (omega arith)
-
 -- parts are found in a text of some bytes
 pub found-some : (model : Model) (s : List ℕ) (n : ℕ) → n ≡ partsFound model s → (n ≡ 0 → ⊥) → length s ≡ 0 → ⊥
 found-some model s n e g z = g (e ∙ sym (found-none model s z))
@@ -306,10 +258,4 @@ found-extent model b l s n e g = rw (e, f) (go s h (formed-fit model s f))
 
     go : (r : List ℕ) → (length r ≡ 0 → ⊥) → partsFit (model .lengths) (partsOf r) ≡ true → extentOf (sizesFrom 0 (partsOf r)) ≡ length r
     go [] i j = absurd (i refl)
-    go (c ∷ r) i j =
-        let ps = split 45 (c ∷ r) in
-        omega (
-          arith,
-          sizes-extent ps (fit-sized (model .lengths) ps b j) (rw (first-part (c ∷ r) .2) (omega arith)) (omega (arith, fit-few (model .lengths) ps j)),
-          parts-span (c ∷ r),
-        )
+    go (c ∷ r) i j = sizes-extent (model .lengths) b l (c ∷ r) j

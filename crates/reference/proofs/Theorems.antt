@@ -7,19 +7,21 @@ use mathlib.Core.List.{List, [], _∷_, List·Memᴰ, List·Memᴰ·head, List·
 use Prim.Native.Nat.{ℕ}
 use native.Mathlib.Omega.{arith}
 use Rattle.refusal.specs.Only.{Only, defined-only}
-use Rattle.refusal.specs.Refusal.{none, isAccepted}
+use Rattle.refusal.specs.Refusal.{none, Tells}
 use Rattle.refusal.specs.declared.Answer.{Answer}
 use Rattle.refusal.specs.declared.Answer.the-variants.{Accepted, Refused}
 use Rattle.refusal.specs.declared.Refusal.the-variants.{Parts, Digit}
+use Rattle.refusal.proofs.Tells.{tells-only}
 use Rattle.text.specs.Bytes.{trimmed}
 use Rattle.text.proofs.Laws.{both-true, and-second}
 use Rattle.check_digits.specs.CheckDigit.{passes}
 use Rattle.models.specs.declared.Group.{Group}
 use Rattle.models.specs.declared.Model.{Model}
 use Rattle.models.specs.Models.{modelOf}
+use Rattle.reference.specs.declared.Stripped.{Stripped}
 use Rattle.reference.specs.Parts.{partsOf, formed, joined, present, groupRight, groupsRight}
 use Rattle.reference.specs.Groups.{groupsHold}
-use Rattle.reference.specs.Answers.{obeyAnswer, obeys, modelAnswer, referenceAnswer}
+use Rattle.reference.specs.Answers.{obeyAnswer, obeys, modelAnswer, referenceAnswer, bareOf}
 
 -- ---------------------------------------------------------------------------
 -- Accepted exactly when
@@ -74,8 +76,11 @@ reference-only m s = defined-only (referenceAnswer m s)
 pub numbered-only : (n : ℕ) (s : List ℕ) → Only (λ (r : Answer). r ≡ modelAnswer s (modelOf n))
 numbered-only n s = defined-only (modelAnswer s (modelOf n))
 
-pub is-right-only : (n : ℕ) (s : List ℕ) → Only (λ (r : Bool). r ≡ isAccepted (modelAnswer (trimmed s) (modelOf n)))
-is-right-only n s = defined-only (isAccepted (modelAnswer (trimmed s) (modelOf n)))
+pub bare-only : (s : List ℕ) → Only (λ (r : Stripped). r ≡ bareOf s)
+bare-only s = defined-only (bareOf s)
+
+pub tell-only : (n : ℕ) (s : List ℕ) → Only (λ (r : ℕ). Tells r (modelAnswer (trimmed s) (modelOf n)))
+tell-only n s = tells-only (modelAnswer (trimmed s) (modelOf n))
 
 pub is-formed-only : (model : Model) (s : List ℕ) → Only (λ (r : Bool). r ≡ formed model s)
 is-formed-only model s = defined-only (formed model s)

@@ -3,18 +3,20 @@
 use Prim.Native.Nat.{ℕ}
 use mathlib.Core.Bool.{Bool, cond, _&&_}
 use mathlib.Core.List.{List}
-use lib.Dec.{leb}
+use lib.Dec.{eqb, leb}
 use lib.ListN.{length}
 use Rattle.refusal.specs.Refusal.{none, byteAt}
 use Rattle.refusal.specs.declared.Answer.{Answer}
 use Rattle.refusal.specs.declared.Answer.the-variants.{Accepted, Refused}
 use Rattle.refusal.specs.declared.Refusal.the-variants.{Length, Form, Model, Parts, Digit}
-use Rattle.text.specs.Bytes.{firstBad}
+use Rattle.text.specs.Bytes.{firstBad, trimmed}
 use Rattle.text.specs.declared.Class.the-variants.{Reference}
 use Rattle.text.specs.declared.Found.{Found}
 use Rattle.text.specs.declared.Found.the-variants.{At, Nothing}
 use Rattle.models.specs.declared.Group.{Group}
 use Rattle.models.specs.declared.Model as declared
+use Rattle.reference.specs.declared.Stripped.{Stripped}
+use Rattle.reference.specs.declared.Stripped.the-variants.{Wrong, Size}
 use Rattle.reference.specs.Parts.{partsOf, formed, groupsRight}
 use Rattle.reference.specs.Groups.{groupsHold}
 use Rattle.models.specs.Models.{modelNumber, modelOf}
@@ -55,3 +57,21 @@ numberAnswer s Nothing = Refused (Form none)
 
 abbrev pub referenceAnswer : List ℕ → List ℕ → Answer
 referenceAnswer m s = numberAnswer s (modelNumber m)
+
+-- ---------------------------------------------------------------------------
+-- Blanks at the end
+
+-- what a text is, by its first byte that is no reference's
+abbrev pub bareFrom : List ℕ → Found → Stripped
+bareFrom g (At i) = Wrong i
+bareFrom g Nothing = Size (length g)
+
+-- "Trailing blanks end a reference": what a text is without them
+abbrev pub bareOf : List ℕ → Stripped
+bareOf s = bareFrom (trimmed s) (firstBad Reference (trimmed s))
+
+-- what it answers where it has not the parts of a model: 3 with its byte, then 4, then 8; an empty one is right where the model asks for no part
+abbrev pub bareAnswer : ℕ → Stripped → Answer
+bareAnswer fewest (Wrong i) = byteAt i
+bareAnswer fewest (Size n) =
+    cond (leb n 22) (cond (eqb n 0 && eqb fewest 0) Accepted (Refused (Parts none))) (Refused (Length none))

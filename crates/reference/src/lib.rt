@@ -3,21 +3,20 @@
 // Document 01, "Reference models". A model is the value that `models` gives. The digit reader and the part reader
 // call each other, as 01 asks; what a listing asks again and again, the check groups, is loops.
 ghost use mathlib.Core.Path.{_≡_};
-ghost use mathlib.Core.Bool.{_&&_};
+ghost use mathlib.Core.Bool.{cond, _&&_};
 ghost use mathlib.Core.List.{[]};
 ghost use lib.Dec.{leb};
 ghost use Rattle.reference.specs.Parts.{formed};
 ghost use Rattle.reference.specs.Groups.{afterHyphens, hyphensIn, foundAt, hyphensOf, stretchHolds, groupHolds, groupsHold};
 ghost use Rattle.reference.specs.Readers.{fitsNext, Roomy, partRead, digitRead, partsIn, extentOf, partsFound, hyphensBetween};
-ghost use Rattle.reference.specs.Answers.{groupsAnswer, unformedAnswer, textAnswer, modelAnswer, referenceAnswer};
+ghost use Rattle.reference.specs.Answers.{groupsAnswer, unformedAnswer, textAnswer, modelAnswer, referenceAnswer, bareOf, bareAnswer};
 ghost use Rattle.models.specs.Models.{modelOf};
-ghost use Rattle.refusal.specs.Refusal.{isAccepted};
-ghost use Rattle.text.specs.Bytes.{firstBad, beforeBlank, trimmed};
+ghost use Rattle.refusal.specs.Refusal.{Tells};
+ghost use Rattle.text.specs.Bytes.{firstBad, allOf, beforeBlank, trimmed};
 use check_digits::Rule;
 use models::Group;
 use models::Model;
 use refusal::Answer;
-use refusal::Place;
 use refusal::Refusal;
 use text::Class;
 use text::Found;
@@ -27,6 +26,12 @@ pub struct Hyphens {
     pub count: usize,
     pub first: usize,
     pub second: usize,
+}
+
+// A text without the blanks at its end: the place of its first byte that is no reference's, or else its size.
+pub enum Stripped {
+    Wrong(usize),
+    Size(usize),
 }
 
 fn stand(count: usize, first: usize, second: usize) -> Hyphens
@@ -359,11 +364,7 @@ fn unformed(s: &[u8]) -> Answer
     ensures { λ r. ⌜ r ≡ unformedAnswer (now (s .entry)) (firstBad Class.Reference (now (s .entry))) ⌝ }
 {
     match text::first_bad(Class::Reference, s) {
-        Found::At(i) => Answer::Refused(Refusal::Byte(Place {
-            line: 0,
-            field: 0,
-            byte: i,
-        })),
+        Found::At(i) => refusal::byte_at(i),
         Found::Nothing => {
             if 22 < s.len() {
                 return Answer::Refused(Refusal::Length(refusal::nowhere()));
@@ -410,41 +411,98 @@ pub fn numbered(n: usize, s: &[u8]) -> Answer
     judged_text(m, s)
 }
 
-// Whether a text, without the blanks at its end, obeys a handled model: what `judged_text` accepts. The blanks are what stands
-// behind its parts, so that no byte is looked at for where they begin.
-fn is_obeyed(model: Model, s: &[u8]) -> bool
-    ensures { λ r. ⌜ r ≡ isAccepted (textAnswer model (trimmed (now (s .entry))) (firstBad Class.Reference (trimmed (now (s .entry))))) ⌝ }
+// ---------------------------------------------------------------------------
+// Blanks at the end
+//
+// A wage line's reference has blanks behind it. They are what stands behind its parts, so that no byte is looked at for where they
+// begin; and what is refused is told as a number.
+
+// What a blank after n bytes of a reference ends: the text, where blanks alone stand behind it.
+fn ended_at(n: usize, rest: &[u8]) -> Stripped
+    ensures { λ r. ⌜ r ≡ cond (allOf Class.Blanks (now (rest .entry))) (Stripped.Size n) (Stripped.Wrong n) ⌝ }
+{
+    if text::all_blank(rest) {
+        return Stripped::Size(n);
+    }
+    Stripped::Wrong(n)
+}
+
+// What a text is without the blanks at its end.
+pub fn bare(s: &[u8]) -> Stripped
+    ensures { λ r. ⌜ r ≡ bareOf (now (s .entry)) ⌝ }
+{
+    let mut i = 0;
+    while i < s.len() {
+        let b = s[i];
+        if b == 32 {
+            return ended_at(i, &s[i + 1..]);
+        }
+        if !text::permitted(Class::Reference, b) {
+            return Stripped::Wrong(i);
+        }
+        i += 1;
+    }
+    Stripped::Size(i)
+}
+
+// What a text that has not the parts of a model is told for, without the blanks at its end: 3 with its byte, then 4, 8; an empty one
+// is right where the model asks for no part.
+fn tell_unformed(fewest: u8, s: &[u8]) -> usize
+    ensures { λ r. ⌜ Tells r (bareAnswer fewest (bareOf (now (s .entry)))) ⌝ }
+{
+    match bare(s) {
+        Stripped::Wrong(i) => 32 + i,
+        Stripped::Size(n) => {
+            if 22 < n {
+                return 4;
+            }
+            if n != 0 {
+                return 8;
+            }
+            if fewest == 0 {
+                return 0;
+            }
+            8
+        }
+    }
+}
+
+// A text without the blanks at its end, under a handled model: 3 with its byte, then 4, 8, 9.
+fn tell_text(model: Model, s: &[u8]) -> usize
+    ensures { λ r. ⌜ Tells r (textAnswer model (trimmed (now (s .entry))) (firstBad Class.Reference (trimmed (now (s .entry))))) ⌝ }
 {
     let fewest = model.fewest;
     let sizes = parts(model, s);
     if sizes == 0 {
-        if fewest == 0 {
-            return text::all_blank(s);
-        }
-        return false;
+        return tell_unformed(fewest, s);
     }
     let end = extent(sizes);
-    if 22 < end {
-        return false;
-    }
     if !text::all_blank(&s[end..]) {
-        return false;
+        return 32 + end;
+    }
+    if 22 < end {
+        return 4;
     }
     let groups = model.groups;
-    all_hold(groups, between(sizes), &s[0..end])
+    if all_hold(groups, between(sizes), &s[0..end]) {
+        return 0;
+    }
+    9
 }
 
-// Whether a text without the blanks at its end is a right reference by its model's number: what `numbered` accepts, with no answer
-// handed up through memory.
-pub fn is_right(n: usize, s: &[u8]) -> bool
-    ensures { λ r. ⌜ r ≡ isAccepted (modelAnswer (trimmed (now (s .entry))) (modelOf n)) ⌝ }
+// A text without the blanks at its end, by its model's number: what `numbered` answers of it, told as a number.
+pub fn tell(n: usize, s: &[u8]) -> usize
+    ensures { λ r. ⌜ Tells r (modelAnswer (trimmed (now (s .entry))) (modelOf n)) ⌝ }
 {
     let m = models::rules(n);
     if !m.handled {
-        return false;
+        return 7;
     }
-    is_obeyed(m, s)
+    tell_text(m, s)
 }
+
+// ---------------------------------------------------------------------------
+// By a model's text
 
 // A reference by its model's text: 5 and 7 of the model, then 3 with its byte, 4, 8 and 9 of the reference.
 pub fn reference(model: &[u8], s: &[u8]) -> Answer

@@ -1,2 +1,3 @@
--- What is promised of refusals.
+-- What is promised of refusals, and the laws of answers told as one number.
 pub mod Theorems
+pub mod Tells

@@ -7,7 +7,7 @@ use Rattle.refusal.specs.declared.Answer.{Answer}
 use Rattle.refusal.specs.declared.Place.{Place}
 use Rattle.refusal.specs.declared.Refusal.{Refusal}
 use Rattle.refusal.specs.Only.{Only, defined-only}
-use Rattle.refusal.specs.Refusal.{none, numberOf, placeOf, neededOf, moved, isAccepted}
+use Rattle.refusal.specs.Refusal.{none, numberOf, placeOf, neededOf, moved, refusalOf, byteAt, heardOf, isAccepted}
 
 -- ---------------------------------------------------------------------------
 -- Any two answers that a contract allows are equal
@@ -30,3 +30,12 @@ module _ (refusal : Refusal) where
 
 pub is-accepted-only : (a : Answer) → Only (λ (r : Bool). r ≡ isAccepted a)
 is-accepted-only a = defined-only (isAccepted a)
+
+pub byte-at-only : (i : ℕ) → Only (λ (r : Answer). r ≡ byteAt i)
+byte-at-only i = defined-only (byteAt i)
+
+pub made-only : (k : ℕ) (p : Place) (n : ℕ) → Only (λ (r : Refusal). r ≡ refusalOf k p n)
+made-only k p n = defined-only (refusalOf k p n)
+
+pub heard-only : (n : ℕ) → Only (λ (r : Answer). r ≡ heardOf n)
+heard-only n = defined-only (heardOf n)

@@ -1,8 +1,8 @@
 -- Document 01, "Refusal numbers": what the paper's number, place and needed number of each refusal are.
-use Prim.Native.Nat.{ℕ}
+use Prim.Native.Nat.{ℕ, _+_, _-_}
 use mathlib.Core.Path.{_≡_, refl}
 use mathlib.Core.Bool.{Bool, true, false, cond}
-use lib.Dec.{eqb}
+use lib.Dec.{eqb, leb}
 use Rattle.refusal.specs.declared.Place.{Place}
 use Rattle.refusal.specs.declared.Refusal.{Refusal}
 use Rattle.refusal.specs.declared.Refusal.the-variants.{Size, Ends, Byte, Length, Form, Check, Model, Parts, Digit, Misplaced, Date, Orders, Sum, Unfinished, Room, Marks, Beyond}
@@ -152,3 +152,20 @@ placed q (Refused r) = Refused (moved q r)
 abbrev pub isAccepted : Answer → Bool
 isAccepted Accepted = true
 isAccepted (Refused r) = false
+
+-- ---------------------------------------------------------------------------
+-- An answer without line and field as one number
+
+-- 0 for acceptance, the paper's number, and 32 + i for 3 at byte i
+abbrev pub toldOf : Answer → ℕ
+toldOf Accepted = 0
+toldOf (Refused r) = cond (eqb (numberOf r) 3) (32 + placeOf r .byte) (numberOf r)
+
+-- the answer that it tells
+abbrev pub heardOf : ℕ → Answer
+heardOf n = cond (leb 32 n) (byteAt (n - 32)) (cond (eqb n 0) Accepted (Refused (refusalOf n none 0)))
+
+-- n is an answer's number, and tells all of it
+pub record Tells (n : ℕ) (a : Answer) : Type 0 where
+  pub told : n ≡ toldOf a
+  pub hears : heardOf n ≡ a

@@ -3,7 +3,7 @@
 // What the paper's number, place and needed count of a refusal are is said once, in specs/Refusal.antt,
 // and every promise above speaks of refusals through it. A request of document 02 adds a case here.
 ghost use mathlib.Core.Path.{_≡_};
-ghost use Rattle.refusal.specs.Refusal.{none, numberOf, placeOf, neededOf, moved, isAccepted};
+ghost use Rattle.refusal.specs.Refusal.{none, numberOf, placeOf, neededOf, moved, refusalOf, byteAt, heardOf, isAccepted};
 
 // Where a refusal stands. Lines and fields count from 1, bytes from 0; 0 stands for "none".
 pub struct Place {
@@ -159,4 +159,54 @@ pub fn is_accepted(a: Answer) -> bool
         Answer::Accepted => true,
         Answer::Refused(_) => false,
     }
+}
+
+// 3, told of a byte alone.
+pub fn byte_at(i: usize) -> Answer
+    ensures { λ r. ⌜ r ≡ byteAt i ⌝ }
+{
+    Answer::Refused(Refusal::Byte(Place {
+        line: 0,
+        field: 0,
+        byte: i,
+    }))
+}
+
+// The refusal of a number, a place and a needed number; a number other than 1 to 16 is 17.
+pub fn made(number: usize, p: Place, needed: usize) -> Refusal
+    ensures { λ r. ⌜ r ≡ refusalOf number p needed ⌝ }
+{
+    match number {
+        1 => Refusal::Size(p),
+        2 => Refusal::Ends(p),
+        3 => Refusal::Byte(p),
+        4 => Refusal::Length(p),
+        5 => Refusal::Form(p),
+        6 => Refusal::Check(p),
+        7 => Refusal::Model(p),
+        8 => Refusal::Parts(p),
+        9 => Refusal::Digit(p),
+        10 => Refusal::Misplaced(p),
+        11 => Refusal::Date(p),
+        12 => Refusal::Orders(p),
+        13 => Refusal::Sum(p),
+        14 => Refusal::Unfinished(p),
+        15 => Refusal::Room(p, needed),
+        16 => Refusal::Marks(p),
+        _ => Refusal::Beyond(p),
+    }
+}
+
+// The answer that one number tells. Places are judged for every line of a file, and an answer is handed up through memory, a number
+// is not.
+pub fn heard(told: usize) -> Answer
+    ensures { λ r. ⌜ r ≡ heardOf told ⌝ }
+{
+    if 32 <= told {
+        return byte_at(told - 32);
+    }
+    if told == 0 {
+        return Answer::Accepted;
+    }
+    Answer::Refused(made(told, nowhere(), 0))
 }

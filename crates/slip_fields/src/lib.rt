@@ -5,7 +5,6 @@
 ghost use mathlib.Core.Path.{_≡_};
 ghost use Rattle.slip_fields.specs.Fields.{wordAnswer, amountAnswer, mostOf, purposeAnswer, fieldAnswer};
 use refusal::Answer;
-use refusal::Place;
 use refusal::Refusal;
 use text::Class;
 use text::Found;
@@ -25,11 +24,7 @@ pub fn judge_amount(s: &[u8]) -> Answer
     ensures { λ r. ⌜ r ≡ amountAnswer (now (s .entry)) ⌝ }
 {
     match text::first_bad(Class::Digits, s) {
-        Found::At(i) => Answer::Refused(Refusal::Byte(Place {
-            line: 0,
-            field: 0,
-            byte: i,
-        })),
+        Found::At(i) => refusal::byte_at(i),
         Found::Nothing => {
             if s.len() == 15 {
                 return Answer::Accepted;
@@ -44,11 +39,7 @@ pub fn judge_purpose(s: &[u8]) -> Answer
     ensures { λ r. ⌜ r ≡ purposeAnswer (now (s .entry)) ⌝ }
 {
     match text::first_bad(Class::Letters, s) {
-        Found::At(k) => Answer::Refused(Refusal::Byte(Place {
-            line: 0,
-            field: 0,
-            byte: k,
-        })),
+        Found::At(k) => refusal::byte_at(k),
         Found::Nothing => {
             if s.len() == 0 {
                 return Answer::Accepted;

@@ -11,7 +11,8 @@ use lib.Seq.{take-length}
 use borrow.Author.Tests.{eqb-true}
 use Rattle.text.specs.declared.Class.{Class}
 use Rattle.text.specs.declared.Class.the-variants.{Blanks}
-use Rattle.text.specs.Bytes.{permits, allOf, trimmed, beforeBlank}
+use Rattle.text.specs.declared.Found.the-variants.{At}
+use Rattle.text.specs.Bytes.{permits, allOf, firstBad, trimmed, beforeBlank}
 use Rattle.text.proofs.Laws.{both-true}
 
 -- ---------------------------------------------------------------------------
@@ -97,3 +98,19 @@ trimmed-permitted k un (b ∷ s) e = go (eqb b 32 && allOf Blanks s) refl (trimm
     go false f i g =
         let h = both-true (permits k b) (allOf k (trimmed s)) g in
         rw (no-blank k un b (h .0)) (i (h .1))
+
+-- and elsewhere its first byte that such a class does not permit is the first blank, where the class permits what stands before that
+pub trimmed-bad : (k : Class) → permits k 32 ≡ false → (s : List ℕ) → allOf k (beforeBlank s) ≡ true → allOf Blanks (drop (length (beforeBlank s)) s) ≡ false →
+    firstBad k (trimmed s) ≡ At (length (beforeBlank s))
+unfolding trimmed beforeBlank allOf firstBad
+trimmed-bad k un [] e g = absurd (false≢true (sym g))
+trimmed-bad k un (b ∷ s) e g = go (eqb b 32) refl (trimmed-bad k un s) e g
+  where
+    go : (t : Bool) → eqb b 32 ≡ t →
+        (allOf k (beforeBlank s) ≡ true → allOf Blanks (drop (length (beforeBlank s)) s) ≡ false → firstBad k (trimmed s) ≡ At (length (beforeBlank s))) →
+        allOf k (cond t [] (b ∷ beforeBlank s)) ≡ true → allOf Blanks (drop (length (cond t [] (b ∷ beforeBlank s))) (b ∷ s)) ≡ false →
+        firstBad k (cond (t && allOf Blanks s) [] (b ∷ trimmed s)) ≡ At (length (cond t [] (b ∷ beforeBlank s)))
+    go true f i e g = rw (rw f at g, ap (permits k) (eqb-true b 32 f) ∙ un)
+    go false f i e g =
+        let h = both-true (permits k b) (allOf k (beforeBlank s)) e in
+        rw (h .0, i (h .1) g)

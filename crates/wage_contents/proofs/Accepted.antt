@@ -1,8 +1,8 @@
 -- What acceptance of a place's content means: each answer is acceptance exactly when a plain test holds.
 -- Assumes nothing.
-use mathlib.Core.Path.{_≡_, refl, sym, ap, _∙_}
+use mathlib.Core.Path.{_≡_, refl}
 use mathlib.Core.Logic.{_↔_}
-use mathlib.Core.Bool.{Bool, true, false, cond, not, _&&_, _||_, or-true, and-true}
+use mathlib.Core.Bool.{Bool, true, false, cond, not, _&&_, _||_}
 use mathlib.Core.List.{List, [], _∷_}
 use Prim.Native.Nat.{ℕ, suc}
 use native.Mathlib.Omega.{arith}
@@ -19,15 +19,14 @@ use Rattle.text.specs.declared.Class.{Class}
 use Rattle.text.specs.declared.Class.the-variants.{Digits, Reference, Letters, Blanks, Zeros, Place, Description}
 use Rattle.text.specs.declared.Found.{Found}
 use Rattle.text.specs.declared.Found.the-variants.{At, Nothing}
-use Rattle.text.proofs.Laws.{isNothing, all-of-nothing, both-true, or-first, and-second}
-use Rattle.account.specs.Account.{ibanFormed, ibanPasses, oibPasses}
-use Rattle.account.specs.Answers.{isIban, ibanCheckAnswer}
+use Rattle.text.proofs.Laws.{isNothing, all-of-nothing}
+use Rattle.account.specs.Account.{oibPasses}
+use Rattle.account.specs.Answers.{isIban}
 use Rattle.account.proofs.Theorems.{iban-accepted-exactly}
 use Rattle.dates.specs.Dates.{isDate}
 use Rattle.codes.specs.Codes.{codePlace}
 use Rattle.reference.specs.Answers.{referenceAnswer}
 use Rattle.wage_contents.specs.Contents.{andThen, onlyIf, found, numberIn, twoOfThree, euro, unmodelledAnswer, isFound, bytesAnswer, amongAnswer, oibPlaceAnswer, employerAnswer, todayAnswer, laterAnswer, ibanPlaceAnswer, currencyAnswer, purposePlaceAnswer, signAnswer, referencePlaceAnswer, descriptionAnswer, codeAnswer}
-use Rattle.wage_contents.proofs.Laws.{blanks-placed, account-placed}
 
 -- accepted exactly when a test holds
 abbrev pub Exactly : Answer → Bool → Type 0
@@ -74,27 +73,10 @@ if-so : (t : Bool) (x : Answer) (a : Bool) (r : Refusal) → Exactly x a → Exa
 if-so true x a r p = p
 if-so false x a r p = never r
 
--- where a test fails, the refusal stands, whatever follows it
-pub stands : (x y : Answer) (b : Bool) → Exactly x b → b ≡ false → x ≡ andThen x y
-stands Accepted y b p e = let q = p .0 refl in let z : _≡_ {A = ℕ} 0 1 = cc in absurd (omega arith)
-stands (Refused r) y b p e = refl
-
--- whether an answer is acceptance is its test
-pub told : (x : Answer) (b : Bool) → Exactly x b → b ≡ isAccepted x
-told Accepted b p = p .0 refl
-told (Refused r) true p = let e = p .1 refl in let z : _≡_ {A = ℕ} 0 1 = cc in absurd (omega arith)
-told (Refused r) false p = refl
-
 -- one that is told to be acceptance is
 pub is-acceptance : (x : Answer) → isAccepted x ≡ true → x ≡ Accepted
 is-acceptance Accepted e = refl
 is-acceptance (Refused r) e = let z : _≡_ {A = ℕ} 0 1 = cc in absurd (omega arith)
-
--- one that is told to be none, though its first part accepts, is the refusal of its test
-pub test-refuses : (x : Answer) (b : Bool) (r : Refusal) → isAccepted (andThen x (onlyIf b r)) ≡ false → x ≡ Accepted → Refused r ≡ andThen x (onlyIf b r)
-test-refuses Accepted true r e h = let z : _≡_ {A = ℕ} 0 1 = cc in absurd (omega arith)
-test-refuses Accepted false r e h = refl
-test-refuses (Refused q) b r e h = let z : _≡_ {A = ℕ} 0 1 = cc in absurd (omega arith)
 
 -- ---------------------------------------------------------------------------
 -- Each content
@@ -151,33 +133,6 @@ iban-place-accepted blank f =
     (if-not (blank && allOf Blanks f) _ (allOf Blanks (drop 21 f) && isIban (take 21 f))
     (if-so (allOf Blanks (drop 21 f)) _ (isIban (take 21 f)) (Form none) (iban-accepted-exactly (take 21 f))))
 
--- an IBAN with blanks behind it is accepted, wherever it stands
-pub account-accepted : (blank : Bool) (f : List ℕ) → cond (allOf Blanks (drop 21 f)) (ibanCheckAnswer (take 21 f)) (Refused (Form none)) ≡ Accepted → ibanPlaceAnswer blank f ≡ Accepted
-account-accepted blank f e =
-    let t = isIban (take 21 f) in
-    let h = if-so (allOf Blanks (drop 21 f)) (ibanCheckAnswer (take 21 f)) t (Form none) (iban-accepted-exactly (take 21 f)) .0 e in
-    let g = both-true (allOf Blanks (drop 21 f)) t h in
-    let i = both-true (ibanFormed (take 21 f)) (ibanPasses (take 21 f)) (g .1) in
-    iban-place-accepted blank f .1
-    (sym (and-second (allOf Place f) _ true (account-placed f (g .0) (i .0))
-    (sym (ap (λ (b : Bool). (blank && allOf Blanks f) || b) h ∙ or-true (blank && allOf Blanks f)))))
-
--- so what the IBAN and the blanks behind it answer tells whether a place that may not be blank is accepted
-pub account-tells : (f : List ℕ) → isAccepted (cond (allOf Blanks (drop 21 f)) (ibanCheckAnswer (take 21 f)) (Refused (Form none))) ≡ isAccepted (ibanPlaceAnswer false f)
-unfolding ibanPlaceAnswer
-account-tells f = go (bytesAnswer Place f) (cond (allOf Blanks (drop 21 f)) (ibanCheckAnswer (take 21 f)) (Refused (Form none))) (account-accepted false f)
-  where
-    go : (x y : Answer) → (y ≡ Accepted → andThen x y ≡ Accepted) → isAccepted y ≡ isAccepted (andThen x y)
-    go x Accepted h = sym (ap isAccepted (h refl))
-    go Accepted (Refused r) h = refl
-    go (Refused q) (Refused r) h = refl
-
--- a place left blank where it may be is accepted
-pub blank-accepted : (blank : Bool) (f : List ℕ) → (blank && allOf Blanks f) ≡ true → ibanPlaceAnswer blank f ≡ Accepted
-blank-accepted blank f e =
-    iban-place-accepted blank f .1
-    (sym (and-second (allOf Place f) _ true (blanks-placed f (both-true blank (allOf Blanks f) e .1)) (or-first (blank && allOf Blanks f) _ e)))
-
 -- `EUR`, or blank where that may be
 pub currency-accepted : (blank : Bool) (f : List ℕ) → Exactly (currencyAnswer blank f) ((blank && allOf Blanks f) || same euro f)
 unfolding currencyAnswer
@@ -222,20 +177,10 @@ pub description-accepted : (f : List ℕ) → Exactly (descriptionAnswer f) (all
 unfolding descriptionAnswer
 description-accepted f = tested Description (not (allOf Blanks f)) (Form none) f
 
--- so its bytes and its blanks tell whether it is accepted
-pub description-told : (f : List ℕ) (d b : Bool) → allOf Description f ≡ d → allOf Blanks f ≡ b → (d && not b) ≡ isAccepted (descriptionAnswer f)
-description-told f d b e h =
-    ap (λ (t : Bool). t && not b) (sym e) ∙ ap (λ (t : Bool). allOf Description f && not t) (sym h)
-    ∙ told (descriptionAnswer f) (allOf Description f && not (allOf Blanks f)) (description-accepted f)
-
--- its bytes alone, where it is not all blank
-pub bytes-tell : (f : List ℕ) → allOf Blanks f ≡ false → allOf Description f ≡ isAccepted (descriptionAnswer f)
-bytes-tell f h = sym (and-true (allOf Description f)) ∙ description-told f (allOf Description f) false refl h
-
 -- a code, and with it the model that code 500 needs
-pub code-accepted : (kind : ℕ) (m f : List ℕ) → Exactly (codeAnswer kind m f) (allOf Digits f && (isFound (codePlace (numberIn f)) && not (eqb kind 5 && (eqb (numberIn f) 500 && allOf Blanks m))))
+pub code-accepted : (kind : ℕ) (blank : Bool) (f : List ℕ) → Exactly (codeAnswer kind blank f) (allOf Digits f && (isFound (codePlace (numberIn f)) && not (eqb kind 5 && (eqb (numberIn f) 500 && blank))))
 unfolding codeAnswer
-code-accepted kind m f =
-    let t = not (eqb kind 5 && (eqb (numberIn f) 500 && allOf Blanks m)) in
+code-accepted kind blank f =
+    let t = not (eqb kind 5 && (eqb (numberIn f) 500 && blank)) in
     both (bytesAnswer Digits f) _ (allOf Digits f) (isFound (codePlace (numberIn f)) && t) (bytes-accepted Digits f)
     (if-so (isFound (codePlace (numberIn f))) _ t (Form none) (if-tested t (Form none)))

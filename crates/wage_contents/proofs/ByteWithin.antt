@@ -10,19 +10,22 @@ use Rattle.refusal.specs.Refusal.{none, placeOf}
 use Rattle.refusal.specs.declared.Answer.{Answer}
 use Rattle.refusal.specs.declared.Answer.the-variants.{Accepted, Refused}
 use Rattle.refusal.specs.declared.Refusal.{Refusal}
-use Rattle.refusal.specs.declared.Refusal.the-variants.{Form, Check, Parts, Date}
+use Rattle.refusal.specs.declared.Refusal.the-variants.{Form, Check, Model, Parts, Date}
 use Rattle.text.specs.Bytes.{firstBad, allOf, same, trimmed}
 use Rattle.text.specs.declared.Class.{Class}
 use Rattle.text.specs.declared.Class.the-variants.{Digits, Reference, Letters, Blanks, Zeros, Place, Description}
 use Rattle.text.proofs.ByteWithin.{Within, within-one, within-more, found-within, bad-below}
 use Rattle.account.specs.Account.{oibPasses}
 use Rattle.account.proofs.ByteWithin.{iban-check-within}
+use Rattle.models.specs.Models.{modelOf}
+use Rattle.models.specs.declared.Model as declared
 use Rattle.models.proofs.ByteWithin.{model-within}
-use Rattle.reference.specs.Answers.{referenceAnswer}
+use Rattle.reference.specs.Parts.{partsOf, formed, groupsRight}
+use Rattle.reference.specs.Answers.{obeyAnswer, textAnswer, modelAnswer, referenceAnswer}
 use Rattle.reference.proofs.ByteWithin.{reference-within}
 use Rattle.dates.specs.Dates.{isDate}
 use Rattle.codes.specs.Codes.{codePlace}
-use Rattle.wage_contents.specs.Contents.{andThen, onlyIf, found, numberIn, twoOfThree, euro, unmodelledAnswer, isFound, bytesAnswer, amongAnswer, oibPlaceAnswer, employerAnswer, todayAnswer, laterAnswer, ibanPlaceAnswer, currencyAnswer, purposePlaceAnswer, signAnswer, modelPlaceAnswer, referencePlaceAnswer, descriptionAnswer, codeAnswer}
+use Rattle.wage_contents.specs.Contents.{andThen, onlyIf, found, numberIn, twoOfThree, euro, unmodelledAnswer, isFound, bytesAnswer, amongAnswer, oibPlaceAnswer, employerAnswer, todayAnswer, laterAnswer, ibanPlaceAnswer, currencyAnswer, purposePlaceAnswer, signAnswer, modelPlaceAnswer, referencePlaceAnswer, heldAnswer, heldReference, descriptionAnswer, codeAnswer}
 use Rattle.wage_contents.proofs.Laws.{trimmed-shorter}
 
 -- ---------------------------------------------------------------------------
@@ -119,17 +122,47 @@ reference-place-within m f =
     (within-more (length (trimmed f)) (length f) (trimmed-shorter f) (unmodelledAnswer (trimmed f)) (unmodelled-within (trimmed f)))
     (within-more (length (trimmed f)) (length f) (trimmed-shorter f) (referenceAnswer m (trimmed f)) (reference-within (trimmed f) m))
 
+-- by the number of what a model's place holds: the model
+pub held-model-within : (h n : ℕ) → Within n (heldAnswer h)
+unfolding heldAnswer
+held-model-within h n =
+    let z : 0 ≤ n = omega arith in
+    within-one n (eqb h 100) _ _ tt (within-one n (eqb h 101) _ _ z (test-within n (modelOf h .handled) (Model none) z))
+
+-- what a model answers to a text
+by-model-within : (model : declared.Model) (g : List ℕ) → Within (length g) (modelAnswer g model)
+unfolding obeyAnswer
+by-model-within model g =
+    let z : 0 ≤ length g = omega arith in
+    within-one (length g) (model .handled) _ _
+    (found-within (length g) (textAnswer model g) (λ i h. omega arith)
+    (within-one (length g) (leb (length g) 22) _ _
+    (within-one (length g) (formed model g) _ _ (within-one (length g) (groupsRight (model .groups) (partsOf g)) _ _ tt z) z)
+    z)
+    (firstBad Reference g) (bad-below Reference g))
+    z
+
+-- and the reference
+pub held-reference-within : (h : ℕ) (f : List ℕ) → Within (length f) (heldReference h f)
+unfolding heldReference
+held-reference-within h f =
+    let z : 0 ≤ length f = omega arith in
+    within-one (length f) (eqb h 100) _ _
+    (within-more (length (trimmed f)) (length f) (trimmed-shorter f) (unmodelledAnswer (trimmed f)) (unmodelled-within (trimmed f)))
+    (within-one (length f) (eqb h 101) _ _ z
+    (within-more (length (trimmed f)) (length f) (trimmed-shorter f) (modelAnswer (trimmed f) (modelOf h)) (by-model-within (modelOf h) (trimmed f))))
+
 -- a description
 pub description-within : (f : List ℕ) → Within (length f) (descriptionAnswer f)
 unfolding descriptionAnswer
 description-within f = tested-within Description (not (allOf Blanks f)) (Form none) f (omega arith)
 
 -- a code
-pub code-within : (kind : ℕ) (m f : List ℕ) → Within (length f) (codeAnswer kind m f)
+pub code-within : (kind : ℕ) (blank : Bool) (f : List ℕ) → Within (length f) (codeAnswer kind blank f)
 unfolding codeAnswer
-code-within kind m f =
+code-within kind blank f =
     let z : 0 ≤ length f = omega arith in
     both-within (length f) (bytesAnswer Digits f) _ (bytes-within Digits f)
     (within-one (length f) (isFound (codePlace (numberIn f))) _ _
-    (test-within (length f) (not (eqb kind 5 && (eqb (numberIn f) 500 && allOf Blanks m))) (Form none) z)
+    (test-within (length f) (not (eqb kind 5 && (eqb (numberIn f) 500 && blank))) (Form none) z)
     z)

@@ -1,23 +1,23 @@
--- Laws that this crate's proofs share: of answers joined, of digits read, of one of three numbers, of an OIB's place, of an IBAN's place,
--- of a description tested in parts, of a model's place, and of the blanks at a text's end.
+-- Laws that this crate's proofs share: of answers joined, of 3 after a scan, of digits read, of one of three numbers, of an OIB's place, of
+-- an IBAN's place, of a place all blank, of what a model's place holds and a reference tells of it, and of the blanks at a text's end.
 -- Assumes nothing.
 use mathlib.Core.Path.{_≡_, refl, sym, ap, _∙_}
-use mathlib.Core.Bool.{Bool, true, false, cond, _&&_, _||_, and-true, and-false}
-use mathlib.Core.List.{List, [], _∷_, _++_}
-use Prim.Native.Nat.{ℕ, suc, _-_, _≤_, _<_}
+use mathlib.Core.Bool.{Bool, true, false, cond, _&&_, _||_, and-false}
+use mathlib.Core.List.{List, [], _∷_}
+use Prim.Native.Nat.{ℕ, suc, _+_, _-_, _*_, _≤_, _<_}
 use native.Mathlib.Omega.{arith}
-use lib.Dec.{eqb}
+use lib.Dec.{eqb, leb}
 use lib.ListN.{length, take, drop, getD, take-append-drop}
-use lib.Seq.{take-all, take-suc, take-take}
+use lib.Seq.{take-all}
 use borrow.Author.Tests.{eq-eqb, ne-eqb, eqb-true}
-use Rattle.refusal.specs.Refusal.{none, byteAt}
+use Rattle.refusal.specs.Refusal.{none, byteAt, toldOf, heardOf, Tells}
 use Rattle.refusal.specs.declared.Answer.{Answer}
 use Rattle.refusal.specs.declared.Answer.the-variants.{Accepted, Refused}
 use Rattle.refusal.specs.declared.Refusal.{Refusal}
-use Rattle.refusal.specs.declared.Refusal.the-variants.{Form, Check, Model}
+use Rattle.refusal.specs.declared.Refusal.the-variants.{Length, Form, Check, Model, Parts, Digit}
 use Rattle.text.specs.Bytes.{isDigit, isLetter, firstBad, allOf, trimmed}
 use Rattle.text.specs.declared.Class.{Class}
-use Rattle.text.specs.declared.Class.the-variants.{Digits, Reference, Blanks, Zeros, Place, Description}
+use Rattle.text.specs.declared.Class.the-variants.{Digits, Reference, Blanks, Zeros, Place}
 use Rattle.text.specs.declared.Found.{Found}
 use Rattle.text.specs.declared.Found.the-variants.{At, Nothing}
 use Rattle.text.specs.Digits.{twoDigits}
@@ -29,10 +29,14 @@ use Rattle.check_digits.specs.Answers.{toldFrom}
 use Rattle.account.specs.Answers.{ibanCheckAnswer, oibTold}
 use Rattle.sums.specs.Sums.{readFrom, readIn}
 use Rattle.sums.specs.declared.Reading.the-variants.{Number, Wrong}
-use Rattle.models.specs.Models.{modelNumber, modelOf, modelFrom}
-use Rattle.reference.specs.Answers.{textAnswer, modelAnswer, numberAnswer}
-use Rattle.text.proofs.Laws.{taken, left, or-first, or-second, and-first, and-second, both-true, all-joined, all-apart, all-wider}
-use Rattle.wage_contents.specs.Contents.{andThen, onlyIf, found, bytesAnswer, numberIn, oibPlaceAnswer, ibanPlaceAnswer, modelPlaceAnswer, unmodelledAnswer, referencePlaceAnswer}
+use Rattle.models.specs.Models.{modelNumber, modelFrom, modelOf}
+use Rattle.models.specs.declared.Model as declared
+use Rattle.reference.specs.Parts.{partsOf, formed, groupsRight}
+use Rattle.reference.specs.Answers.{obeyAnswer, textAnswer, numberAnswer, bareFrom, bareOf}
+use Rattle.reference.specs.declared.Stripped.the-variants as stripped
+use Rattle.text.proofs.Laws.{isNothing, all-of-nothing, taken, left, or-first, or-second, and-first, and-second, both-true, digit-bounds, all-joined, all-wider}
+use Rattle.text.proofs.ByteWithin.{Below, bad-below}
+use Rattle.wage_contents.specs.Contents.{andThen, onlyIf, found, bytesAnswer, numberIn, oibPlaceAnswer, noIbanAnswer, accountAnswer, ibanPlaceAnswer, modelPlaceAnswer, unmodelledAnswer, referencePlaceAnswer, heldNumber, modelIn, heldAnswer, heldReference}
 
 -- ---------------------------------------------------------------------------
 -- Answers joined: j is what the call answered, x what it is defined to answer
@@ -45,6 +49,42 @@ module _ (j x y : Answer) (made : j ≡ x) where
   -- accepted there: the rest answers
   pub passed : (r : Answer) → j ≡ Accepted → r ≡ y → r ≡ andThen x y
   passed r e h = rw (sym made ∙ e) h
+
+-- ---------------------------------------------------------------------------
+-- 3 by what a scan found, and the rest y after it
+
+module _ (k : Class) (f : List ℕ) (y : Answer) where
+  -- a byte that is not permitted is the answer
+  pub byte-answers : (i : ℕ) → firstBad k f ≡ At i → andThen (bytesAnswer k f) y ≡ byteAt i
+  unfolding bytesAnswer
+  byte-answers i e = rw e
+
+  -- none is: the rest answers
+  pub rest-answers : firstBad k f ≡ Nothing → andThen (bytesAnswer k f) y ≡ y
+  unfolding bytesAnswer
+  rest-answers e = rw e
+
+  -- so where the class permits all
+  pub permitted-answers : allOf k f ≡ true → andThen (bytesAnswer k f) y ≡ y
+  unfolding bytesAnswer isNothing
+  permitted-answers e = go (firstBad k f) (all-of-nothing k f ∙ e)
+    where
+      go : (x : Found) → isNothing x ≡ true → andThen (found x) y ≡ y
+      go (At i) h = let z : _≡_ {A = ℕ} 0 1 = cc in absurd (omega arith)
+      go Nothing h = refl
+
+-- a scan finds nothing only where the class permits all
+pub nothing-permitted : (k : Class) (f : List ℕ) → firstBad k f ≡ Nothing → allOf k f ≡ true
+unfolding isNothing
+nothing-permitted k f e = sym (all-of-nothing k f) ∙ rw e
+
+-- what it finds stands in the place
+pub found-below : (k : Class) (f : List ℕ) (i : ℕ) → firstBad k f ≡ At i → i < length f
+found-below k f i e = go (firstBad k f) (bad-below k f) e
+  where
+    go : (x : Found) → Below (length f) x → x ≡ At i → i < length f
+    go (At j) h g = let z : j ≡ i = cc in omega arith
+    go Nothing h g = let z : _≡_ {A = ℕ} 0 1 = cc in absurd (omega arith)
 
 -- ---------------------------------------------------------------------------
 -- Digits read, in a place f
@@ -153,35 +193,52 @@ account-placed f e g =
     ∙ all-joined Place (take 21 f) (drop 21 f) (formed-placed (take 21 f) g)
     (blanks-placed (drop 21 f) e)
 
--- a place that is not left blank is judged as one that may not be
-pub as-filled : (blank : Bool) (f : List ℕ) → (blank && allOf Blanks f) ≡ false → ibanPlaceAnswer false f ≡ ibanPlaceAnswer blank f
+-- nor is a place that begins with it blank
+formed-filled : (f : List ℕ) → ibanFormed (take 21 f) ≡ true → allOf Blanks f ≡ false
+unfolding allOf
+formed-filled [] e = let z : _≡_ {A = ℕ} 0 1 = cc in absurd (omega arith)
+formed-filled (a ∷ f) e =
+    let g = both-true (eqb (length (take 21 (a ∷ f))) 21) _ e in
+    let h = eqb-true a 72 (both-true (eqb a 72) _ (g .1) .0) in
+    sym (and-first (eqb a 32) (allOf Blanks f) (ne-eqb a 32 (λ z. omega arith)))
+
+-- what is formed, with blanks behind it, is judged by its check alone
+account-alone : (blank : Bool) (f : List ℕ) → allOf Blanks (drop 21 f) ≡ true → ibanFormed (take 21 f) ≡ true → ibanPlaceAnswer blank f ≡ accountAnswer f
 unfolding ibanPlaceAnswer
-as-filled blank f e = rw e
+account-alone blank f e g =
+    permitted-answers Place f _ (account-placed f e g)
+    ∙ sym (left (blank && allOf Blanks f) Accepted (accountAnswer f) _ (ap (λ (t : Bool). blank && t) (formed-filled f g) ∙ and-false blank) refl)
+
+-- n is what was told of an account
+module _ (f : List ℕ) (n : ℕ) where
+  -- with blanks behind it the IBAN is told
+  pub blanks-behind : allOf Blanks (drop 21 f) ≡ true → Tells n (ibanCheckAnswer (take 21 f)) → Tells n (accountAnswer f)
+  blanks-behind e t = rw e t
+
+  -- 5 tells that there is none
+  no-account : Tells n (accountAnswer f) → n ≡ 5 → accountAnswer f ≡ Refused (Form none)
+  no-account t e = sym (t .hears) ∙ ap heardOf e
+
+  -- another number that there is
+  account-formed : Tells n (accountAnswer f) → (n ≡ 5 → ⊥) → (allOf Blanks (drop 21 f) ≡ true) × (ibanFormed (take 21 f) ≡ true)
+  account-formed t h = go (allOf Blanks (drop 21 f)) (ibanFormed (take 21 f)) (ibanPasses (take 21 f)) (t .told)
+    where
+      go : (b g p : Bool) → n ≡ toldOf (cond b (cond g (cond p Accepted (Refused (Check none))) (Refused (Form none))) (Refused (Form none))) → (b ≡ true) × (g ≡ true)
+      go true true p e = (refl, refl)
+      go true false p e = absurd (h e)
+      go false g p e = absurd (h e)
+
+  -- then the place is told so
+  pub account-told : (blank : Bool) → Tells n (accountAnswer f) → (n ≡ 5 → ⊥) → Tells n (ibanPlaceAnswer blank f)
+  account-told blank t h = let g = account-formed t h in rw (account-alone blank f (g .0) (g .1)) t
+
+  -- else it is told as one without an IBAN
+  pub no-account-told : (blank : Bool) (m : ℕ) → Tells n (accountAnswer f) → n ≡ 5 → Tells m (noIbanAnswer blank f) → Tells m (ibanPlaceAnswer blank f)
+  unfolding ibanPlaceAnswer
+  no-account-told blank m t e g = rw (no-account t e) g
 
 -- ---------------------------------------------------------------------------
--- A description's bytes, tested in two parts
-
--- a front that is permitted, and what stands behind a shorter one, decide
-pub rest-decides : (k : Class) (m n : ℕ) (f : List ℕ) → m ≤ n → allOf k (take n f) ≡ true → allOf k (drop m f) ≡ allOf k f
-rest-decides k m n f h e =
-    let front = both-true (allOf k (take m (take n f))) (allOf k (drop m (take n f))) (sym (all-apart k m (take n f)) ∙ e) in
-    and-second (allOf k (take m f)) (allOf k (drop m f)) _ (ap (allOf k) (sym (take-take m n f h)) ∙ front .0) refl ∙ sym (all-apart k m f)
-
--- a text is wrong where its front is
-pub front-wrong : (k : Class) (n : ℕ) (f : List ℕ) → allOf k (take n f) ≡ false → allOf k f ≡ false
-front-wrong k n f e = all-apart k n f ∙ sym (and-first (allOf k (take n f)) (allOf k (drop n f)) e)
-
--- or what stands behind it
-pub behind-wrong : (k : Class) (n : ℕ) (f : List ℕ) → allOf k (drop n f) ≡ false → allOf k f ≡ false
-behind-wrong k n f e = all-apart k n f ∙ ap (λ (t : Bool). allOf k (take n f) && t) e ∙ and-false (allOf k (take n f))
-
--- a front decides where what stands behind it is permitted
-pub front-decides : (k : Class) (n : ℕ) (f : List ℕ) → allOf k (drop n f) ≡ true → allOf k f ≡ allOf k (take n f)
-front-decides k n f e = all-apart k n f ∙ ap (λ (t : Bool). allOf k (take n f) && t) e ∙ and-true (allOf k (take n f))
-
--- blanks are bytes that a description permits
-pub blanks-described : (f : List ℕ) → allOf Blanks f ≡ true → allOf Description f ≡ true
-blanks-described f e = all-wider Blanks Description (λ x b. rw (eqb-true x 32 b)) f e
+-- A place all blank
 
 -- no byte is all blank; what begins with another byte is not; after a blank the rest decides
 pub blank-none : (f : List ℕ) → length f ≡ 0 → true ≡ allOf Blanks f
@@ -202,95 +259,107 @@ begins-blank (b ∷ f) h e = and-second (eqb b 32) (allOf Blanks f) (allOf Blank
 -- ---------------------------------------------------------------------------
 -- A model's place
 
--- a model that has a number begins with `H`
-numbered-begins : (m : List ℕ) (n : ℕ) → modelNumber m ≡ At n → eqb (getD m 0 0) 72 ≡ true
-numbered-begins m n e = go (eqb (length m) 4) (eqb (getD m 0 0) 72) (eqb (getD m 1 0) 82) (twoDigits (getD m 2 0) (getD m 3 0)) e
+-- a model's number is one of two digits
+digits-below : (a b : ℕ) → Below 100 (twoDigits a b)
+digits-below a b = go (isDigit a && isDigit b) refl
   where
-    go : (t u v : Bool) (x : Found) → cond (t && (u && v)) x Nothing ≡ At n → u ≡ true
-    go t true v x h = refl
-    go true false v x h = let z : _≡_ {A = ℕ} 0 1 = cc in absurd (omega arith)
-    go false false v x h = let z : _≡_ {A = ℕ} 0 1 = cc in absurd (omega arith)
+    go : (t : Bool) → (isDigit a && isDigit b) ≡ t → Below 100 (cond t (At ((a - 48) * 10 + (b - 48))) Nothing)
+    go true e =
+        let h = both-true (isDigit a) (isDigit b) e in
+        let g = digit-bounds a (h .0) in
+        let k = digit-bounds b (h .1) in
+        omega arith
+    go false e = tt
 
--- so it is not blank
-numbered-not-blank : (m : List ℕ) (n : ℕ) → modelNumber m ≡ At n → allOf Blanks m ≡ false
-unfolding allOf
-numbered-not-blank [] n e = let h = eqb-true 0 72 (numbered-begins [] n e) in absurd (omega arith)
-numbered-not-blank (b ∷ m) n e =
-    let h = eqb-true b 72 (numbered-begins (b ∷ m) n e) in
-    sym (and-first (eqb b 32) (allOf Blanks m) (ne-eqb b 32 (λ z. omega arith)))
-
--- a model that has a number judges what is left
-pub by-number : (m f g : List ℕ) (n : ℕ) (r : Answer) → modelNumber m ≡ At n → g ≡ trimmed f → r ≡ modelAnswer g (modelOf n) → r ≡ referencePlaceAnswer m f
-unfolding referencePlaceAnswer
-by-number m f g n r e t h =
-    left (allOf Blanks m) (unmodelledAnswer (trimmed f)) _ r (numbered-not-blank m n e)
-    (h ∙ ap (λ (s : List ℕ). modelAnswer s (modelOf n)) t ∙ ap (numberAnswer (trimmed f)) (sym e))
-
--- a reference that is accepted has a model that is
-pub reference-of-model : (m f : List ℕ) → referencePlaceAnswer m f ≡ Accepted → modelPlaceAnswer m ≡ Accepted
-unfolding referencePlaceAnswer modelPlaceAnswer
-reference-of-model m f e = go (allOf Blanks m) (modelNumber m) e
+number-below : (m : List ℕ) → Below 100 (modelNumber m)
+number-below m = go (eqb (length m) 4 && (eqb (getD m 0 0) 72 && eqb (getD m 1 0) 82)) (twoDigits (getD m 2 0) (getD m 3 0)) (digits-below (getD m 2 0) (getD m 3 0))
   where
-    handled : (t : Bool) (x : Answer) (q r : Refusal) → cond t x (Refused q) ≡ Accepted → cond t Accepted (Refused r) ≡ Accepted
-    handled true x q r h = refl
-    handled false x q r h = let z : _≡_ {A = ℕ} 0 1 = cc in absurd (omega arith)
+    go : (t : Bool) (x : Found) → Below 100 x → Below 100 (cond t x Nothing)
+    go true x h = h
+    go false x h = tt
 
-    go : (t : Bool) (x : Found) → cond t (unmodelledAnswer (trimmed f)) (numberAnswer (trimmed f) x) ≡ Accepted → cond t Accepted (modelFrom x) ≡ Accepted
+-- so what a place holds says the model's answer
+pub held-model : (m : List ℕ) → heldAnswer (modelIn m) ≡ modelPlaceAnswer m
+unfolding heldAnswer modelIn modelPlaceAnswer
+held-model m = go (allOf Blanks m) (modelNumber m) (number-below m)
+  where
+    go : (t : Bool) (x : Found) → Below 100 x → heldAnswer (cond t 100 (heldNumber x)) ≡ cond t Accepted (modelFrom x)
     go true x h = refl
-    go false (At n) h = handled (modelOf n .handled) (textAnswer (modelOf n) (trimmed f) (firstBad Reference (trimmed f))) (Model none) (Model none) h
-    go false Nothing h = let z : _≡_ {A = ℕ} 0 1 = cc in absurd (omega arith)
+    go false (At n) h = rw (ne-eqb n 100 (λ e. omega arith), ne-eqb n 101 (λ e. omega arith))
+    go false Nothing h = refl
+
+-- the reference's
+pub held-reference : (m f : List ℕ) → heldReference (modelIn m) f ≡ referencePlaceAnswer m f
+unfolding heldReference modelIn referencePlaceAnswer
+held-reference m f = go (allOf Blanks m) (modelNumber m) (number-below m)
+  where
+    go : (t : Bool) (x : Found) → Below 100 x → heldReference (cond t 100 (heldNumber x)) f ≡ cond t (unmodelledAnswer (trimmed f)) (numberAnswer (trimmed f) x)
+    go true x h = refl
+    go false (At n) h = rw (ne-eqb n 100 (λ e. omega arith), ne-eqb n 101 (λ e. omega arith))
+    go false Nothing h = refl
+
+-- and whether it is blank
+pub held-blank : (m : List ℕ) → eqb (modelIn m) 100 ≡ allOf Blanks m
+unfolding modelIn
+held-blank m = go (allOf Blanks m) (modelNumber m) (number-below m)
+  where
+    go : (t : Bool) (x : Found) → Below 100 x → eqb (cond t 100 (heldNumber x)) 100 ≡ t
+    go true x h = refl
+    go false (At n) h = ne-eqb n 100 (λ e. omega arith)
+    go false Nothing h = refl
+
+-- ---------------------------------------------------------------------------
+-- What is told of a reference tells of its model
+
+-- 7 is told of no text: neither under a blank model
+unmodelled-other : (x : Found) (t : Bool) → toldOf (andThen (found x) (onlyIf t (Parts none))) ≡ 7 → ⊥
+unmodelled-other (At i) t e = let z : 32 + i ≡ 7 = e in omega arith
+unmodelled-other Nothing true e = let z : _≡_ {A = ℕ} 0 7 = e in omega arith
+unmodelled-other Nothing false e = let z : _≡_ {A = ℕ} 8 7 = e in omega arith
+
+-- nor under a model that is handled
+text-other : (model : declared.Model) (s : List ℕ) (x : Found) → toldOf (textAnswer model s x) ≡ 7 → ⊥
+unfolding obeyAnswer
+text-other model s (At i) e = let z : 32 + i ≡ 7 = e in omega arith
+text-other model s Nothing e = go (leb (length s) 22) (formed model s) (groupsRight (model .groups) (partsOf s)) e
+  where
+    go : (a b c : Bool) → toldOf (cond a (cond b (cond c Accepted (Refused (Digit none))) (Refused (Parts none))) (Refused (Length none))) ≡ 7 → ⊥
+    go true true true e = let z : _≡_ {A = ℕ} 0 7 = e in omega arith
+    go true true false e = let z : _≡_ {A = ℕ} 9 7 = e in omega arith
+    go true false c e = let z : _≡_ {A = ℕ} 8 7 = e in omega arith
+    go false b c e = let z : _≡_ {A = ℕ} 4 7 = e in omega arith
+
+-- n is what was told of a reference f, where the model's place holds h
+module _ (h n : ℕ) (f : List ℕ) (some : h ≡ 101 → ⊥) (t : Tells n (heldReference h f)) where
+  -- 7: the model is not handled
+  pub unhandled-told : n ≡ 7 → heldAnswer h ≡ Refused (Model none)
+  unfolding heldAnswer heldReference bytesAnswer
+  unhandled-told e = go (eqb h 100) (eqb h 101) (modelOf h .handled) (ne-eqb h 101 some) (sym (t .told) ∙ e)
+    where
+      go : (a b c : Bool) → b ≡ false → toldOf (cond a (unmodelledAnswer (trimmed f)) (cond b (Refused (Form none)) (cond c (textAnswer (modelOf h) (trimmed f) (firstBad Reference (trimmed f))) (Refused (Model none))))) ≡ 7 → cond a Accepted (cond b (Refused (Form none)) (onlyIf c (Model none))) ≡ Refused (Model none)
+      go true b c g k = absurd (unmodelled-other (firstBad Reference (trimmed f)) (eqb (length (trimmed f)) 0) k)
+      go false true c g k = let z : _≡_ {A = ℕ} 5 7 = k in absurd (omega arith)
+      go false false true g k = absurd (text-other (modelOf h) (trimmed f) (firstBad Reference (trimmed f)) k)
+      go false false false g k = refl
+
+  -- another number: it is handled, or there is none
+  pub handled-told : (n ≡ 7 → ⊥) → heldAnswer h ≡ Accepted
+  unfolding heldAnswer heldReference
+  handled-told e = go (eqb h 100) (eqb h 101) (modelOf h .handled) (ne-eqb h 101 some) (t .told)
+    where
+      go : (a b c : Bool) → b ≡ false → n ≡ toldOf (cond a (unmodelledAnswer (trimmed f)) (cond b (Refused (Form none)) (cond c (textAnswer (modelOf h) (trimmed f) (firstBad Reference (trimmed f))) (Refused (Model none))))) → cond a Accepted (cond b (Refused (Form none)) (onlyIf c (Model none))) ≡ Accepted
+      go true b c g k = refl
+      go false true c g k = let z : _≡_ {A = ℕ} 0 1 = cc in absurd (omega arith)
+      go false false true g k = refl
+      go false false false g k = absurd (e k)
+
+-- a place that holds no model
+pub none-held : (h : ℕ) → h ≡ 101 → heldAnswer h ≡ Refused (Form none)
+unfolding heldAnswer
+none-held h e = rw e
 
 -- ---------------------------------------------------------------------------
 -- The blanks at a text's end
-
--- all blank with one blank more, exactly when all blank without it
-blank-more : (s : List ℕ) → allOf Blanks (s ++ (32 ∷ [])) ≡ allOf Blanks s
-unfolding allOf
-blank-more [] = refl
-blank-more (b ∷ s) = ap (λ (t : Bool). eqb b 32 && t) (blank-more s)
-
--- one blank more at the end is taken away
-trimmed-blank : (s : List ℕ) → trimmed (s ++ (32 ∷ [])) ≡ trimmed s
-unfolding trimmed allOf
-trimmed-blank [] = refl
-trimmed-blank (b ∷ s) = rw (blank-more s, trimmed-blank s)
-
--- x is no blank
-module _ (x : ℕ) (h : eqb x 32 ≡ false) where
-  -- not all blank
-  not-blank : (s : List ℕ) → allOf Blanks (s ++ (x ∷ [])) ≡ false
-  unfolding allOf
-  not-blank [] = rw h
-  not-blank (b ∷ s) = go (eqb b 32) (not-blank s)
-    where
-      go : (t : Bool) → allOf Blanks (s ++ (x ∷ [])) ≡ false → (t && allOf Blanks (s ++ (x ∷ []))) ≡ false
-      go true e = e
-      go false e = refl
-
-  -- a text that ends in no blank stays as it is
-  trimmed-same : (s : List ℕ) → trimmed (s ++ (x ∷ [])) ≡ s ++ (x ∷ [])
-  unfolding trimmed allOf
-  trimmed-same [] = rw h
-  trimmed-same (b ∷ s) = sym (left (eqb b 32 && allOf Blanks (s ++ (x ∷ []))) [] (b ∷ trimmed (s ++ (x ∷ []))) (b ∷ (s ++ (x ∷ []))) (not-blank (b ∷ s)) (ap (λ (l : List ℕ). b ∷ l) (sym (trimmed-same s))))
-
--- of the first n bytes, n above 0
-module _ (s : List ℕ) (n : ℕ) (some : 0 < n) (fits : n ≤ length s) where
-  -- the bytes before the last, and the last
-  one-less : take n s ≡ take (n - 1) s ++ (getD s (n - 1) 0 ∷ [])
-  one-less = let e : n ≡ suc (n - 1) = omega arith in ap (λ (k : ℕ). take k s) e ∙ take-suc s (n - 1) 0 (omega arith)
-
-  -- the last is blank
-  pub trimmed-back : getD s (n - 1) 0 ≡ 32 → trimmed (take n s) ≡ trimmed (take (n - 1) s)
-  trimmed-back e = rw (one-less, e) (trimmed-blank (take (n - 1) s))
-
-  -- the last is no blank
-  pub trimmed-ends : (getD s (n - 1) 0 ≡ 32 → ⊥) → trimmed (take n s) ≡ take n s
-  trimmed-ends e = rw one-less (trimmed-same (getD s (n - 1) 0) (ne-eqb _ 32 e) (take (n - 1) s))
-
--- nothing is left of nothing
-pub trimmed-nothing : [] ≡ trimmed []
-unfolding trimmed
-trimmed-nothing = refl
 
 -- what is left is no longer than the whole
 pub trimmed-shorter : (s : List ℕ) → length (trimmed s) ≤ length s
@@ -301,3 +370,27 @@ trimmed-shorter (b ∷ s) = go (allOf Blanks (b ∷ s)) (trimmed-shorter s)
     go : (t : Bool) → length (trimmed s) ≤ length s → length (cond t [] (b ∷ trimmed s)) ≤ suc (length s)
     go true h = omega arith
     go false h = omega arith
+
+-- where a text without them has a byte that is no reference's
+pub bare-wrong : (f : List ℕ) (i : ℕ) → bareOf f ≡ stripped.Wrong i → firstBad Reference (trimmed f) ≡ At i
+bare-wrong f i e = go (firstBad Reference (trimmed f)) e
+  where
+    go : (x : Found) → bareFrom (trimmed f) x ≡ stripped.Wrong i → x ≡ At i
+    go (At k) g = let z : k ≡ i = cc in ap At z
+    go Nothing g = let z : _≡_ {A = ℕ} 0 1 = cc in absurd (omega arith)
+
+-- that byte is one of the text's
+pub bare-wrong-below : (f : List ℕ) (i : ℕ) → bareOf f ≡ stripped.Wrong i → i < length f
+bare-wrong-below f i e = omega (arith, found-below Reference (trimmed f) i (bare-wrong f i e), trimmed-shorter f)
+
+-- where it has none, its length is found
+bare-sized : (f : List ℕ) (n : ℕ) → bareOf f ≡ stripped.Size n → (firstBad Reference (trimmed f) ≡ Nothing) × (length (trimmed f) ≡ n)
+bare-sized f n e = go (firstBad Reference (trimmed f)) e
+  where
+    go : (x : Found) → bareFrom (trimmed f) x ≡ stripped.Size n → (x ≡ Nothing) × (length (trimmed f) ≡ n)
+    go (At k) g = let z : _≡_ {A = ℕ} 0 1 = cc in absurd (omega arith)
+    go Nothing g = let z : length (trimmed f) ≡ n = cc in (refl, z)
+
+-- and decides under a blank model
+pub unmodelled-sized : (f : List ℕ) (n : ℕ) → bareOf f ≡ stripped.Size n → unmodelledAnswer (trimmed f) ≡ onlyIf (eqb n 0) (Parts none)
+unmodelled-sized f n e = let g = bare-sized f n e in rest-answers Reference (trimmed f) _ (g .0) ∙ rw (g .1)

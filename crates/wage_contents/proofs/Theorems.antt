@@ -1,14 +1,17 @@
 -- What is promised of the contents of a wage line's places: one answer of each call.
 -- Assumes nothing.
 use mathlib.Core.Path.{_≡_}
-use mathlib.Core.Bool.{Bool, false}
+use mathlib.Core.Bool.{Bool}
 use mathlib.Core.List.{List}
 use Prim.Native.Nat.{ℕ}
 use Rattle.refusal.specs.Only.{Only, defined-only}
-use Rattle.refusal.specs.Refusal.{isAccepted}
+use Rattle.refusal.specs.Refusal.{Tells}
+use Rattle.refusal.proofs.Tells.{tells-only}
 use Rattle.refusal.specs.declared.Answer.{Answer}
+use Rattle.text.specs.Bytes.{allOf}
 use Rattle.text.specs.declared.Class.{Class}
-use Rattle.wage_contents.specs.Contents.{bytesAnswer, amongAnswer, oibPlaceAnswer, employerAnswer, todayAnswer, laterAnswer, ibanPlaceAnswer, currencyAnswer, purposePlaceAnswer, signAnswer, modelPlaceAnswer, referencePlaceAnswer, descriptionAnswer, codeAnswer}
+use Rattle.text.specs.declared.Class.the-variants.{Blanks}
+use Rattle.wage_contents.specs.Contents.{bytesAnswer, amongAnswer, oibPlaceAnswer, employerAnswer, todayAnswer, laterAnswer, ibanPlaceAnswer, currencyAnswer, purposePlaceAnswer, signAnswer, modelPlaceAnswer, referencePlaceAnswer, modelIn, heldReference, descriptionAnswer, codeAnswer}
 
 -- ---------------------------------------------------------------------------
 -- Any two answers that a contract allows are equal
@@ -52,16 +55,24 @@ judge-reference-only m f = defined-only (referencePlaceAnswer m f)
 pub judge-description-only : (f : List ℕ) → Only (λ (r : Answer). r ≡ descriptionAnswer f)
 judge-description-only f = defined-only (descriptionAnswer f)
 
-pub judge-code-only : (kind : ℕ) (m f : List ℕ) → Only (λ (r : Answer). r ≡ codeAnswer kind m f)
-judge-code-only kind m f = defined-only (codeAnswer kind m f)
+pub judge-code-only : (kind : ℕ) (blank : Bool) (f : List ℕ) → Only (λ (r : Answer). r ≡ codeAnswer kind blank f)
+judge-code-only kind blank f = defined-only (codeAnswer kind blank f)
 
--- whether they are right
+-- what a model's place holds, and whether a place is blank
 
-pub is-iban-only : (f : List ℕ) → Only (λ (r : Bool). r ≡ isAccepted (ibanPlaceAnswer false f))
-is-iban-only f = defined-only (isAccepted (ibanPlaceAnswer false f))
+pub model-in-only : (m : List ℕ) → Only (λ (r : ℕ). r ≡ modelIn m)
+model-in-only m = defined-only (modelIn m)
 
-pub is-reference-only : (m f : List ℕ) → Only (λ (r : Bool). r ≡ isAccepted (referencePlaceAnswer m f))
-is-reference-only m f = defined-only (isAccepted (referencePlaceAnswer m f))
+pub is-blank-only : (f : List ℕ) → Only (λ (r : Bool). r ≡ allOf Blanks f)
+is-blank-only f = defined-only (allOf Blanks f)
 
-pub is-description-only : (f : List ℕ) → Only (λ (r : Bool). r ≡ isAccepted (descriptionAnswer f))
-is-description-only f = defined-only (isAccepted (descriptionAnswer f))
+-- answers told as a number
+
+pub tell-iban-only : (blank : Bool) (f : List ℕ) → Only (λ (r : ℕ). Tells r (ibanPlaceAnswer blank f))
+tell-iban-only blank f = tells-only (ibanPlaceAnswer blank f)
+
+pub tell-reference-only : (held : ℕ) (f : List ℕ) → Only (λ (r : ℕ). Tells r (heldReference held f))
+tell-reference-only held f = tells-only (heldReference held f)
+
+pub tell-description-only : (f : List ℕ) → Only (λ (r : ℕ). Tells r (descriptionAnswer f))
+tell-description-only f = tells-only (descriptionAnswer f)

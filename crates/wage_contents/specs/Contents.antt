@@ -10,7 +10,7 @@ use Rattle.refusal.specs.Refusal.{none, byteAt}
 use Rattle.refusal.specs.declared.Answer.{Answer}
 use Rattle.refusal.specs.declared.Answer.the-variants.{Accepted, Refused}
 use Rattle.refusal.specs.declared.Refusal.{Refusal}
-use Rattle.refusal.specs.declared.Refusal.the-variants.{Form, Check, Parts, Date}
+use Rattle.refusal.specs.declared.Refusal.the-variants.{Form, Check, Model, Parts, Date}
 use Rattle.text.specs.Bytes.{firstBad, allOf, trimmed, same}
 use Rattle.text.specs.declared.Class.{Class}
 use Rattle.text.specs.declared.Class.the-variants.{Digits, Reference, Letters, Blanks, Zeros, Place, Description}
@@ -18,8 +18,9 @@ use Rattle.text.specs.declared.Found.{Found}
 use Rattle.text.specs.declared.Found.the-variants.{At, Nothing}
 use Rattle.account.specs.Account.{oibPasses}
 use Rattle.account.specs.Answers.{ibanCheckAnswer}
-use Rattle.models.specs.Models.{modelAnswer}
+use Rattle.models.specs.Models.{modelNumber, modelOf, modelAnswer}
 use Rattle.reference.specs.Answers.{referenceAnswer}
+use Rattle.reference.specs.Answers as reference
 use Rattle.dates.specs.Dates.{isDate}
 use Rattle.codes.specs.Codes.{codePlace}
 use Rattle.sums.specs.Sums.{numberOf}
@@ -92,12 +93,17 @@ laterAnswer day f =
 -- ---------------------------------------------------------------------------
 -- IBAN, currency, purpose
 
--- an IBAN, with blanks behind it to the end of its place; all blank where that may be
+-- no IBAN: blank where that may be
+abbrev pub noIbanAnswer : Bool → List ℕ → Answer
+noIbanAnswer blank f = andThen (bytesAnswer Place f) (onlyIf (blank && allOf Blanks f) (Form none))
+
+-- an IBAN, with blanks behind it to the end of its place
+abbrev pub accountAnswer : List ℕ → Answer
+accountAnswer f = cond (allOf Blanks (drop 21 f)) (ibanCheckAnswer (take 21 f)) (Refused (Form none))
+
+-- that, or all blank where it may be
 unfoldable pub ibanPlaceAnswer : Bool → List ℕ → Answer
-ibanPlaceAnswer blank f =
-    andThen (bytesAnswer Place f)
-    (cond (blank && allOf Blanks f) Accepted
-    (cond (allOf Blanks (drop 21 f)) (ibanCheckAnswer (take 21 f)) (Refused (Form none))))
+ibanPlaceAnswer blank f = andThen (bytesAnswer Place f) (cond (blank && allOf Blanks f) Accepted (accountAnswer f))
 
 -- `EUR`
 abbrev pub euro : List ℕ
@@ -130,6 +136,22 @@ unmodelledAnswer g = andThen (bytesAnswer Reference g) (onlyIf (eqb (length g) 0
 unfoldable pub referencePlaceAnswer : List ℕ → List ℕ → Answer
 referencePlaceAnswer m f = cond (allOf Blanks m) (unmodelledAnswer (trimmed f)) (referenceAnswer m (trimmed f))
 
+-- what a model's place holds, as a number: the model's, 100 where it is blank, 101 where it holds none
+abbrev pub heldNumber : Found → ℕ
+heldNumber (At n) = n
+heldNumber Nothing = 101
+
+unfoldable pub modelIn : List ℕ → ℕ
+modelIn m = cond (allOf Blanks m) 100 (heldNumber (modelNumber m))
+
+-- by that number `modelPlaceAnswer` and `referencePlaceAnswer` are said again, for code that reads a model once
+unfoldable pub heldAnswer : ℕ → Answer
+heldAnswer h = cond (eqb h 100) Accepted (cond (eqb h 101) (Refused (Form none)) (onlyIf (modelOf h .handled) (Model none)))
+
+unfoldable pub heldReference : ℕ → List ℕ → Answer
+heldReference h f =
+    cond (eqb h 100) (unmodelledAnswer (trimmed f)) (cond (eqb h 101) (Refused (Form none)) (reference.modelAnswer (trimmed f) (modelOf h)))
+
 -- "not all blank"
 unfoldable pub descriptionAnswer : List ℕ → Answer
 descriptionAnswer f = andThen (bytesAnswer Description f) (onlyIf (not (allOf Blanks f)) (Form none))
@@ -140,9 +162,9 @@ isFound (At i) = true
 isFound Nothing = false
 
 -- "a code of 004's list"; "For kind 5, code 500 with a blank recipient's model is 5"
-unfoldable pub codeAnswer : ℕ → List ℕ → List ℕ → Answer
-codeAnswer kind m f =
+unfoldable pub codeAnswer : ℕ → Bool → List ℕ → Answer
+codeAnswer kind blank f =
     andThen (bytesAnswer Digits f)
     (cond (isFound (codePlace (numberIn f)))
-    (onlyIf (not (eqb kind 5 && (eqb (numberIn f) 500 && allOf Blanks m))) (Form none))
+    (onlyIf (not (eqb kind 5 && (eqb (numberIn f) 500 && blank))) (Form none))
     (Refused (Form none)))

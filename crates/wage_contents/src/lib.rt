@@ -1,20 +1,19 @@
 // What a place of a wage line may hold: one rule for each kind of content.
 //
 // Document 01, "The wage file". Within a field 3 with its byte, 5, 6, 7, 8, 9, 11; the byte is counted within the place. An
-// IBAN goes by `account::iban_check`: W7 changes what is behind that name. Which place holds what is the crate
+// IBAN goes by `account::tell_iban`: W7 changes what is behind that name. Which place holds what is the crate
 // `wage_fields`.
 ghost use mathlib.Core.Path.{_≡_};
-ghost use mathlib.Core.Bool.{false, cond, _&&_};
+ghost use mathlib.Core.Bool.{_&&_};
 ghost use lib.Dec.{eqb};
-ghost use lib.ListN.{getD, take, drop};
-ghost use Rattle.refusal.specs.Refusal.{none, byteAt, isAccepted};
+ghost use lib.ListN.{getD};
+ghost use Rattle.refusal.specs.Refusal.{none, Tells};
 ghost use Rattle.text.specs.Bytes.{allOf, trimmed};
-ghost use Rattle.account.specs.Answers.{ibanCheckAnswer};
 ghost use Rattle.codes.specs.Codes.{codePlace};
-ghost use Rattle.wage_contents.specs.Contents.{bytesAnswer, amongAnswer, oibPlaceAnswer, twoOfThree, employerAnswer, todayAnswer, laterAnswer, ibanPlaceAnswer, currencyAnswer, purposePlaceAnswer, signAnswer, modelPlaceAnswer, unmodelledAnswer, referencePlaceAnswer, descriptionAnswer, isFound, codeAnswer};
+ghost use Rattle.wage_contents.specs.Contents.{bytesAnswer, amongAnswer, oibPlaceAnswer, twoOfThree, employerAnswer, todayAnswer, laterAnswer, noIbanAnswer, accountAnswer, ibanPlaceAnswer, currencyAnswer, purposePlaceAnswer, signAnswer, modelIn, modelPlaceAnswer, unmodelledAnswer, heldReference, referencePlaceAnswer, descriptionAnswer, isFound, codeAnswer};
 use check_digits::Verdict;
+use reference::Stripped;
 use refusal::Answer;
-use refusal::Place;
 use refusal::Refusal;
 use sums::Reading;
 use text::Class;
@@ -34,23 +33,12 @@ fn date() -> Answer
     Answer::Refused(Refusal::Date(refusal::nowhere()))
 }
 
-// 3 with its byte.
-fn wrong_byte(i: usize) -> Answer
-    ensures { λ r. ⌜ r ≡ byteAt i ⌝ }
-{
-    Answer::Refused(Refusal::Byte(Place {
-        line: 0,
-        field: 0,
-        byte: i,
-    }))
-}
-
 // 3 with its byte, unless a class permits all.
 pub fn judge_bytes(class: Class, f: &[u8]) -> Answer
     ensures { λ r. ⌜ r ≡ bytesAnswer class (now (f .entry)) ⌝ }
 {
     match text::first_bad(class, f) {
-        Found::At(i) => wrong_byte(i),
+        Found::At(i) => refusal::byte_at(i),
         Found::Nothing => Answer::Accepted,
     }
 }
@@ -60,7 +48,7 @@ pub fn judge_among(a: u64, b: u64, c: u64, f: &[u8]) -> Answer
     ensures { λ r. ⌜ r ≡ amongAnswer a b c (now (f .entry)) ⌝ }
 {
     match sums::read(f) {
-        Reading::Wrong(i) => wrong_byte(i),
+        Reading::Wrong(i) => refusal::byte_at(i),
         Reading::Number(v) => {
             if v == a {
                 return Answer::Accepted;
@@ -81,7 +69,7 @@ pub fn judge_oib(absent: bool, f: &[u8]) -> Answer
     ensures { λ r. ⌜ r ≡ oibPlaceAnswer absent (now (f .entry)) ⌝ }
 {
     match account::read_oib(f) {
-        Verdict::Wrong(i) => wrong_byte(i),
+        Verdict::Wrong(i) => refusal::byte_at(i),
         Verdict::Zeros => {
             if absent {
                 return Answer::Accepted;
@@ -132,7 +120,7 @@ pub fn judge_today(day: u64, f: &[u8]) -> Answer
     ensures { λ r. ⌜ r ≡ todayAnswer day (now (f .entry)) ⌝ }
 {
     match sums::read(f) {
-        Reading::Wrong(i) => wrong_byte(i),
+        Reading::Wrong(i) => refusal::byte_at(i),
         Reading::Number(v) => {
             if !dates::is_date(v) {
                 return date();
@@ -150,7 +138,7 @@ pub fn judge_later(day: u64, f: &[u8]) -> Answer
     ensures { λ r. ⌜ r ≡ laterAnswer day (now (f .entry)) ⌝ }
 {
     match sums::read(f) {
-        Reading::Wrong(i) => wrong_byte(i),
+        Reading::Wrong(i) => refusal::byte_at(i),
         Reading::Number(v) => {
             if !dates::is_date(v) {
                 return date();
@@ -164,7 +152,7 @@ pub fn judge_later(day: u64, f: &[u8]) -> Answer
 }
 
 // Whether a place is all blank; most are not at their first byte.
-fn is_blank(f: &[u8]) -> bool
+pub fn is_blank(f: &[u8]) -> bool
     ensures { λ r. ⌜ r ≡ allOf Class.Blanks (now (f .entry)) ⌝ }
 {
     if f.len() == 0 {
@@ -186,53 +174,55 @@ fn is_left_blank(blank: bool, f: &[u8]) -> bool
     false
 }
 
-// An IBAN with blanks behind it: 5, 6.
-fn judge_account(f: &[u8]) -> Answer
-    ensures { λ r. ⌜ r ≡ cond (allOf Class.Blanks (drop 21 (now (f .entry)))) (ibanCheckAnswer (take 21 (now (f .entry)))) (Answer.Refused (Refusal.Form none)) ⌝ }
+// A place that holds no IBAN with blanks behind it: 3, then 5 unless it is blank and may be. Both are asked in one pass.
+fn tell_no_iban(blank: bool, f: &[u8]) -> usize
+    ensures { λ r. ⌜ Tells r (noIbanAnswer blank (now (f .entry))) ⌝ }
 {
-    if f.len() < 21 {
-        return form();
+    let mut absent = blank;
+    let mut i = 0;
+    while i < f.len() {
+        let b = f[i];
+        if !text::permitted(Class::Place, b) {
+            return 32 + i;
+        }
+        absent = absent & (b == 32);
+        i += 1;
     }
-    if text::all_blank(&f[21..]) {
-        return account::iban_check(&f[..21]);
+    if absent {
+        return 0;
     }
-    form()
+    5
 }
 
-// An IBAN's place that is not left blank: 3, 5, 6. Nearly every one holds an IBAN, so that comes first.
-fn judge_filled(f: &[u8]) -> Answer
-    ensures { λ r. ⌜ r ≡ ibanPlaceAnswer false (now (f .entry)) ⌝ }
+// An IBAN with blanks behind it, told as a number: 5, 6.
+fn tell_account(f: &[u8]) -> usize
+    ensures { λ r. ⌜ Tells r (accountAnswer (now (f .entry))) ⌝ }
 {
-    match judge_account(f) {
-        Answer::Accepted => Answer::Accepted,
-        Answer::Refused(r) => match judge_bytes(Class::Place, f) {
-            Answer::Refused(q) => Answer::Refused(q),
-            Answer::Accepted => Answer::Refused(r),
-        },
+    if f.len() < 21 {
+        return 5;
     }
+    if !text::all_blank(&f[21..]) {
+        return 5;
+    }
+    account::tell_iban(&f[..21])
+}
+
+// An IBAN's place, all blank where it may be, told as a number: 3, 5, 6. What has an IBAN's form has no byte for 3.
+pub fn tell_iban(blank: bool, f: &[u8]) -> usize
+    ensures { λ r. ⌜ Tells r (ibanPlaceAnswer blank (now (f .entry))) ⌝ }
+{
+    let told = tell_account(f);
+    if told == 5 {
+        return tell_no_iban(blank, f);
+    }
+    told
 }
 
 // An IBAN's place, all blank where it may be: 3, 5, 6.
 pub fn judge_iban(blank: bool, f: &[u8]) -> Answer
     ensures { λ r. ⌜ r ≡ ibanPlaceAnswer blank (now (f .entry)) ⌝ }
 {
-    if is_left_blank(blank, f) {
-        return Answer::Accepted;
-    }
-    judge_filled(f)
-}
-
-// Whether a place holds an IBAN with blanks behind it.
-pub fn is_iban(f: &[u8]) -> bool
-    ensures { λ r. ⌜ r ≡ isAccepted (ibanPlaceAnswer false (now (f .entry))) ⌝ }
-{
-    if f.len() < 21 {
-        return false;
-    }
-    if !text::all_blank(&f[21..]) {
-        return false;
-    }
-    account::is_iban(&f[..21])
+    refusal::heard(tell_iban(blank, f))
 }
 
 // `EUR`, or blank where that may be: 5.
@@ -288,6 +278,20 @@ pub fn judge_sign(a: u8, b: u8, c: u8, f: &[u8]) -> Answer
     form()
 }
 
+// What a model's place holds, read once for the model, its reference and a code: the model's number, 100 where it is blank, 101
+// where it holds no model.
+pub fn model_in(m: &[u8]) -> usize
+    ensures { λ r. ⌜ r ≡ modelIn (now (m .entry)) ⌝ }
+{
+    if is_blank(m) {
+        return 100;
+    }
+    match models::number(m) {
+        Found::At(n) => n,
+        Found::Nothing => 101,
+    }
+}
+
 // A model, or blank: 5, 7.
 pub fn judge_model(f: &[u8]) -> Answer
     ensures { λ r. ⌜ r ≡ modelPlaceAnswer (now (f .entry)) ⌝ }
@@ -298,97 +302,75 @@ pub fn judge_model(f: &[u8]) -> Answer
     models::judge(f)
 }
 
-// A text without the blanks at its end.
-fn trim(s: &[u8]) -> &[u8]
-    ensures { λ r. ⌜ now r ≡ trimmed (now (s .entry)) ⌝ }
-{
-    let mut n = s.len();
-    while 0 < n {
-        let last = n - 1;
-        if s[last] != 32 {
-            return &s[..n];
-        }
-        n = last;
-    }
-    &s[..0]
-}
-
 // A reference under a blank model: 3, 8.
-fn judge_unmodelled(g: &[u8]) -> Answer
-    ensures { λ r. ⌜ r ≡ unmodelledAnswer (now (g .entry)) ⌝ }
+fn tell_unmodelled(f: &[u8]) -> usize
+    ensures { λ r. ⌜ Tells r (unmodelledAnswer (trimmed (now (f .entry)))) ⌝ }
 {
-    match judge_bytes(Class::Reference, g) {
-        Answer::Refused(r) => Answer::Refused(r),
-        Answer::Accepted => {
-            if g.len() == 0 {
-                return Answer::Accepted;
+    match reference::bare(f) {
+        Stripped::Wrong(i) => 32 + i,
+        Stripped::Size(n) => {
+            if n == 0 {
+                return 0;
             }
-            Answer::Refused(Refusal::Parts(refusal::nowhere()))
+            8
         }
     }
 }
 
-// A reference after its model's place: 3, 8, 9 (5 and 7 are the model's own, judged before it).
+// A reference by what its model's place holds, told as a number: 3, 8, 9, and the model's own 5 and 7.
+pub fn tell_reference(held: usize, f: &[u8]) -> usize
+    ensures { λ r. ⌜ Tells r (heldReference held (now (f .entry))) ⌝ }
+{
+    if held == 100 {
+        return tell_unmodelled(f);
+    }
+    if held == 101 {
+        return 5;
+    }
+    reference::tell(held, f)
+}
+
+// A reference after its model's place.
 pub fn judge_reference(m: &[u8], f: &[u8]) -> Answer
     ensures { λ r. ⌜ r ≡ referencePlaceAnswer (now (m .entry)) (now (f .entry)) ⌝ }
 {
-    match models::number(m) {
-        Found::At(n) => reference::numbered(n, trim(f)),
-        Found::Nothing => {
-            if is_blank(m) {
-                return judge_unmodelled(trim(f));
-            }
-            form()
-        }
-    }
+    refusal::heard(tell_reference(model_in(m), f))
 }
 
-// Whether a reference is right after its model's place: what `judge_reference` accepts.
-pub fn is_reference(m: &[u8], f: &[u8]) -> bool
-    ensures { λ r. ⌜ r ≡ isAccepted (referencePlaceAnswer (now (m .entry)) (now (f .entry))) ⌝ }
+// A description, told as a number: 3, 5. It is tested as a whole; only a wrong byte is looked for.
+pub fn tell_description(f: &[u8]) -> usize
+    ensures { λ r. ⌜ Tells r (descriptionAnswer (now (f .entry))) ⌝ }
 {
-    match models::number(m) {
-        Found::At(n) => reference::is_right(n, f),
-        Found::Nothing => {
-            if is_blank(m) {
-                return is_blank(f);
-            }
-            false
-        }
-    }
-}
-
-// Whether a description is right. Most are blank from their 64th byte on. One that is not is tested from its 44th on, some bytes a
-// second time: 96 bytes of a place of 140 leave none over where the compiler takes 32 at a time.
-pub fn is_description(f: &[u8]) -> bool
-    ensures { λ r. ⌜ r ≡ isAccepted (descriptionAnswer (now (f .entry))) ⌝ }
-{
-    if f.len() <= 64 {
+    if text::all_described(f) {
         if is_blank(f) {
-            return false;
+            return 5;
         }
-        return text::all_described(f);
+        return 0;
     }
-    if !text::all_described(&f[..64]) {
-        return false;
+    match text::first_bad(Class::Description, f) {
+        Found::At(i) => 32 + i,
+        Found::Nothing => 0,
     }
-    if text::all_blank(&f[64..]) {
-        return !is_blank(&f[..64]);
-    }
-    text::all_described(&f[44..])
 }
 
-// A description: 3, 5. Most are right: that is asked first.
+// A description: 3, 5.
 pub fn judge_description(f: &[u8]) -> Answer
     ensures { λ r. ⌜ r ≡ descriptionAnswer (now (f .entry)) ⌝ }
 {
-    if is_description(f) {
-        return Answer::Accepted;
+    refusal::heard(tell_description(f))
+}
+
+// Whether a code stands without the recipient's model that it needs.
+fn is_unmodelled_loan(kind: u64, v: u64, blank: bool) -> bool
+    ensures { λ r. ⌜ r ≡ (eqb kind 5 && (eqb v 500 && blank)) ⌝ }
+{
+    if kind != 5 {
+        return false;
     }
-    match judge_bytes(Class::Description, f) {
-        Answer::Refused(r) => Answer::Refused(r),
-        Answer::Accepted => form(),
+    if v != 500 {
+        return false;
     }
+    blank
 }
 
 // Whether a number is a code of 004's list.
@@ -401,30 +383,17 @@ fn is_code(v: u64) -> bool
     }
 }
 
-// Whether a code stands without the recipient's model that it needs.
-fn is_unmodelled_loan(kind: u64, v: u64, m: &[u8]) -> bool
-    ensures { λ r. ⌜ r ≡ (eqb kind 5 && (eqb v 500 && allOf Class.Blanks (now (m .entry)))) ⌝ }
-{
-    if kind != 5 {
-        return false;
-    }
-    if v != 500 {
-        return false;
-    }
-    is_blank(m)
-}
-
-// A code of 004's list, after the recipient's model: 3, 5.
-pub fn judge_code(kind: u64, m: &[u8], f: &[u8]) -> Answer
-    ensures { λ r. ⌜ r ≡ codeAnswer kind (now (m .entry)) (now (f .entry)) ⌝ }
+// A code of 004's list, and whether the recipient's model is blank: 3, 5.
+pub fn judge_code(kind: u64, blank: bool, f: &[u8]) -> Answer
+    ensures { λ r. ⌜ r ≡ codeAnswer kind blank (now (f .entry)) ⌝ }
 {
     match sums::read(f) {
-        Reading::Wrong(i) => wrong_byte(i),
+        Reading::Wrong(i) => refusal::byte_at(i),
         Reading::Number(v) => {
             if !is_code(v) {
                 return form();
             }
-            if is_unmodelled_loan(kind, v, m) {
+            if is_unmodelled_loan(kind, v, blank) {
                 return form();
             }
             Answer::Accepted

@@ -1,19 +1,21 @@
 -- Document 01, "The wage file", its lists for 300, 301 and 309: the rule of each place, by its field's number, and a line's places in order.
 -- f are the place's own bytes, s the line that it stands in.
-use Prim.Native.Nat.{ℕ, _+_}
+use Prim.Native.Nat.{ℕ, _+_, _<_, _^_}
 use mathlib.Core.Path.{_≡_}
 use mathlib.Core.Bool.{true, false, cond, not}
 use mathlib.Core.List.{List, [], _∷_}
 use lib.Dec.{eqb}
+use lib.ListN.{getD, take, drop}
 use Rattle.refusal.specs.Refusal.{placeOf, moved}
 use Rattle.refusal.specs.declared.Answer.{Answer}
 use Rattle.refusal.specs.declared.Answer.the-variants.{Accepted, Refused}
 use Rattle.refusal.specs.declared.Refusal.{Refusal}
-use Rattle.text.specs.declared.Class.the-variants.{Digits}
+use Rattle.text.specs.Bytes.{allOf}
+use Rattle.text.specs.declared.Class.the-variants.{Digits, Blanks}
 use Rattle.wage_line.specs.declared.LineType.{LineType}
 use Rattle.wage_line.specs.declared.LineType.the-variants.{Label, Group, Order, Closing}
 use Rattle.wage_line.specs.declared.Spot.{Spot}
-use Rattle.wage_line.specs.Places.{spots}
+use Rattle.wage_line.specs.Places.{spots, noSpot}
 use Rattle.wage_line.specs.Line.{partAt, partOf}
 use Rattle.wage_contents.specs.Contents.{andThen, bytesAnswer, amongAnswer, oibPlaceAnswer, employerAnswer, todayAnswer, laterAnswer, ibanPlaceAnswer, currencyAnswer, purposePlaceAnswer, signAnswer, modelPlaceAnswer, referencePlaceAnswer, descriptionAnswer, codeAnswer}
 
@@ -57,7 +59,7 @@ paymentRule kind n f s =
     (cond (eqb n 19) (currencyAnswer true f)
     (cond (eqb n 20) (signAnswer 32 48 51 f)
     (cond (eqb n 21) (signAnswer 32 48 48 f)
-    (cond (eqb n 22) (codeAnswer kind (partOf Order 11 s) f)
+    (cond (eqb n 22) (codeAnswer kind (allOf Blanks (partOf Order 11 s)) f)
     (cond (eqb n 23) (oibPlaceAnswer (not (eqb kind 5)) f)
     Accepted)))))
 
@@ -104,6 +106,33 @@ placesFrom day kind t (p ∷ ps) s = andThen (placeAnswer day kind t p s) (place
 unfoldable pub placesAnswer : ℕ → ℕ → LineType → List ℕ → Answer
 placesAnswer day kind t s = placesFrom day kind t (spots t) s
 
--- these places of a 309 are accepted; its rules do not read the day
-abbrev pub OrderRight : ℕ → List Spot → List ℕ → Type 0
-OrderRight kind ps s = (day : ℕ) → placesFrom day kind Order ps s ≡ Accepted
+-- ---------------------------------------------------------------------------
+-- A line's places by strides, as src/ goes: no contract of a public call cites them
+
+-- a place of a 309, by its order
+abbrev pub orderSpot : ℕ → Spot
+orderSpot k = getD (spots Order) k noSpot
+
+-- r is the answer of these places of a 309, whose rules do not read the day
+abbrev pub OrderSays : ℕ → List Spot → List ℕ → Answer → Type 0
+OrderSays kind ps s r = (day : ℕ) → r ≡ placesFrom day kind Order ps s
+
+-- a refusal's byte, told of its place in the line, is a number
+abbrev pub Fits : Spot → Answer → Type 0
+Fits p Accepted = Unit
+Fits p (Refused r) = p .start + placeOf r .byte < 2 ^ 64
+
+-- how many places of a 309 the first k of its three strides have
+abbrev pub reached : ℕ → ℕ
+reached k = cond (eqb k 0) 0 (cond (eqb k 1) 5 (cond (eqb k 2) 8 16))
+
+-- how many places of a line of n bytes its first k strides have: but for a 309 of the right size a stride is one place
+abbrev pub reach : LineType → ℕ → ℕ → ℕ
+reach Label n k = k
+reach Group n k = k
+reach Order n k = cond (eqb n 1002) (reached k) k
+reach Closing n k = k
+
+-- the places of the stride after k of them
+abbrev pub strideOf : LineType → ℕ → ℕ → List Spot
+strideOf t n k = drop (reach t n k) (take (reach t n (k + 1)) (spots t))

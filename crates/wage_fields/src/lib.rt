@@ -4,11 +4,13 @@
 // `wage_contents`; where the places stand is the crate `wage_line`.
 ghost use mathlib.Core.Path.{_≡_};
 ghost use lib.ListN.{getD, length, take, drop};
-ghost use Prim.Native.Nat.{ℕ, _+_, _≤_, _<_, _^_};
+ghost use Prim.Native.Nat.{ℕ, _+_, _<_, _^_};
 ghost use Rattle.refusal.specs.Refusal.{placeOf};
 ghost use Rattle.wage_line.specs.Places.{spots, noSpot};
 ghost use Rattle.wage_line.specs.Line.{partAt};
-ghost use Rattle.wage_fields.specs.Rules.{labelRule, groupRule, paymentRule, orderRule, ruleAnswer, toldAt, placeAnswer, placesFrom, placesAnswer, OrderRight};
+ghost use Rattle.text.specs.Bytes.{allOf};
+ghost use Rattle.wage_contents.specs.Contents.{andThen, heldAnswer, heldReference};
+ghost use Rattle.wage_fields.specs.Rules.{labelRule, groupRule, paymentRule, orderRule, ruleAnswer, toldAt, answerAt, placeAnswer, placesFrom, placesAnswer, orderSpot, OrderSays, Fits, reach, strideOf};
 use refusal::Answer;
 use refusal::Place;
 use refusal::Refusal;
@@ -64,7 +66,7 @@ fn payment_rule(kind: u64, n: usize, f: &[u8], s: &[u8]) -> Answer
         21 => wage_contents::judge_sign(32, 48, 48, f),
         22 => {
             let p = wage_line::find(LineType::Order, 11);
-            wage_contents::judge_code(kind, wage_line::part(p, s), f)
+            wage_contents::judge_code(kind, wage_contents::is_blank(wage_line::part(p, s)), f)
         }
         23 => wage_contents::judge_oib(kind != 5, f),
         _ => Answer::Accepted,
@@ -128,140 +130,197 @@ fn told(p: Spot, r: Refusal) -> Refusal
     )
 }
 
+// An answer told of its place in the line.
+fn placed(p: Spot, a: Answer) -> Answer
+    requires { ⌜ Fits p a ⌝ }
+    ensures { λ r. ⌜ r ≡ answerAt p a ⌝ }
+{
+    match a {
+        Answer::Accepted => Answer::Accepted,
+        Answer::Refused(r) => Answer::Refused(told(p, r)),
+    }
+}
+
 // One place of a line, by its order; past the last there is nothing to refuse.
 pub fn judge_place(day: u64, kind: u64, t: LineType, k: usize, s: &[u8]) -> Answer
     ensures { λ r. ⌜ r ≡ placeAnswer day kind t (getD (spots t) k noSpot) (now (s .entry)) ⌝ }
 {
     let p = wage_line::spot_at(t, k);
     let n = p.field;
-    match rule(day, kind, t, n, wage_line::part(p, s), s) {
-        Answer::Accepted => Answer::Accepted,
-        Answer::Refused(r) => Answer::Refused(told(p, r)),
-    }
+    placed(p, rule(day, kind, t, n, wage_line::part(p, s), s))
 }
 
 // ---------------------------------------------------------------------------
-// A right order at once
+// A 309 in three strides
 //
-// Nearly every line of a file is a 309, and nearly every 309 is right. Its places are asked here one behind the other, each with its rule
-// written beside it, so that neither is looked for by its number; from the first that is not right the loop goes on, which finds what to
-// refuse.
+// Nearly every line of a file is a 309. Its places are asked one behind the other, each with its rule written beside it, so that
+// neither is looked for by its number, and a model is read once for its own place, its reference and the code. No byte of a line is
+// looked at more than twice, whatever it is refused for.
 
 // The bytes of a 309's place, by its order.
 fn order_part(k: usize, s: &[u8]) -> &[u8]
-    ensures { λ r. ⌜ now r ≡ partAt (getD (spots LineType.Order) k noSpot) (now (s .entry)) ⌝ }
+    ensures { λ r. ⌜ now r ≡ partAt (orderSpot k) (now (s .entry)) ⌝ }
 {
     wage_line::part(wage_line::spot_at(LineType::Order, k), s)
 }
 
-// How far a 309 is right, from its first place on: to the payer's reference, the fifth. The second place, field 2, is not judged, and
-// a reference that is right has a right model. The size is asked first, here and below, so that the compiler knows each place to lie
-// within the line.
-fn payer_right_to(s: &[u8]) -> usize
-    ensures { λ r. ⌜ (r ≤ 5) × ((kind : ℕ) → OrderRight kind (take r (spots LineType.Order)) (now (s .entry))) ⌝ }
+// An answer told of a 309's place, by its order.
+fn at_order(k: usize, a: Answer) -> Answer
+    requires { ⌜ Fits (orderSpot k) a ⌝ }
+    ensures { λ r. ⌜ r ≡ answerAt (orderSpot k) a ⌝ }
 {
-    if s.len() != 1002 {
-        return 0;
-    }
-    if !wage_contents::is_iban(order_part(0, s)) {
-        return 0;
-    }
-    if !refusal::is_accepted(wage_contents::judge_among(0, 191, 191, order_part(2, s))) {
-        return 2;
-    }
-    if !wage_contents::is_reference(order_part(3, s), order_part(4, s)) {
-        return 3;
-    }
-    5
+    placed(wage_line::spot_at(LineType::Order, k), a)
 }
 
-// From there on: from the purpose to the recipient's reference, the tenth.
-fn recipient_right_to(s: &[u8]) -> usize
-    ensures { λ r. ⌜ ((5 ≤ r) × (r ≤ 10)) × ((kind : ℕ) → OrderRight kind (drop 5 (take r (spots LineType.Order))) (now (s .entry))) ⌝ }
+// A model's place, by what it holds, and its reference's behind it: a reference under a model that is not handled is told as 7, so
+// that the model's rules are made once.
+fn modelled(k: usize, held: usize, s: &[u8]) -> Answer
+    requires { ⌜ k < 16 ⌝ }
+    ensures { λ r. ⌜ r ≡ andThen (answerAt (orderSpot k) (heldAnswer held)) (answerAt (orderSpot (k + 1)) (heldReference held (partAt (orderSpot (k + 1)) (now (s .entry))))) ⌝ }
 {
-    if s.len() != 1002 {
-        return 5;
+    if held == 101 {
+        return at_order(k, refusal::heard(5));
     }
-    if !refusal::is_accepted(wage_contents::judge_purpose(order_part(5, s))) {
-        return 5;
+    let next = k + 1;
+    let told = wage_contents::tell_reference(held, order_part(next, s));
+    if told == 7 {
+        return at_order(k, refusal::heard(7));
     }
-    if !wage_contents::is_description(order_part(6, s)) {
-        return 6;
-    }
-    if !refusal::is_accepted(wage_contents::judge_bytes(Class::Digits, order_part(7, s))) {
-        return 7;
-    }
-    if !wage_contents::is_reference(order_part(8, s), order_part(9, s)) {
-        return 8;
-    }
-    10
+    at_order(next, refusal::heard(told))
 }
 
-// From there on: the last six, those of `payment_rule`.
-fn payment_right_to(kind: u64, s: &[u8]) -> usize
-    ensures { λ r. ⌜ ((10 ≤ r) × (r ≤ 16)) × OrderRight kind (drop 10 (take r (spots LineType.Order))) (now (s .entry)) ⌝ }
+// The first five places, to the payer's reference; the second, field 2, is not judged.
+fn payer(s: &[u8]) -> Answer
+    ensures { λ r. ⌜ ((kind : ℕ) → OrderSays kind (take 5 (spots LineType.Order)) (now (s .entry)) r) ⌝ }
 {
-    if s.len() != 1002 {
-        return 10;
+    let iban = wage_contents::tell_iban(false, order_part(0, s));
+    if iban != 0 {
+        return at_order(0, refusal::heard(iban));
     }
-    if !refusal::is_accepted(wage_contents::judge_among(0, 1, 2, order_part(10, s))) {
-        return 10;
+    let currency = wage_contents::judge_among(0, 191, 191, order_part(2, s));
+    if !refusal::is_accepted(currency) {
+        return at_order(2, currency);
     }
-    if !refusal::is_accepted(wage_contents::judge_currency(true, order_part(11, s))) {
-        return 11;
-    }
-    if !refusal::is_accepted(wage_contents::judge_sign(32, 48, 51, order_part(12, s))) {
-        return 12;
-    }
-    if !refusal::is_accepted(wage_contents::judge_sign(32, 48, 48, order_part(13, s))) {
-        return 13;
-    }
-    if !refusal::is_accepted(wage_contents::judge_code(kind, order_part(8, s), order_part(14, s))) {
-        return 14;
-    }
-    if !refusal::is_accepted(wage_contents::judge_oib(kind != 5, order_part(15, s))) {
-        return 15;
-    }
-    16
+    modelled(3, wage_contents::model_in(order_part(3, s)), s)
 }
 
-// How many of a line's places are known to be right, from the first on; of a line that is no 309 none is.
-fn right_to(kind: u64, t: LineType, s: &[u8]) -> usize
-    ensures { λ r. ⌜ (r ≤ length (spots t)) × ((day : ℕ) → placesFrom day kind t (take r (spots t)) (now (s .entry)) ≡ Answer.Accepted) ⌝ }
+// The next three: purpose, description, amount.
+fn matter(s: &[u8]) -> Answer
+    ensures { λ r. ⌜ ((kind : ℕ) → OrderSays kind (drop 5 (take 8 (spots LineType.Order))) (now (s .entry)) r) ⌝ }
 {
-    match t {
-        LineType::Order => {
-            let payer = payer_right_to(s);
-            if payer < 5 {
-                return payer;
-            }
-            let recipient = recipient_right_to(s);
-            if recipient < 10 {
-                return recipient;
-            }
-            payment_right_to(kind, s)
-        }
-        LineType::Label => 0,
-        LineType::Group => 0,
-        LineType::Closing => 0,
+    let purpose = wage_contents::judge_purpose(order_part(5, s));
+    if !refusal::is_accepted(purpose) {
+        return at_order(5, purpose);
+    }
+    let description = wage_contents::tell_description(order_part(6, s));
+    if description != 0 {
+        return at_order(6, refusal::heard(description));
+    }
+    at_order(
+        7,
+        wage_contents::judge_bytes(Class::Digits, order_part(7, s)),
+    )
+}
+
+// The last six, those of `payment_rule`, and whether the recipient's model is blank.
+fn payment(kind: u64, blank: bool, s: &[u8]) -> Answer
+    requires { ⌜ blank ≡ allOf Class.Blanks (partAt (orderSpot 8) (now s)) ⌝ }
+    ensures { λ r. ⌜ OrderSays kind (drop 10 (spots LineType.Order)) (now (s .entry)) r ⌝ }
+{
+    let charges = wage_contents::judge_among(0, 1, 2, order_part(10, s));
+    if !refusal::is_accepted(charges) {
+        return at_order(10, charges);
+    }
+    let currency = wage_contents::judge_currency(true, order_part(11, s));
+    if !refusal::is_accepted(currency) {
+        return at_order(11, currency);
+    }
+    let first = wage_contents::judge_sign(32, 48, 51, order_part(12, s));
+    if !refusal::is_accepted(first) {
+        return at_order(12, first);
+    }
+    let second = wage_contents::judge_sign(32, 48, 48, order_part(13, s));
+    if !refusal::is_accepted(second) {
+        return at_order(13, second);
+    }
+    let code = wage_contents::judge_code(kind, blank, order_part(14, s));
+    if !refusal::is_accepted(code) {
+        return at_order(14, code);
+    }
+    at_order(15, wage_contents::judge_oib(kind != 5, order_part(15, s)))
+}
+
+// The last eight: the recipient's model and reference, then the payment.
+fn recipient(kind: u64, s: &[u8]) -> Answer
+    ensures { λ r. ⌜ OrderSays kind (drop 8 (spots LineType.Order)) (now (s .entry)) r ⌝ }
+{
+    let held = wage_contents::model_in(order_part(8, s));
+    let answer = modelled(8, held, s);
+    if !refusal::is_accepted(answer) {
+        return answer;
+    }
+    payment(kind, held == 100, s)
+}
+
+// A 309's stride after k of them. The size is asked first, so that the compiler knows each place to lie within the line; a line of
+// another size goes place by place.
+fn order_stride(kind: u64, k: usize, s: &[u8]) -> Answer
+    ensures { λ r. ⌜ OrderSays kind (strideOf LineType.Order (length (now (s .entry))) k) (now (s .entry)) r ⌝ }
+{
+    if s.len() != 1002 {
+        return judge_place(0, kind, LineType::Order, k, &s[0..]);
+    }
+    match k {
+        0 => payer(s),
+        1 => matter(s),
+        2 => recipient(kind, s),
+        _ => Answer::Accepted,
     }
 }
 
 // ---------------------------------------------------------------------------
 // A line's places in order
 
-// A line's places in order, after those that are known to be right: the first refusal, with its field and byte.
-fn judge_from(day: u64, kind: u64, t: LineType, from: usize, s: &[u8]) -> Answer
-    requires { ⌜ (from ≤ length (spots t)) × (placesFrom day kind t (take from (spots t)) (now s) ≡ Answer.Accepted) ⌝ }
+// A line's stride after k of them.
+fn stride(day: u64, kind: u64, t: LineType, k: usize, s: &[u8]) -> Answer
+    ensures { λ r. ⌜ r ≡ placesFrom day kind t (strideOf t (length (now (s .entry))) k) (now (s .entry)) ⌝ }
+{
+    match t {
+        LineType::Order => order_stride(kind, k, s),
+        LineType::Label => judge_place(day, kind, t, k, &s[0..]),
+        LineType::Group => judge_place(day, kind, t, k, &s[0..]),
+        LineType::Closing => Answer::Accepted,
+    }
+}
+
+// In how many strides the places of a line of n bytes are judged.
+fn strides(t: LineType, n: usize) -> usize
+    ensures { λ r. ⌜ reach t n r ≡ length (spots t) ⌝ }
+{
+    match t {
+        LineType::Order => {
+            if n == 1002 {
+                return 3;
+            }
+            16
+        }
+        LineType::Label => wage_line::count(t),
+        LineType::Group => wage_line::count(t),
+        LineType::Closing => 0,
+    }
+}
+
+// A line's places in order: the first refusal, with its field and byte.
+pub fn judge_places(day: u64, kind: u64, t: LineType, s: &[u8]) -> Answer
     ensures { λ r. ⌜ r ≡ placesAnswer day kind t (now (s .entry)) ⌝ }
 {
-    let n = wage_line::count(t);
-    let mut k = from;
+    let n = strides(t, s.len());
+    let mut k = 0;
     'places: loop {
         if n <= k {
             break 'places Answer::Accepted;
         }
-        match judge_place(day, kind, t, k, s) {
+        match stride(day, kind, t, k, s) {
             Answer::Accepted => {
                 k += 1;
             }
@@ -270,16 +329,4 @@ fn judge_from(day: u64, kind: u64, t: LineType, from: usize, s: &[u8]) -> Answer
             }
         }
     }
-}
-
-// A line's places: the first refusal, with its field and byte. Sixteen are all places of any line. A line handed on whole would be
-// copied before it is known to be wrong: its part from the first byte on is not.
-pub fn judge_places(day: u64, kind: u64, t: LineType, s: &[u8]) -> Answer
-    ensures { λ r. ⌜ r ≡ placesAnswer day kind t (now (s .entry)) ⌝ }
-{
-    let from = right_to(kind, t, s);
-    if from == 16 {
-        return Answer::Accepted;
-    }
-    judge_from(day, kind, t, from, &s[0..])
 }

@@ -13,6 +13,9 @@ first-bad-requires c κs = search needs
 enum-known-i : tie.Need-enum-known-i
 enum-known-i c = search needs
 
+byte-at-requires : tie.Need-byte-at-requires
+byte-at-requires c κs = search needs
+
 enum-told : tie.Need-enum-told
 enum-told c = search needs
 
@@ -24,16 +27,19 @@ returns c =
     rw (c .nowhere .ensures, sym (c .before .before .before .before .first-bad .ensures) ∙ c .before .before .enum-told .given .1)
     (left _ _ _ _ (ne-eqb _ _ (c .before .if1 .taken)) refl)
 
-iban-check-requires : tie.Need-iban-check-requires
-iban-check-requires c κs = search needs
+tell-iban-requires : tie.Need-tell-iban-requires
+tell-iban-requires c κs = search needs
+
+heard-requires : tie.Need-heard-requires
+heard-requires c κs = search needs
 
 returns-2 : tie.Need-returns-2
-returns-2 c = rw (sym (c .before .before .before .first-bad .ensures) ∙ c .before .i .given .1)
+returns-2 c = rw (sym (c .before .before .before .before .first-bad .ensures) ∙ c .before .before .i .given .1) (c .byte-at .ensures)
 
 returns-3 : tie.Need-returns-3
 returns-3 c =
-    rw (sym (c .before .before .before .before .first-bad .ensures) ∙ c .before .before .enum-told .given .1)
-    (entered _ _ _ _ (eq-eqb _ _ (c .before .if1 .left)) (c .iban-check .ensures))
+    rw (sym (c .before .before .before .before .before .first-bad .ensures) ∙ c .before .before .before .enum-told .given .1)
+    (entered _ _ _ _ (eq-eqb _ _ (c .before .before .if1 .left)) (c .heard .ensures ∙ c .before .tell-iban .ensures .hears))
 
 pub judged-spec : {M : Type 1} → statement M
 judged-spec =
@@ -41,9 +47,11 @@ judged-spec =
     (tie.spec
     first-bad-requires
     enum-known-i
+    byte-at-requires
     enum-told
     nowhere-requires
     returns
-    iban-check-requires
+    tell-iban-requires
+    heard-requires
     returns-2
     returns-3)

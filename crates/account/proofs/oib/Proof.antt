@@ -13,6 +13,9 @@ first-bad-requires c κs = search needs
 enum-known-i : tie.Need-enum-known-i
 enum-known-i c = search needs
 
+byte-at-requires : tie.Need-byte-at-requires
+byte-at-requires c κs = search needs
+
 enum-told : tie.Need-enum-told
 enum-told c = search needs
 
@@ -36,7 +39,7 @@ nowhere-requires-2 : tie.Need-nowhere-requires-2
 nowhere-requires-2 c κs = search needs
 
 returns-3 : tie.Need-returns-3
-returns-3 c = rw (sym (c .before .before .before .first-bad .ensures) ∙ c .before .i .given .1)
+returns-3 c = rw (sym (c .before .before .before .before .first-bad .ensures) ∙ c .before .before .i .given .1) (c .byte-at .ensures)
 
 returns-4 : tie.Need-returns-4
 returns-4 c =
@@ -49,6 +52,7 @@ oib-spec =
     (tie.spec
     first-bad-requires
     enum-known-i
+    byte-at-requires
     enum-told
     nowhere-requires
     returns

@@ -47,13 +47,17 @@ shared-slice-read-is-completed c = omega arith
 is-completed-requires : tie.Need-is-completed-requires Inv-loop μ-loop
 is-completed-requires c κs = search needs
 
+byte-at-requires : tie.Need-byte-at-requires Inv-loop μ-loop
+byte-at-requires c κs = tt
+
 returns : tie.Need-returns Inv-loop μ-loop
 returns c =
-    let a = c .before .before .before .before .before .before .before .before .before .args in
-    let l = c .before .before .before .before .before .before .before .loop in
-    wrong-told (a .most) (a .s .now) (l .i)
-    (passed-wrong (a .s .now) (l .i) (l .n) (l .inv) (sym (c .before .before .before .before .is-single .ensures) ∙ c .before .before .before .if1 .left) (omega arith)
-    (sym (c .before .is-completed .ensures) ∙ not-true _ (c .if2 .taken)))
+    let a = c .before .before .before .before .before .before .before .before .before .before .args in
+    let l = c .before .before .before .before .before .before .before .before .loop in
+    c .byte-at .ensures
+    ∙ wrong-told (a .most) (a .s .now) (l .i)
+    (passed-wrong (a .s .now) (l .i) (l .n) (l .inv) (sym (c .before .before .before .before .before .is-single .ensures) ∙ c .before .before .before .before .if1 .left) (omega arith)
+    (sym (c .before .before .is-completed .ensures) ∙ not-true _ (c .before .if2 .taken)))
 
 add-n-2 : tie.Need-add-n-2 Inv-loop μ-loop
 add-n-2 c = omega arith
@@ -101,6 +105,7 @@ judge-spec =
     add-second
     shared-slice-read-is-completed
     is-completed-requires
+    byte-at-requires
     returns
     add-n-2
     add-i-2

@@ -13,6 +13,9 @@ first-bad-requires c κs = search needs
 enum-known-i : tie.Need-enum-known-i
 enum-known-i c = search needs
 
+byte-at-requires : tie.Need-byte-at-requires
+byte-at-requires c κs = search needs
+
 enum-told : tie.Need-enum-told
 enum-told c = search needs
 
@@ -31,8 +34,8 @@ nowhere-requires-2 c κs = search needs
 
 returns-2 : tie.Need-returns-2
 returns-2 c =
-    let s = c .before .before .before .before .before .args .s .now in
-    ap (unformedAnswer s) (sym (c .before .i .given .1) ∙ c .before .before .before .first-bad .ensures)
+    let s = c .before .before .before .before .before .before .args .s .now in
+    c .byte-at .ensures ∙ ap (unformedAnswer s) (sym (c .before .before .i .given .1) ∙ c .before .before .before .before .first-bad .ensures)
 
 returns-3 : tie.Need-returns-3
 returns-3 c =
@@ -47,6 +50,7 @@ unformed-spec =
     (tie.spec
     first-bad-requires
     enum-known-i
+    byte-at-requires
     enum-told
     nowhere-requires
     returns

@@ -13,6 +13,9 @@ first-bad-requires c κs = search needs
 enum-known-i : tie.Need-enum-known-i
 enum-known-i c = search needs
 
+byte-at-requires : tie.Need-byte-at-requires
+byte-at-requires c κs = search needs
+
 enum-told : tie.Need-enum-told
 enum-told c = search needs
 
@@ -25,7 +28,7 @@ nowhere-requires : tie.Need-nowhere-requires
 nowhere-requires c κs = search needs
 
 returns-2 : tie.Need-returns-2
-returns-2 c = rw (sym (c .before .before .before .first-bad .ensures) ∙ c .before .i .given .1)
+returns-2 c = rw (sym (c .before .before .before .before .first-bad .ensures) ∙ c .before .before .i .given .1) (c .byte-at .ensures)
 
 returns-3 : tie.Need-returns-3
 returns-3 c =
@@ -38,6 +41,7 @@ judge-amount-spec =
     (tie.spec
     first-bad-requires
     enum-known-i
+    byte-at-requires
     enum-told
     returns
     nowhere-requires

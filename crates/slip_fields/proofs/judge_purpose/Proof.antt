@@ -13,6 +13,9 @@ first-bad-requires c κs = search needs
 enum-known-k : tie.Need-enum-known-k
 enum-known-k c = search needs
 
+byte-at-requires : tie.Need-byte-at-requires
+byte-at-requires c κs = search needs
+
 enum-told : tie.Need-enum-told
 enum-told c = search needs
 
@@ -30,7 +33,7 @@ nowhere-requires : tie.Need-nowhere-requires
 nowhere-requires c κs = search needs
 
 returns-3 : tie.Need-returns-3
-returns-3 c = rw (sym (c .before .before .before .first-bad .ensures) ∙ c .before .k .given .1)
+returns-3 c = rw (sym (c .before .before .before .before .first-bad .ensures) ∙ c .before .before .k .given .1) (c .byte-at .ensures)
 
 returns-4 : tie.Need-returns-4
 returns-4 c =
@@ -43,6 +46,7 @@ judge-purpose-spec =
     (tie.spec
     first-bad-requires
     enum-known-k
+    byte-at-requires
     enum-told
     returns
     returns-2

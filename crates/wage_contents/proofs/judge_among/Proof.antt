@@ -12,8 +12,8 @@ read-requires c κs = search needs
 enum-known-i : tie.Need-enum-known-i
 enum-known-i c = search needs
 
-wrong-byte-requires : tie.Need-wrong-byte-requires
-wrong-byte-requires c κs = search needs
+byte-at-requires : tie.Need-byte-at-requires
+byte-at-requires c κs = search needs
 
 enum-known-v : tie.Need-enum-known-v
 enum-known-v c = search needs
@@ -38,7 +38,7 @@ form-requires c κs = search needs
 
 returns-4 : tie.Need-returns-4
 unfolding amongAnswer
-returns-4 c = read-wrong _ _ _ _ (sym (c .before .before .before .before .read .ensures) ∙ c .before .before .i .given .1) (c .wrong-byte .ensures)
+returns-4 c = read-wrong _ _ _ _ (sym (c .before .before .before .before .read .ensures) ∙ c .before .before .i .given .1) (c .byte-at .ensures)
 
 returns-5 : tie.Need-returns-5
 unfolding amongAnswer
@@ -51,7 +51,7 @@ judge-among-spec =
     (tie.spec
     read-requires
     enum-known-i
-    wrong-byte-requires
+    byte-at-requires
     enum-known-v
     returns
     returns-2

@@ -14,16 +14,16 @@ enum-known-i c = search needs
 enum-told : tie.Need-enum-told
 enum-told c = search needs
 
-wrong-byte-requires : tie.Need-wrong-byte-requires
-wrong-byte-requires c κs = search needs
+byte-at-requires : tie.Need-byte-at-requires
+byte-at-requires c κs = search needs
 
 returns : tie.Need-returns
 unfolding bytesAnswer
-returns c = rw (sym (c .before .before .before .before .first-bad .ensures) ∙ c .before .before .i .given .1) (c .wrong-byte .ensures)
+returns c = rw (sym (c .before .before .before .before .first-bad .ensures) ∙ c .before .before .i .given .1) (c .byte-at .ensures)
 
 returns-2 : tie.Need-returns-2
 unfolding bytesAnswer
 returns-2 c = rw (sym (c .before .before .first-bad .ensures) ∙ c .enum-told .given .1)
 
 pub judge-bytes-spec : {M : Type 1} → statement M
-judge-bytes-spec = tie.close (tie.spec first-bad-requires enum-known-i wrong-byte-requires enum-told returns returns-2)
+judge-bytes-spec = tie.close (tie.spec first-bad-requires enum-known-i byte-at-requires enum-told returns returns-2)

@@ -15,8 +15,8 @@ read-requires c κs = search needs
 enum-known-i : tie.Need-enum-known-i
 enum-known-i c = search needs
 
-wrong-byte-requires : tie.Need-wrong-byte-requires
-wrong-byte-requires c κs = search needs
+byte-at-requires : tie.Need-byte-at-requires
+byte-at-requires c κs = search needs
 
 enum-known-v : tie.Need-enum-known-v
 enum-known-v c = search needs
@@ -50,7 +50,7 @@ returns-2 c = let w = read-right _ _ (sym (c .before .before .before .before .be
 
 returns-3 : tie.Need-returns-3
 unfolding codeAnswer
-returns-3 c = read-wrong _ _ _ _ (sym (c .before .before .before .before .read .ensures) ∙ c .before .before .i .given .1) (c .wrong-byte .ensures)
+returns-3 c = read-wrong _ _ _ _ (sym (c .before .before .before .before .read .ensures) ∙ c .before .before .i .given .1) (c .byte-at .ensures)
 
 returns-4 : tie.Need-returns-4
 unfolding codeAnswer
@@ -66,7 +66,7 @@ judge-code-spec =
     (tie.spec
     read-requires
     enum-known-i
-    wrong-byte-requires
+    byte-at-requires
     enum-known-v
     is-code-requires
     form-requires

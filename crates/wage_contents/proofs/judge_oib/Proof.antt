@@ -13,8 +13,8 @@ read-oib-requires c κs = search needs
 enum-known-i : tie.Need-enum-known-i
 enum-known-i c = search needs
 
-wrong-byte-requires : tie.Need-wrong-byte-requires
-wrong-byte-requires c κs = search needs
+byte-at-requires : tie.Need-byte-at-requires
+byte-at-requires c κs = search needs
 
 enum-told : tie.Need-enum-told
 enum-told c = search needs
@@ -39,7 +39,7 @@ enum-told-3 c = search needs
 returns-2 : tie.Need-returns-2
 returns-2 c =
     let a = c .before .before .before .before .before .before .args in
-    c .wrong-byte .ensures ∙ told-oib (a .absent) (a .f .now) _ (sym (c .before .before .i .given .1) ∙ c .before .before .before .before .read-oib .ensures)
+    c .byte-at .ensures ∙ told-oib (a .absent) (a .f .now) _ (sym (c .before .before .i .given .1) ∙ c .before .before .before .before .read-oib .ensures)
 
 returns-3 : tie.Need-returns-3
 returns-3 c =
@@ -64,7 +64,7 @@ judge-oib-spec =
     (tie.spec
     read-oib-requires
     enum-known-i
-    wrong-byte-requires
+    byte-at-requires
     enum-told
     returns
     form-requires

@@ -14,8 +14,8 @@ read-requires c κs = search needs
 enum-known-i : tie.Need-enum-known-i
 enum-known-i c = search needs
 
-wrong-byte-requires : tie.Need-wrong-byte-requires
-wrong-byte-requires c κs = search needs
+byte-at-requires : tie.Need-byte-at-requires
+byte-at-requires c κs = search needs
 
 enum-known-v : tie.Need-enum-known-v
 enum-known-v c = search needs
@@ -45,7 +45,7 @@ date-requires-2 c κs = search needs
 
 returns-3 : tie.Need-returns-3
 unfolding todayAnswer
-returns-3 c = read-wrong _ _ _ _ (sym (c .before .before .before .before .read .ensures) ∙ c .before .before .i .given .1) (c .wrong-byte .ensures)
+returns-3 c = read-wrong _ _ _ _ (sym (c .before .before .before .before .read .ensures) ∙ c .before .before .i .given .1) (c .byte-at .ensures)
 
 returns-4 : tie.Need-returns-4
 unfolding todayAnswer
@@ -60,7 +60,7 @@ judge-today-spec =
     (tie.spec
     read-requires
     enum-known-i
-    wrong-byte-requires
+    byte-at-requires
     enum-known-v
     is-date-requires
     date-requires

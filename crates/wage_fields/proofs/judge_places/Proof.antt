@@ -1,56 +1,79 @@
--- `wage_fields::judge_places` meets its contract: all sixteen places right at once, else those behind the right ones in
--- order. Assumes nothing.
+-- `wage_fields::judge_places` meets its contract. The loop's invariant: the answer is that of the places behind the first `k` strides.
+-- Assumes nothing.
+use Prim.Native.Nat.{_≤_, _-_}
 use mathlib.Core.Path.{_≡_, sym, ap, _∙_}
-use mathlib.Core.List.{List}
-use Prim.Native.Nat.{ℕ}
-use lib.ListN.{take}
+use native.Mathlib.Omega.{arith}
+use lib.ListN.{length, drop}
+use Rattle.refusal.specs.Refusal.{isAccepted}
 use Rattle.wage_line.specs.Places.{spots}
-use Rattle.text.proofs.Laws.{to-the-end}
-use Rattle.wage_fields.specs.Rules.{placesAnswer}
-use Rattle.wage_fields.proofs.Laws.{sixteen-all}
+use Rattle.wage_fields.specs.Rules.{reach, placesFrom, placesAnswer}
+use Rattle.wage_fields.proofs.Laws.{reach-none, reach-grows, places-end, stride-accepted, stride-refused}
 use borrow.Author.Needs.{needs}
 use Rattle.wage_fields.proofs.judge_places.Statement.{statement}
 use Rattle.wage_fields.proofs.judge_places.Tie as tie
 
-right-to-requires : tie.Need-right-to-requires
-right-to-requires c κs = search needs
+abbrev Inv-places : tie.InvT-places
+Inv-places day kind t s n k₀ k = (k ≤ n) × (placesAnswer day kind t s ≡ placesFrom day kind t (drop (reach t (length s) k) (spots t)) s)
 
-returns : tie.Need-returns
+abbrev μ-places : tie.MeasureT-places
+μ-places day kind t s n k₀ k = n - k
+
+strides-requires : tie.Need-strides-requires Inv-places μ-places
+strides-requires c κs = tt
+
+places-holds : tie.Need-places-holds Inv-places μ-places
 unfolding placesAnswer
+places-holds c =
+    let a = c .before .before .args in
+    (omega arith, rw (reach-none (a .t) (length (a .s .now))))
+
+stride-requires : tie.Need-stride-requires Inv-places μ-places
+stride-requires c κs = tt
+
+enum-told : tie.Need-enum-told Inv-places μ-places
+enum-told c = search needs
+
+add-k : tie.Need-add-k Inv-places μ-places
+add-k c = omega arith
+
+places-less : tie.Need-places-less Inv-places μ-places
+places-less c = omega arith
+
+places-again : tie.Need-places-again Inv-places μ-places
+places-again c =
+    let a = c .before .before .before .before .before .before .before .args in
+    let l = c .before .before .before .before .places in
+    (omega arith, l .inv .1 ∙ stride-accepted (a .day) (a .kind) (a .t) (a .s .now) _ _ (spots (a .t)) (reach-grows (a .t) (length (a .s .now)) (l .k)) _ (c .before .before .stride .ensures) (c .enum-told .given .1))
+
+enum-known-r : tie.Need-enum-known-r Inv-places μ-places
+enum-known-r c = search needs
+
+returns : tie.Need-returns Inv-places μ-places
 returns c =
-    let a = c .before .before .before .args in
-    let r = c .before .right-to .ensures .1 (a .day) in
-    let all : take (c .before .right-to .result) (spots (a .t)) ≡ spots (a .t) = rw (c .if1 .taken) (sixteen-all (a .t)) in
-    sym (rw all at r)
-
-sub-judge-from : tie.Need-sub-judge-from
-sub-judge-from c = search needs
-
-part-judge-from-start : tie.Need-part-judge-from-start
-part-judge-from-start c = search needs
-
-part-judge-from-end : tie.Need-part-judge-from-end
-part-judge-from-end c = search needs
-
-judge-from-requires : tie.Need-judge-from-requires
-judge-from-requires c κs =
     let a = c .before .before .before .before .args in
-    let r = c .before .before .right-to .ensures in
-    (r .0, rw (to-the-end 0 (a .s .now)) (r .1 (a .day)))
+    let l = c .before .places in
+    let all : l .k ≡ c .before .before .strides .result = omega arith in
+    places-end (a .day) (a .kind) (a .t) (a .s .now) _ (spots (a .t)) (ap (reach (a .t) (length (a .s .now))) all ∙ c .before .before .strides .ensures) ∙ sym (l .inv .1)
 
-returns-2 : tie.Need-returns-2
+returns-2 : tie.Need-returns-2 Inv-places μ-places
 returns-2 c =
-    let a = c .before .before .before .before .before .args in
-    c .judge-from .ensures ∙ ap (λ (s : List ℕ). placesAnswer (a .day) (a .kind) (a .t) s) (to-the-end 0 (a .s .now))
+    let a = c .before .before .before .before .before .before .before .before .args in
+    let l = c .before .before .before .before .before .places in
+    sym (c .before .r .given .1) ∙ stride-refused (a .day) (a .kind) (a .t) (a .s .now) _ _ (spots (a .t)) (reach-grows (a .t) (length (a .s .now)) (l .k)) _ (c .before .before .before .stride .ensures) (ap isAccepted (c .before .r .given .1)) ∙ sym (l .inv .1)
 
 pub judge-places-spec : {M : Type 1} → statement M
 judge-places-spec =
     tie.close
     (tie.spec
-    right-to-requires
+    Inv-places
+    μ-places
+    strides-requires
+    places-holds
+    stride-requires
+    enum-told
+    add-k
+    places-less
+    places-again
+    enum-known-r
     returns
-    sub-judge-from
-    part-judge-from-start
-    part-judge-from-end
-    judge-from-requires
     returns-2)

@@ -24,6 +24,9 @@ find-requires c κs = search needs
 part-requires : tie.Need-part-requires
 part-requires c κs = search needs
 
+is-blank-requires : tie.Need-is-blank-requires
+is-blank-requires c κs = search needs
+
 judge-code-requires : tie.Need-judge-code-requires
 judge-code-requires c κs = search needs
 
@@ -48,7 +51,7 @@ returns-4 c = rw (c .before .match .keys4) (c .judge-sign2 .ensures)
 
 returns-5 : tie.Need-returns-5
 unfolding paymentRule
-returns-5 c = rw (c .before .before .before .match .keys5, ← c .before .before .find .ensures, ← c .before .part .ensures) (c .judge-code .ensures)
+returns-5 c = rw (c .before .before .before .before .match .keys5, ← c .before .before .before .find .ensures, ← c .before .before .part .ensures, ← c .before .is-blank .ensures) (c .judge-code .ensures)
 
 returns-6 : tie.Need-returns-6
 unfolding paymentRule
@@ -71,6 +74,7 @@ payment-rule-spec =
     judge-sign-requires-2
     find-requires
     part-requires
+    is-blank-requires
     judge-code-requires
     judge-oib-requires
     returns

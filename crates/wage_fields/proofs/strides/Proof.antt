@@ -1,0 +1,58 @@
+-- `wage_fields::strides` meets its contract. Assumes nothing.
+use borrow.Author.Tests.{eq-eqb, ne-eqb}
+use Rattle.wage_line.specs.Places.{spots}
+use borrow.Author.Needs.{needs}
+use Rattle.wage_fields.proofs.strides.Statement.{statement}
+use Rattle.wage_fields.proofs.strides.Tie as tie
+
+enum-told : tie.Need-enum-told
+enum-told c = search needs
+
+returns : tie.Need-returns
+unfolding spots
+returns c = rw (c .before .enum-told .given .1, eq-eqb _ _ (c .if1 .taken))
+
+enum-told-2 : tie.Need-enum-told-2
+enum-told-2 c = search needs
+
+count-requires : tie.Need-count-requires
+count-requires c κs = search needs
+
+enum-told-3 : tie.Need-enum-told-3
+enum-told-3 c = search needs
+
+count-requires-2 : tie.Need-count-requires-2
+count-requires-2 c κs = search needs
+
+enum-told-4 : tie.Need-enum-told-4
+enum-told-4 c = search needs
+
+returns-2 : tie.Need-returns-2
+unfolding spots
+returns-2 c = rw (c .before .enum-told .given .1, ne-eqb _ _ (c .if1 .left))
+
+returns-3 : tie.Need-returns-3
+returns-3 c = rw (c .before .enum-told2 .given .1) (rw (c .before .enum-told2 .given .1) at (c .count .ensures))
+
+returns-4 : tie.Need-returns-4
+returns-4 c = rw (c .before .enum-told3 .given .1) (rw (c .before .enum-told3 .given .1) at (c .count2 .ensures))
+
+returns-5 : tie.Need-returns-5
+unfolding spots
+returns-5 c = rw (c .enum-told4 .given .1)
+
+pub strides-spec : {M : Type 1} → statement M
+strides-spec =
+    tie.close
+    (tie.spec
+    enum-told
+    returns
+    enum-told-2
+    count-requires
+    enum-told-3
+    count-requires-2
+    enum-told-4
+    returns-2
+    returns-3
+    returns-4
+    returns-5)
