@@ -8,12 +8,6 @@ use borrow.Author.Needs.{needs}
 use Rattle.account.proofs.formed_passes.Statement.{statement}
 use Rattle.account.proofs.formed_passes.Tie as tie
 
-sub-number : tie.Need-sub-number
-sub-number c = search needs
-
-part-number-start : tie.Need-part-number-start
-part-number-start c = search needs
-
 part-number-end : tie.Need-part-number-end
 part-number-end c = let z = c .before in omega (arith, formed-length (z .args .s .now) (z .pre))
 
@@ -26,23 +20,11 @@ returns c = let z = c .before .before .before .before in let s = z .args .s .now
 returns-2 : tie.Need-returns-2
 returns-2 c = let z = c .before .before .before .before .before in let s = z .args .s .now in high-fails s _ (ap At (c .before .before .number .ensures) ∙ formed-read s (z .pre)) (omega arith)
 
-sub-number-2 : tie.Need-sub-number-2
-sub-number-2 c = search needs
-
-part-number-start-2 : tie.Need-part-number-start-2
-part-number-start-2 c = search needs
-
 part-number-end-2 : tie.Need-part-number-end-2
 part-number-end-2 c = let z = c .before .before .before .before .before in omega (arith, formed-length (z .args .s .now) (z .pre))
 
 number-requires-2 : tie.Need-number-requires-2
 number-requires-2 c κs = let z = c .before .before .before .before .before .before in let s = z .args .s .now in (formed-digits s (z .pre) 2 8, omega (arith, length-take 8 (drop 4 s)))
-
-sub-number-3 : tie.Need-sub-number-3
-sub-number-3 c = search needs
-
-part-number-start-3 : tie.Need-part-number-start-3
-part-number-start-3 c = search needs
 
 part-number-end-3 : tie.Need-part-number-end-3
 part-number-end-3 c = let z = c .before .before .before .before .before .before .before in omega (arith, formed-length (z .args .s .now) (z .pre))
@@ -58,15 +40,6 @@ add-result c =
     let s = c .before .before .before .before .before .before .before .before .before .args .s .now in
     omega (arith, c .before .before .number2 .ensures, c .number3 .ensures, nine-small (take 8 (drop 4 s)) (omega (arith, length-take 8 (drop 4 s))), nine-small (take 9 (drop 12 s)) (omega (arith, length-take 9 (drop 12 s))))
 
-mul-result-2 : tie.Need-mul-result-2
-mul-result-2 c = search needs
-
-add-result-2 : tie.Need-add-result-2
-add-result-2 c = search needs
-
-add-result-3 : tie.Need-add-result-3
-add-result-3 c = search needs
-
 returns-3 : tie.Need-returns-3
 returns-3 c =
     let z = c .before .before .before .before .before .before .before .before .before in
@@ -79,23 +52,23 @@ pub formed-passes-spec : {M : Type 1} → statement M
 formed-passes-spec =
     tie.close
     (tie.spec
-    sub-number
-    part-number-start
+    (λ c. search needs)
+    (λ c. search needs)
     part-number-end
     number-requires
     returns
     returns-2
-    sub-number-2
-    part-number-start-2
+    (λ c. search needs)
+    (λ c. search needs)
     part-number-end-2
     number-requires-2
-    sub-number-3
-    part-number-start-3
+    (λ c. search needs)
+    (λ c. search needs)
     part-number-end-3
     number-requires-3
     mul-result
     add-result
-    mul-result-2
-    add-result-2
-    add-result-3
+    (λ c. search needs)
+    (λ c. search needs)
+    (λ c. search needs)
     returns-3)

@@ -8,20 +8,14 @@ use borrow.Author.Needs.{needs}
 use Rattle.account.proofs.iban.Statement.{statement}
 use Rattle.account.proofs.iban.Tie as tie
 
-tell-iban-requires : tie.Need-tell-iban-requires
-tell-iban-requires c κs = search needs
-
 returns : tie.Need-returns
 returns c =
     let s = c .before .before .before .args .s .now in
     let t = both-true (ibanFormed s) (ibanPasses s) (iban-accepted-exactly s .0 (nothing-told _ _ (c .before .tell-iban .ensures) (c .if1 .taken))) in
     formed-decides _ _ (t .0) (taken _ _ _ (t .1))
 
-judged-requires : tie.Need-judged-requires
-judged-requires c κs = search needs
-
 returns-2 : tie.Need-returns-2
 returns-2 c = c .judged .ensures
 
 pub iban-spec : {M : Type 1} → statement M
-iban-spec = tie.close (tie.spec tell-iban-requires returns judged-requires returns-2)
+iban-spec = tie.close (tie.spec (λ c κs. search needs) returns (λ c κs. search needs) returns-2)

@@ -10,9 +10,6 @@ use borrow.Author.Needs.{needs}
 use Rattle.account.proofs.iban_passes.Statement.{statement}
 use Rattle.account.proofs.iban_passes.Tie as tie
 
-is-iban-formed-requires : tie.Need-is-iban-formed-requires
-is-iban-formed-requires c κs = search needs
-
 formed-passes-requires : tie.Need-formed-passes-requires
 formed-passes-requires c κs = sym (c .before .is-iban-formed .ensures) ∙ c .if1 .taken
 
@@ -22,50 +19,11 @@ returns c = c .formed-passes .ensures
 returns-2 : tie.Need-returns-2
 returns-2 c = short-fails _ (c .if2 .taken)
 
-shared-slice-read-two-digits : tie.Need-shared-slice-read-two-digits
-shared-slice-read-two-digits c = search needs
-
-shared-slice-read-two-digits-2 : tie.Need-shared-slice-read-two-digits-2
-shared-slice-read-two-digits-2 c = search needs
-
-two-digits-requires : tie.Need-two-digits-requires
-two-digits-requires c κs = search needs
-
-enum-known-k : tie.Need-enum-known-k
-enum-known-k c = search needs
-
 returns-3 : tie.Need-returns-3
 returns-3 c = let d = c .before .before in low-fails _ (d .k .given .0 .0) (sym (d .k .given .1) ∙ d .before .before .two-digits .ensures) (c .if3 .taken)
 
 returns-4 : tie.Need-returns-4
 returns-4 c = let d = c .before .before .before in high-fails _ (d .k .given .0 .0) (sym (d .k .given .1) ∙ d .before .before .two-digits .ensures) (c .if4 .taken)
-
-sub-remainder97 : tie.Need-sub-remainder97
-sub-remainder97 c = search needs
-
-part-remainder97-start : tie.Need-part-remainder97-start
-part-remainder97-start c = search needs
-
-part-remainder97-end : tie.Need-part-remainder97-end
-part-remainder97-end c = search needs
-
-remainder97-requires : tie.Need-remainder97-requires
-remainder97-requires c κs = search needs
-
-cast-result : tie.Need-cast-result
-cast-result c = search needs
-
-mul-result : tie.Need-mul-result
-mul-result c = omega arith
-
-add-result : tie.Need-add-result
-add-result c = omega arith
-
-add-result-2 : tie.Need-add-result-2
-add-result-2 c = omega arith
-
-enum-told : tie.Need-enum-told
-enum-told c = search needs
 
 returns-5 : tie.Need-returns-5
 returns-5 c =
@@ -80,24 +38,24 @@ pub iban-passes-spec : {M : Type 1} → statement M
 iban-passes-spec =
     tie.close
     (tie.spec
-    is-iban-formed-requires
+    (λ c κs. search needs)
     formed-passes-requires
     returns
     returns-2
-    shared-slice-read-two-digits
-    shared-slice-read-two-digits-2
-    two-digits-requires
-    enum-known-k
+    (λ c. search needs)
+    (λ c. search needs)
+    (λ c κs. search needs)
+    (λ c. search needs)
     returns-3
     returns-4
-    sub-remainder97
-    part-remainder97-start
-    part-remainder97-end
-    remainder97-requires
-    cast-result
-    mul-result
-    add-result
-    add-result-2
-    enum-told
+    (λ c. search needs)
+    (λ c. search needs)
+    (λ c. search needs)
+    (λ c κs. search needs)
+    (λ c. search needs)
+    (λ c. omega arith)
+    (λ c. omega arith)
+    (λ c. omega arith)
+    (λ c. search needs)
     returns-5
     returns-6)

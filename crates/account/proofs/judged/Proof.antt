@@ -7,31 +7,10 @@ use borrow.Author.Needs.{needs}
 use Rattle.account.proofs.judged.Statement.{statement}
 use Rattle.account.proofs.judged.Tie as tie
 
-first-bad-requires : tie.Need-first-bad-requires
-first-bad-requires c κs = search needs
-
-enum-known-i : tie.Need-enum-known-i
-enum-known-i c = search needs
-
-byte-at-requires : tie.Need-byte-at-requires
-byte-at-requires c κs = search needs
-
-enum-told : tie.Need-enum-told
-enum-told c = search needs
-
-nowhere-requires : tie.Need-nowhere-requires
-nowhere-requires c κs = search needs
-
 returns : tie.Need-returns
 returns c =
     rw (c .nowhere .ensures, sym (c .before .before .before .before .first-bad .ensures) ∙ c .before .before .enum-told .given .1)
     (left _ _ _ _ (ne-eqb _ _ (c .before .if1 .taken)) refl)
-
-tell-iban-requires : tie.Need-tell-iban-requires
-tell-iban-requires c κs = search needs
-
-heard-requires : tie.Need-heard-requires
-heard-requires c κs = search needs
 
 returns-2 : tie.Need-returns-2
 returns-2 c = rw (sym (c .before .before .before .before .first-bad .ensures) ∙ c .before .before .i .given .1) (c .byte-at .ensures)
@@ -45,13 +24,13 @@ pub judged-spec : {M : Type 1} → statement M
 judged-spec =
     tie.close
     (tie.spec
-    first-bad-requires
-    enum-known-i
-    byte-at-requires
-    enum-told
-    nowhere-requires
+    (λ c κs. search needs)
+    (λ c. search needs)
+    (λ c κs. search needs)
+    (λ c. search needs)
+    (λ c κs. search needs)
     returns
-    tell-iban-requires
-    heard-requires
+    (λ c κs. search needs)
+    (λ c κs. search needs)
     returns-2
     returns-3)

@@ -7,36 +7,15 @@ use borrow.Author.Needs.{needs}
 use Rattle.account.proofs.oib.Statement.{statement}
 use Rattle.account.proofs.oib.Tie as tie
 
-first-bad-requires : tie.Need-first-bad-requires
-first-bad-requires c κs = search needs
-
-enum-known-i : tie.Need-enum-known-i
-enum-known-i c = search needs
-
-byte-at-requires : tie.Need-byte-at-requires
-byte-at-requires c κs = search needs
-
-enum-told : tie.Need-enum-told
-enum-told c = search needs
-
-nowhere-requires : tie.Need-nowhere-requires
-nowhere-requires c κs = search needs
-
 returns : tie.Need-returns
 returns c =
     rw (c .nowhere .ensures, sym (c .before .before .before .before .first-bad .ensures) ∙ c .before .before .enum-told .given .1)
     (left _ _ _ _ (ne-eqb _ _ (c .before .if1 .taken)) refl)
 
-oib-passes-requires : tie.Need-oib-passes-requires
-oib-passes-requires c κs = search needs
-
 returns-2 : tie.Need-returns-2
 returns-2 c =
     rw (sym (c .before .before .before .before .before .first-bad .ensures) ∙ c .before .before .before .enum-told .given .1)
     (entered _ _ _ _ (eq-eqb _ _ (c .before .before .if1 .left)) (taken _ _ _ (sym (c .before .oib-passes .ensures) ∙ c .if2 .taken)))
-
-nowhere-requires-2 : tie.Need-nowhere-requires-2
-nowhere-requires-2 c κs = search needs
 
 returns-3 : tie.Need-returns-3
 returns-3 c = rw (sym (c .before .before .before .before .first-bad .ensures) ∙ c .before .before .i .given .1) (c .byte-at .ensures)
@@ -50,14 +29,14 @@ pub oib-spec : {M : Type 1} → statement M
 oib-spec =
     tie.close
     (tie.spec
-    first-bad-requires
-    enum-known-i
-    byte-at-requires
-    enum-told
-    nowhere-requires
+    (λ c κs. search needs)
+    (λ c. search needs)
+    (λ c κs. search needs)
+    (λ c. search needs)
+    (λ c κs. search needs)
     returns
-    oib-passes-requires
+    (λ c κs. search needs)
     returns-2
-    nowhere-requires-2
+    (λ c κs. search needs)
     returns-3
     returns-4)

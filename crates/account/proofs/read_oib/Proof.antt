@@ -4,12 +4,9 @@ use borrow.Author.Needs.{needs}
 use Rattle.account.proofs.read_oib.Statement.{statement}
 use Rattle.account.proofs.read_oib.Tie as tie
 
-told-requires : tie.Need-told-requires
-told-requires c κs = search needs
-
 returns : tie.Need-returns
 unfolding oibPasses
 returns c = c .told .ensures
 
 pub read-oib-spec : {M : Type 1} → statement M
-read-oib-spec = tie.close (tie.spec told-requires returns)
+read-oib-spec = tie.close (tie.spec (λ c κs. search needs) returns)

@@ -10,9 +10,6 @@ use borrow.Author.Needs.{needs}
 use Rattle.account.proofs.tell_iban.Statement.{statement}
 use Rattle.account.proofs.tell_iban.Tie as tie
 
-is-iban-formed-requires : tie.Need-is-iban-formed-requires
-is-iban-formed-requires c κs = search needs
-
 returns : tie.Need-returns
 returns c = tells-number _ (Refused (Form none)) refl (sym (left _ _ _ _ (sym (c .before .is-iban-formed .ensures) ∙ not-true _ (c .if1 .taken)) refl))
 
@@ -32,4 +29,4 @@ returns-3 c =
     (taken _ _ _ (sym (c .before .formed-passes .ensures) ∙ not-false _ (c .if2 .left)))))
 
 pub tell-iban-spec : {M : Type 1} → statement M
-tell-iban-spec = tie.close (tie.spec is-iban-formed-requires returns formed-passes-requires returns-2 returns-3)
+tell-iban-spec = tie.close (tie.spec (λ c κs. search needs) returns formed-passes-requires returns-2 returns-3)

@@ -3,11 +3,8 @@ use borrow.Author.Needs.{needs}
 use Rattle.boundary.proofs.accept_value.Statement.{statement}
 use Rattle.boundary.proofs.accept_value.Tie as tie
 
-accept-requires : tie.Need-accept-requires
-accept-requires c κs = search needs
-
 returns : tie.Need-returns
 returns c = rw (c .accept .ensures)
 
 pub accept-value-spec : {M : Type 1} → statement M
-accept-value-spec = tie.close (tie.spec accept-requires returns)
+accept-value-spec = tie.close (tie.spec (λ c κs. search needs) returns)

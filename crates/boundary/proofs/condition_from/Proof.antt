@@ -6,9 +6,6 @@ use borrow.Author.Needs.{needs}
 use Rattle.boundary.proofs.condition_from.Statement.{statement}
 use Rattle.boundary.proofs.condition_from.Tie as tie
 
-refusal-from-requires : tie.Need-refusal-from-requires
-refusal-from-requires c κs = search needs
-
 returns : tie.Need-returns
 returns c = rw (c .match .keys1)
 
@@ -33,4 +30,4 @@ returns-6 c =
 pub condition-from-spec : {M : Type 1} → statement M
 condition-from-spec =
     tie.close
-    (tie.spec refusal-from-requires returns returns-2 returns-3 returns-4 returns-5 returns-6)
+    (tie.spec (λ c κs. search needs) returns returns-2 returns-3 returns-4 returns-5 returns-6)

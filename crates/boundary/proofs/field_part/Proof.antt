@@ -12,20 +12,8 @@ returns c = part-below (c .before .before .args .s .now) (c .before .before .arg
 returns-2 : tie.Need-returns-2
 returns-2 c = part-above (c .before .before .before .args .s .now) (c .before .before .before .args .number) (c .before .if1 .left) (c .if2 .taken)
 
-is-accepted-requires : tie.Need-is-accepted-requires
-is-accepted-requires c κs = search needs
-
 returns-3 : tie.Need-returns-3
 returns-3 c = part-refused (c .before .before .before .before .before .args .s .now) (c .before .before .before .before .before .args .number) (c .before .before .before .if1 .left) (c .before .before .if2 .left) (sym (c .before .is-accepted .ensures) ∙ not-true _ (c .if3 .taken))
-
-sub-piece-start : tie.Need-sub-piece-start
-sub-piece-start c = search needs
-
-piece-start-requires : tie.Need-piece-start-requires
-piece-start-requires c κs = search needs
-
-field-requires : tie.Need-field-requires
-field-requires c κs = search needs
 
 returns-4 : tie.Need-returns-4
 returns-4 c =
@@ -38,9 +26,9 @@ field-part-spec =
     (tie.spec
     returns
     returns-2
-    is-accepted-requires
+    (λ c κs. search needs)
     returns-3
-    sub-piece-start
-    piece-start-requires
-    field-requires
+    (λ c. search needs)
+    (λ c κs. search needs)
+    (λ c κs. search needs)
     returns-4)

@@ -10,19 +10,10 @@ use Rattle.boundary.proofs.front.Tie as tie
 returns : tie.Need-returns
 returns c = sym (take-all (c .before .args .n) (c .before .args .s .now) (omega arith))
 
-sub-result : tie.Need-sub-result
-sub-result c = search needs
-
-part-result-start : tie.Need-part-result-start
-part-result-start c = search needs
-
-part-result-end : tie.Need-part-result-end
-part-result-end c = search needs
-
 returns-2 : tie.Need-returns-2
 returns-2 c = let n = c .before .before .args .n in
     let e : n - 0 ≡ n = omega arith in
     rw e
 
 pub front-spec : {M : Type 1} → statement M
-front-spec = tie.close (tie.spec returns sub-result part-result-start part-result-end returns-2)
+front-spec = tie.close (tie.spec returns (λ c. search needs) (λ c. search needs) (λ c. search needs) returns-2)

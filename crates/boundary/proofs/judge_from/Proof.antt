@@ -4,12 +4,9 @@ use borrow.Author.Needs.{needs}
 use Rattle.boundary.proofs.judge_from.Statement.{statement}
 use Rattle.boundary.proofs.judge_from.Tie as tie
 
-condition-from-requires : tie.Need-condition-from-requires
-condition-from-requires c κs = search needs
-
 returns : tie.Need-returns
 unfolding judgeOf
 returns c = rw (c .condition-from .ensures)
 
 pub judge-from-spec : {M : Type 1} → statement M
-judge-from-spec = tie.close (tie.spec condition-from-requires returns)
+judge-from-spec = tie.close (tie.spec (λ c κs. search needs) returns)

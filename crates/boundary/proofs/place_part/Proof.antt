@@ -5,18 +5,6 @@ use borrow.Author.Needs.{needs}
 use Rattle.boundary.proofs.place_part.Statement.{statement}
 use Rattle.boundary.proofs.place_part.Tie as tie
 
-read-type-requires : tie.Need-read-type-requires
-read-type-requires c κs = search needs
-
-enum-known-t : tie.Need-enum-known-t
-enum-known-t c = search needs
-
-find-requires : tie.Need-find-requires
-find-requires c κs = search needs
-
-enum-told : tie.Need-enum-told
-enum-told c = search needs
-
 returns : tie.Need-returns
 unfolding placePart
 returns c = rw (sym (c .before .before .before .before .read-type .ensures) ∙ c .before .before .t .given .1, c .find .ensures)
@@ -27,4 +15,4 @@ returns-2 c = rw (sym (c .before .before .read-type .ensures) ∙ c .enum-told .
 
 pub place-part-spec : {M : Type 1} → statement M
 place-part-spec =
-    tie.close (tie.spec read-type-requires enum-known-t find-requires enum-told returns returns-2)
+    tie.close (tie.spec (λ c κs. search needs) (λ c. search needs) (λ c κs. search needs) (λ c. search needs) returns returns-2)

@@ -4,15 +4,9 @@ use borrow.Author.Needs.{needs}
 use Rattle.boundary.proofs.record_from.Statement.{statement}
 use Rattle.boundary.proofs.record_from.Tie as tie
 
-condition-number-requires : tie.Need-condition-number-requires
-condition-number-requires c κs = search needs
-
-condition-told-requires : tie.Need-condition-told-requires
-condition-told-requires c κs = search needs
-
 returns : tie.Need-returns
 unfolding recordOf
 returns c = rw (c .before .condition-number .ensures, c .condition-told .ensures)
 
 pub record-from-spec : {M : Type 1} → statement M
-record-from-spec = tie.close (tie.spec condition-number-requires condition-told-requires returns)
+record-from-spec = tie.close (tie.spec (λ c κs. search needs) (λ c κs. search needs) returns)

@@ -3,11 +3,8 @@ use borrow.Author.Needs.{needs}
 use Rattle.boundary.proofs.refuse_value.Statement.{statement}
 use Rattle.boundary.proofs.refuse_value.Tie as tie
 
-refuse-requires : tie.Need-refuse-requires
-refuse-requires c κs = search needs
-
 returns : tie.Need-returns
 returns c = rw (c .refuse .ensures)
 
 pub refuse-value-spec : {M : Type 1} → statement M
-refuse-value-spec = tie.close (tie.spec refuse-requires returns)
+refuse-value-spec = tie.close (tie.spec (λ c κs. search needs) returns)

@@ -4,18 +4,6 @@ use borrow.Author.Needs.{needs}
 use Rattle.boundary.proofs.tell.Statement.{statement}
 use Rattle.boundary.proofs.tell.Tie as tie
 
-enum-told : tie.Need-enum-told
-enum-told c = search needs
-
-accept-requires : tie.Need-accept-requires
-accept-requires c κs = search needs
-
-enum-known-a : tie.Need-enum-known-a
-enum-known-a c = search needs
-
-refuse-requires : tie.Need-refuse-requires
-refuse-requires c κs = search needs
-
 returns : tie.Need-returns
 unfolding toldOf
 returns c = rw (c .before .enum-told .given .1) (c .accept .ensures)
@@ -26,4 +14,4 @@ returns-2 c = rw (c .before .before .a .given .1) (c .refuse .ensures)
 
 pub tell-spec : {M : Type 1} → statement M
 tell-spec =
-    tie.close (tie.spec enum-told accept-requires enum-known-a refuse-requires returns returns-2)
+    tie.close (tie.spec (λ c. search needs) (λ c κs. search needs) (λ c. search needs) (λ c κs. search needs) returns returns-2)

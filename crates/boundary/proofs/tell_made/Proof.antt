@@ -4,21 +4,6 @@ use borrow.Author.Needs.{needs}
 use Rattle.boundary.proofs.tell_made.Statement.{statement}
 use Rattle.boundary.proofs.tell_made.Tie as tie
 
-enum-known-m : tie.Need-enum-known-m
-enum-known-m c = search needs
-
-cast-accept-value : tie.Need-cast-accept-value
-cast-accept-value c = search needs
-
-accept-value-requires : tie.Need-accept-value-requires
-accept-value-requires c κs = search needs
-
-enum-known-m-2 : tie.Need-enum-known-m-2
-enum-known-m-2 c = search needs
-
-refuse-value-requires : tie.Need-refuse-value-requires
-refuse-value-requires c κs = search needs
-
 returns : tie.Need-returns
 unfolding madeOf
 returns c = rw (c .before .before .m .given .1) (c .accept-value .ensures)
@@ -31,10 +16,10 @@ pub tell-made-spec : {M : Type 1} → statement M
 tell-made-spec =
     tie.close
     (tie.spec
-    enum-known-m
-    cast-accept-value
-    accept-value-requires
-    enum-known-m-2
-    refuse-value-requires
+    (λ c. search needs)
+    (λ c. search needs)
+    (λ c κs. search needs)
+    (λ c. search needs)
+    (λ c κs. search needs)
     returns
     returns-2)

@@ -8,15 +8,9 @@ use Rattle.characters.proofs.is_completed.Tie as tie
 returns : tie.Need-returns
 returns c = and-first _ _ (le-ltb _ _ (c .if1 .taken))
 
-shared-slice-read-is-pair : tie.Need-shared-slice-read-is-pair
-shared-slice-read-is-pair c = search needs
-
-is-pair-requires : tie.Need-is-pair-requires
-is-pair-requires c κs = search needs
-
 returns-2 : tie.Need-returns-2
 returns-2 c = and-second _ _ _ (lt-ltb _ _ (c .before .before .if1 .left)) (c .is-pair .ensures)
 
 pub is-completed-spec : {M : Type 1} → statement M
 is-completed-spec =
-    tie.close (tie.spec returns shared-slice-read-is-pair is-pair-requires returns-2)
+    tie.close (tie.spec returns (λ c. search needs) (λ c κs. search needs) returns-2)

@@ -4,14 +4,8 @@ use borrow.Author.Needs.{needs}
 use Rattle.characters.proofs.is_pair.Statement.{statement}
 use Rattle.characters.proofs.is_pair.Tie as tie
 
-is-after-c4-requires : tie.Need-is-after-c4-requires
-is-after-c4-requires c κs = search needs
-
 returns : tie.Need-returns
 returns c = pair-c4 (c .before .before .args .b) (c .before .before .args .c) _ (c .before .if1 .taken) (c .is-after-c4 .ensures)
-
-is-after-c5-requires : tie.Need-is-after-c5-requires
-is-after-c5-requires c κs = search needs
 
 returns-2 : tie.Need-returns-2
 returns-2 c = pair-c5 (c .before .before .before .args .b) (c .before .before .before .args .c) _ (c .before .if2 .taken) (c .is-after-c5 .ensures)
@@ -21,4 +15,4 @@ returns-3 c = no-pair (c .before .before .args .b) (c .before .before .args .c) 
 
 pub is-pair-spec : {M : Type 1} → statement M
 is-pair-spec =
-    tie.close (tie.spec is-after-c4-requires returns is-after-c5-requires returns-2 returns-3)
+    tie.close (tie.spec (λ c κs. search needs) returns (λ c κs. search needs) returns-2 returns-3)

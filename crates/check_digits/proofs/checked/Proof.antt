@@ -7,23 +7,11 @@ use borrow.Author.Needs.{needs}
 use Rattle.check_digits.proofs.checked.Statement.{statement}
 use Rattle.check_digits.proofs.checked.Tie as tie
 
-nowhere-requires : tie.Need-nowhere-requires
-nowhere-requires c κs = search needs
-
 returns : tie.Need-returns
 returns c = rw (c .nowhere .ensures) (left _ _ _ _ (none-is-unsized 22 (c .before .before .before .args .s .now) (c .before .if1 .taken)) refl)
 
-nowhere-requires-2 : tie.Need-nowhere-requires-2
-nowhere-requires-2 c κs = search needs
-
 returns-2 : tie.Need-returns-2
 returns-2 c = rw (c .nowhere2 .ensures) (left _ _ _ _ (many-is-unsized 22 (c .before .before .before .before .args .s .now) (c .before .before .if1 .left) (c .before .if2 .taken)) refl)
-
-all-of-requires : tie.Need-all-of-requires
-all-of-requires c κs = search needs
-
-nowhere-requires-3 : tie.Need-nowhere-requires-3
-nowhere-requires-3 c κs = search needs
 
 returns-3 : tie.Need-returns-3
 returns-3 c =
@@ -32,18 +20,12 @@ returns-3 c =
     (entered _ _ _ _ (some-is-sized 22 s (c .before .before .before .before .if1 .left) (c .before .before .before .if2 .left))
     (left _ _ _ _ (sym (c .before .before .all-of .ensures) ∙ not-true _ (c .before .if3 .taken)) refl))
 
-ends-right-requires : tie.Need-ends-right-requires
-ends-right-requires c κs = search needs
-
 returns-4 : tie.Need-returns-4
 returns-4 c =
     let s = c .before .before .before .before .before .before .before .args .s .now in
     entered _ _ _ _ (some-is-sized 22 s (c .before .before .before .before .before .if1 .left) (c .before .before .before .before .if2 .left))
     (entered _ _ _ _ (sym (c .before .before .before .all-of .ensures) ∙ not-false _ (c .before .before .if3 .left))
     (taken _ _ _ (sym (c .before .ends-right .ensures) ∙ c .if4 .taken)))
-
-nowhere-requires-4 : tie.Need-nowhere-requires-4
-nowhere-requires-4 c κs = search needs
 
 returns-5 : tie.Need-returns-5
 returns-5 c =
@@ -57,14 +39,14 @@ pub checked-spec : {M : Type 1} → statement M
 checked-spec =
     tie.close
     (tie.spec
-    nowhere-requires
+    (λ c κs. search needs)
     returns
-    nowhere-requires-2
+    (λ c κs. search needs)
     returns-2
-    all-of-requires
-    nowhere-requires-3
+    (λ c κs. search needs)
+    (λ c κs. search needs)
     returns-3
-    ends-right-requires
+    (λ c κs. search needs)
     returns-4
-    nowhere-requires-4
+    (λ c κs. search needs)
     returns-5)

@@ -4,27 +4,6 @@ use borrow.Author.Needs.{needs}
 use Rattle.check_digits.proofs.digit_for.Statement.{statement}
 use Rattle.check_digits.proofs.digit_for.Tie as tie
 
-enum-told : tie.Need-enum-told
-enum-told c = search needs
-
-add-folded : tie.Need-add-folded
-add-folded c = search needs
-
-folded-requires : tie.Need-folded-requires
-folded-requires c κs = search needs
-
-ini-digit-requires : tie.Need-ini-digit-requires
-ini-digit-requires c κs = search needs
-
-enum-told-2 : tie.Need-enum-told-2
-enum-told-2 c = search needs
-
-sub-result : tie.Need-sub-result
-sub-result c = search needs
-
-cast-result : tie.Need-cast-result
-cast-result c = search needs
-
 returns : tie.Need-returns
 returns c = rw (c .before .before .enum-told .given .1) (folded-digit _ _ _ (c .before .folded .ensures) (c .ini-digit .ensures))
 
@@ -35,12 +14,12 @@ pub digit-for-spec : {M : Type 1} → statement M
 digit-for-spec =
     tie.close
     (tie.spec
-    enum-told
-    add-folded
-    folded-requires
-    ini-digit-requires
-    enum-told-2
-    sub-result
-    cast-result
+    (λ c. search needs)
+    (λ c. search needs)
+    (λ c κs. search needs)
+    (λ c κs. search needs)
+    (λ c. search needs)
+    (λ c. search needs)
+    (λ c. search needs)
     returns
     returns-2)

@@ -18,17 +18,8 @@ returns : tie.Need-returns
 unfolding passes
 returns c = and-first _ _ (le-ltb 0 (length (c .before .before .args .s .now)) (omega arith))
 
-sub-last : tie.Need-sub-last
-sub-last c = search needs
-
 slice-aggregate-check-digit : tie.Need-slice-aggregate-check-digit
 slice-aggregate-check-digit c = let s = c .before .before .before .args .s .now in sym (length-take-le (length s - 1) s (omega arith))
-
-check-digit-requires : tie.Need-check-digit-requires
-check-digit-requires c κs = search needs
-
-shared-slice-read-result : tie.Need-shared-slice-read-result
-shared-slice-read-result c = search needs
 
 add-result : tie.Need-add-result
 add-result c =
@@ -47,9 +38,9 @@ ends-right-spec =
     tie.close
     (tie.spec
     returns
-    sub-last
+    (λ c. search needs)
     slice-aggregate-check-digit
-    check-digit-requires
-    shared-slice-read-result
+    (λ c κs. search needs)
+    (λ c. search needs)
     add-result
     returns-2)

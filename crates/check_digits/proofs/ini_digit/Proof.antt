@@ -7,14 +7,8 @@ use Rattle.check_digits.proofs.ini_digit.Tie as tie
 returns : tie.Need-returns
 returns c = ini-small _ (c .if1 .taken)
 
-sub-result : tie.Need-sub-result
-sub-result c = search needs
-
-cast-result : tie.Need-cast-result
-cast-result c = search needs
-
 returns-2 : tie.Need-returns-2
 returns-2 c = ini-large _ (c .if1 .left)
 
 pub ini-digit-spec : {M : Type 1} → statement M
-ini-digit-spec = tie.close (tie.spec returns sub-result cast-result returns-2)
+ini-digit-spec = tie.close (tie.spec returns (λ c. search needs) (λ c. search needs) returns-2)

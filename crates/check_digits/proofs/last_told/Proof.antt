@@ -9,9 +9,6 @@ use borrow.Author.Needs.{needs}
 use Rattle.check_digits.proofs.last_told.Statement.{statement}
 use Rattle.check_digits.proofs.last_told.Tie as tie
 
-digit-for-requires : tie.Need-digit-for-requires
-digit-for-requires c κs = search needs
-
 returns : tie.Need-returns
 returns c = taken _ _ _ (c .if1 .taken)
 
@@ -34,4 +31,4 @@ returns-3 c =
     left _ _ _ _ (c .before .if1 .left) (left _ _ _ _ (ne-eqb (a .b) _ (λ h. c .if2 .left (h ∙ sym e))) refl)
 
 pub last-told-spec : {M : Type 1} → statement M
-last-told-spec = tie.close (tie.spec digit-for-requires returns add-if2 returns-2 returns-3)
+last-told-spec = tie.close (tie.spec (λ c κs. search needs) returns add-if2 returns-2 returns-3)

@@ -8,23 +8,11 @@ use borrow.Author.Needs.{needs}
 use Rattle.check_digits.proofs.make.Statement.{statement}
 use Rattle.check_digits.proofs.make.Tie as tie
 
-nowhere-requires : tie.Need-nowhere-requires
-nowhere-requires c κs = search needs
-
 returns : tie.Need-returns
 returns c = rw (c .nowhere .ensures) (left _ _ _ _ (none-is-unsized 19 (c .before .before .before .args .s .now) (c .before .if1 .taken)) refl)
 
-nowhere-requires-2 : tie.Need-nowhere-requires-2
-nowhere-requires-2 c κs = search needs
-
 returns-2 : tie.Need-returns-2
 returns-2 c = rw (c .nowhere2 .ensures) (left _ _ _ _ (many-is-unsized 19 (c .before .before .before .before .args .s .now) (c .before .before .if1 .left) (c .before .if2 .taken)) refl)
-
-all-of-requires : tie.Need-all-of-requires
-all-of-requires c κs = search needs
-
-nowhere-requires-3 : tie.Need-nowhere-requires-3
-nowhere-requires-3 c κs = search needs
 
 returns-3 : tie.Need-returns-3
 returns-3 c =
@@ -32,9 +20,6 @@ returns-3 c =
     rw (c .nowhere3 .ensures)
     (entered _ _ _ _ (some-is-sized 19 s (c .before .before .before .before .if1 .left) (c .before .before .before .if2 .left))
     (left _ _ _ _ (sym (c .before .before .all-of .ensures) ∙ not-true _ (c .before .if3 .taken)) refl))
-
-check-digit-requires : tie.Need-check-digit-requires
-check-digit-requires c κs = search needs
 
 returns-4 : tie.Need-returns-4
 returns-4 c =
@@ -47,12 +32,12 @@ pub make-spec : {M : Type 1} → statement M
 make-spec =
     tie.close
     (tie.spec
-    nowhere-requires
+    (λ c κs. search needs)
     returns
-    nowhere-requires-2
+    (λ c κs. search needs)
     returns-2
-    all-of-requires
-    nowhere-requires-3
+    (λ c κs. search needs)
+    (λ c κs. search needs)
     returns-3
-    check-digit-requires
+    (λ c κs. search needs)
     returns-4)

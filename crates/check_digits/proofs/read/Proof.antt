@@ -11,14 +11,8 @@ returns c = left _ _ _ _ (no-digit-below (c .before .args .b) (c .if1 .taken)) r
 returns-2 : tie.Need-returns-2
 returns-2 c = left _ _ _ _ (no-digit-above (c .before .before .args .b) (c .before .if1 .left) (c .if2 .taken)) refl
 
-cast-step : tie.Need-cast-step
-cast-step c = search needs
-
-step-requires : tie.Need-step-requires
-step-requires c κs = search needs
-
 returns-3 : tie.Need-returns-3
 returns-3 c = entered _ _ _ _ (digit-between (c .before .before .before .args .b) (c .before .before .if1 .left) (c .before .if2 .left)) (c .step .ensures)
 
 pub read-spec : {M : Type 1} → statement M
-read-spec = tie.close (tie.spec returns returns-2 cast-step step-requires returns-3)
+read-spec = tie.close (tie.spec returns returns-2 (λ c. search needs) (λ c κs. search needs) returns-3)

@@ -23,15 +23,6 @@ returns-2 c =
     let a = c .before .before .args in
     (c .before .before .pre, ap over (value-skips (a .r) (a .b) (no-digit-above (a .b) (c .before .if1 .left) (c .if2 .taken))))
 
-mul-v : tie.Need-mul-v
-mul-v c = search needs
-
-cast-v : tie.Need-cast-v
-cast-v c = search needs
-
-add-v : tie.Need-add-v
-add-v c = search needs
-
 returns-3 : tie.Need-returns-3
 returns-3 c =
     let a = c .before .before .before .args in
@@ -44,4 +35,4 @@ returns-4 c =
     (omega arith, mod-mod (a .r * 10 + (a .b - 48)) 97 ∙ ap over (value-takes (a .r) (a .b) (digit-between (a .b) (c .before .before .if1 .left) (c .before .if2 .left))))
 
 pub read97-spec : {M : Type 1} → statement M
-read97-spec = tie.close (tie.spec returns returns-2 mul-v cast-v add-v returns-3 returns-4)
+read97-spec = tie.close (tie.spec returns returns-2 (λ c. search needs) (λ c. search needs) (λ c. search needs) returns-3 returns-4)

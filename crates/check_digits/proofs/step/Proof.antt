@@ -3,18 +3,6 @@ use borrow.Author.Needs.{needs}
 use Rattle.check_digits.proofs.step.Statement.{statement}
 use Rattle.check_digits.proofs.step.Tie as tie
 
-enum-told : tie.Need-enum-told
-enum-told c = search needs
-
-summed-requires : tie.Need-summed-requires
-summed-requires c κs = search needs
-
-enum-told-2 : tie.Need-enum-told-2
-enum-told-2 c = search needs
-
-carried-requires : tie.Need-carried-requires
-carried-requires c κs = search needs
-
 returns : tie.Need-returns
 returns c = rw (c .before .enum-told .given .1) (c .summed .ensures)
 
@@ -23,4 +11,4 @@ returns-2 c = rw (c .before .enum-told2 .given .1, c .carried .ensures)
 
 pub step-spec : {M : Type 1} → statement M
 step-spec =
-    tie.close (tie.spec enum-told summed-requires enum-told-2 carried-requires returns returns-2)
+    tie.close (tie.spec (λ c. search needs) (λ c κs. search needs) (λ c. search needs) (λ c κs. search needs) returns returns-2)

@@ -4,15 +4,9 @@ use borrow.Author.Needs.{needs}
 use Rattle.codes.proofs.place.Statement.{statement}
 use Rattle.codes.proofs.place.Tie as tie
 
-slice-aggregate-place-in : tie.Need-slice-aggregate-place-in
-slice-aggregate-place-in c = search needs
-
-place-in-requires : tie.Need-place-in-requires
-place-in-requires c κs = search needs
-
 returns : tie.Need-returns
 unfolding codePlace
 returns c = c .place-in .ensures
 
 pub place-spec : {M : Type 1} → statement M
-place-spec = tie.close (tie.spec slice-aggregate-place-in place-in-requires returns)
+place-spec = tie.close (tie.spec (λ c. search needs) (λ c κs. search needs) returns)

@@ -6,9 +6,6 @@ use borrow.Author.Needs.{needs}
 use Rattle.dates.proofs.days.Statement.{statement}
 use Rattle.dates.proofs.days.Tie as tie
 
-is-leap-requires : tie.Need-is-leap-requires
-is-leap-requires c κs = search needs
-
 returns : tie.Need-returns
 unfolding daysOf
 returns c = rw (c .before .before .match .keys1, sym (c .before .is-leap .ensures) ∙ c .if1 .taken)
@@ -43,4 +40,4 @@ returns-7 c =
 pub days-spec : {M : Type 1} → statement M
 days-spec =
     tie.close
-    (tie.spec is-leap-requires returns returns-2 returns-3 returns-4 returns-5 returns-6 returns-7)
+    (tie.spec (λ c κs. search needs) returns returns-2 returns-3 returns-4 returns-5 returns-6 returns-7)

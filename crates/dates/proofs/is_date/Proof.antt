@@ -25,13 +25,10 @@ returns-5 : tie.Need-returns-5
 unfolding isDate
 returns-5 c = simp (le-leb _ _ (c .before .before .before .before .if1 .left), le-leb _ _ (c .before .before .before .if2 .left), le-leb _ _ (c .before .before .if3 .left), le-leb _ _ (c .before .if4 .left), lt-leb _ _ (c .if5 .taken))
 
-days-requires : tie.Need-days-requires
-days-requires c κs = search needs
-
 returns-6 : tie.Need-returns-6
 unfolding isDate
 returns-6 c = simp (le-leb _ _ (c .before .before .before .before .before .if1 .left), le-leb _ _ (c .before .before .before .before .if2 .left), le-leb _ _ (c .before .before .before .if3 .left), le-leb _ _ (c .before .before .if4 .left), le-leb _ _ (c .before .if5 .left), c .days .ensures)
 
 pub is-date-spec : {M : Type 1} → statement M
 is-date-spec =
-    tie.close (tie.spec returns returns-2 returns-3 returns-4 returns-5 days-requires returns-6)
+    tie.close (tie.spec returns returns-2 returns-3 returns-4 returns-5 (λ c κs. search needs) returns-6)

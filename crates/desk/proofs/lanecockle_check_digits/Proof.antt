@@ -4,32 +4,14 @@ use borrow.Author.Needs.{needs}
 use Rattle.desk.proofs.lanecockle_check_digits.Statement.{statement}
 use Rattle.desk.proofs.lanecockle_check_digits.Tie as tie
 
-checked-requires : tie.Need-checked-requires
-checked-requires c κs = search needs
-
-tell-requires : tie.Need-tell-requires
-tell-requires c κs = search needs
-
 returns : tie.Need-returns
 returns c = by-ini _ _ _ _ _ (c .before .before .if1 .taken) (rw (c .tell .ensures, c .before .checked .ensures))
 
-checked-requires-2 : tie.Need-checked-requires-2
-checked-requires-2 c κs = search needs
-
-tell-requires-2 : tie.Need-tell-requires-2
-tell-requires-2 c κs = search needs
-
 returns-2 : tie.Need-returns-2
 returns-2 c = by-mod _ _ _ _ _ (c .before .before .before .if1 .left) (c .before .before .if2 .taken) (rw (c .tell2 .ensures, c .before .checked2 .ensures))
-
-nowhere-requires : tie.Need-nowhere-requires
-nowhere-requires c κs = search needs
-
-refuse-requires : tie.Need-refuse-requires
-refuse-requires c κs = search needs
 
 returns-3 : tie.Need-returns-3
 returns-3 c = by-none _ _ _ _ _ (c .before .before .before .if1 .left) (c .before .before .if2 .left) (rw (c .refuse .ensures, c .before .nowhere .ensures))
 
 pub lanecockle-check-digits-spec : {M : Type 1} → statement M
-lanecockle-check-digits-spec = tie.close (tie.spec checked-requires tell-requires returns checked-requires-2 tell-requires-2 returns-2 nowhere-requires refuse-requires returns-3)
+lanecockle-check-digits-spec = tie.close (tie.spec (λ c κs. search needs) (λ c κs. search needs) returns (λ c κs. search needs) (λ c κs. search needs) returns-2 (λ c κs. search needs) (λ c κs. search needs) returns-3)

@@ -7,17 +7,8 @@ use borrow.Author.Needs.{needs}
 use Rattle.desk.proofs.lanecockle_filled.Statement.{statement}
 use Rattle.desk.proofs.lanecockle_filled.Tie as tie
 
-filled-requires : tie.Need-filled-requires
-filled-requires c κs = search needs
-
-tell-requires : tie.Need-tell-requires
-tell-requires c κs = search needs
-
-same-length : tie.Need-same-length
-same-length c = search needs
-
 returns : tie.Need-returns
 returns c = told-and-left toldOf (λ (a : Answer). filledBy a (c .before .before .before .before .before .before .before .args .text .now) (c .before .before .before .before .before .before .before .args .number) (c .before .before .before .before .before .before .before .args .out .now)) _ _ _ _ (c .tell .ensures) (c .before .before .before .filled .ensures)
 
 pub lanecockle-filled-spec : {M : Type 1} → statement M
-lanecockle-filled-spec = tie.close (tie.spec filled-requires tell-requires same-length returns)
+lanecockle-filled-spec = tie.close (tie.spec (λ c κs. search needs) (λ c κs. search needs) (λ c. search needs) returns)

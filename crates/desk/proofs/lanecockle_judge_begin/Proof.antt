@@ -3,14 +3,8 @@ use borrow.Author.Needs.{needs}
 use Rattle.desk.proofs.lanecockle_judge_begin.Statement.{statement}
 use Rattle.desk.proofs.lanecockle_judge_begin.Tie as tie
 
-begin-requires : tie.Need-begin-requires
-begin-requires c κs = search needs
-
-record-from-requires : tie.Need-record-from-requires
-record-from-requires c κs = search needs
-
 returns : tie.Need-returns
 returns c = rw (c .record-from .ensures, c .before .begin .ensures)
 
 pub lanecockle-judge-begin-spec : {M : Type 1} → statement M
-lanecockle-judge-begin-spec = tie.close (tie.spec begin-requires record-from-requires returns)
+lanecockle-judge-begin-spec = tie.close (tie.spec (λ c κs. search needs) (λ c κs. search needs) returns)

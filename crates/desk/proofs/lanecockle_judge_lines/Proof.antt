@@ -3,17 +3,8 @@ use borrow.Author.Needs.{needs}
 use Rattle.desk.proofs.lanecockle_judge_lines.Statement.{statement}
 use Rattle.desk.proofs.lanecockle_judge_lines.Tie as tie
 
-judge-from-requires : tie.Need-judge-from-requires
-judge-from-requires c κs = search needs
-
-lines-requires : tie.Need-lines-requires
-lines-requires c κs = search needs
-
-record-from-requires : tie.Need-record-from-requires
-record-from-requires c κs = search needs
-
 returns : tie.Need-returns
 returns c = rw (c .record-from .ensures, c .before .lines .ensures, c .before .before .judge-from .ensures)
 
 pub lanecockle-judge-lines-spec : {M : Type 1} → statement M
-lanecockle-judge-lines-spec = tie.close (tie.spec judge-from-requires lines-requires record-from-requires returns)
+lanecockle-judge-lines-spec = tie.close (tie.spec (λ c κs. search needs) (λ c κs. search needs) (λ c κs. search needs) returns)

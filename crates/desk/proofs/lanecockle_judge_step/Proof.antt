@@ -3,17 +3,8 @@ use borrow.Author.Needs.{needs}
 use Rattle.desk.proofs.lanecockle_judge_step.Statement.{statement}
 use Rattle.desk.proofs.lanecockle_judge_step.Tie as tie
 
-judge-from-requires : tie.Need-judge-from-requires
-judge-from-requires c κs = search needs
-
-step-requires : tie.Need-step-requires
-step-requires c κs = search needs
-
-record-from-requires : tie.Need-record-from-requires
-record-from-requires c κs = search needs
-
 returns : tie.Need-returns
 returns c = rw (c .record-from .ensures, c .before .step .ensures, c .before .before .judge-from .ensures)
 
 pub lanecockle-judge-step-spec : {M : Type 1} → statement M
-lanecockle-judge-step-spec = tie.close (tie.spec judge-from-requires step-requires record-from-requires returns)
+lanecockle-judge-step-spec = tie.close (tie.spec (λ c κs. search needs) (λ c κs. search needs) (λ c κs. search needs) returns)

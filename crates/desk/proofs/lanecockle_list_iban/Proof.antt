@@ -9,17 +9,8 @@ use borrow.Author.Needs.{needs}
 use Rattle.desk.proofs.lanecockle_list_iban.Statement.{statement}
 use Rattle.desk.proofs.lanecockle_list_iban.Tie as tie
 
-list-iban-requires : tie.Need-list-iban-requires
-list-iban-requires c κs = search needs
-
-tell-listed-requires : tie.Need-tell-listed-requires
-tell-listed-requires c κs = search needs
-
-same-length : tie.Need-same-length
-same-length c = search needs
-
 returns : tie.Need-returns
 returns c = told-and-left listedOf (λ (l : Listed). leftBy l (fillings isIban (c .before .before .before .before .before .before .before .args .text .now)) (c .before .before .before .before .before .before .before .args .out .now)) _ _ _ _ (c .tell-listed .ensures) (c .before .before .before .list-iban .ensures)
 
 pub lanecockle-list-iban-spec : {M : Type 1} → statement M
-lanecockle-list-iban-spec = tie.close (tie.spec list-iban-requires tell-listed-requires same-length returns)
+lanecockle-list-iban-spec = tie.close (tie.spec (λ c κs. search needs) (λ c κs. search needs) (λ c. search needs) returns)

@@ -8,17 +8,8 @@ use borrow.Author.Needs.{needs}
 use Rattle.desk.proofs.lanecockle_list_reference.Statement.{statement}
 use Rattle.desk.proofs.lanecockle_list_reference.Tie as tie
 
-list-reference-requires : tie.Need-list-reference-requires
-list-reference-requires c κs = search needs
-
-tell-listed-requires : tie.Need-tell-listed-requires
-tell-listed-requires c κs = search needs
-
-same-length : tie.Need-same-length
-same-length c = search needs
-
 returns : tie.Need-returns
 returns c = told-and-left listedOf (λ (l : Listed). leftBy l (referenceFillings (c .before .before .before .before .before .before .before .before .args .model .now) (c .before .before .before .before .before .before .before .before .args .text .now)) (c .before .before .before .before .before .before .before .before .args .out .now)) _ _ _ _ (c .tell-listed .ensures) (c .before .before .before .list-reference .ensures)
 
 pub lanecockle-list-reference-spec : {M : Type 1} → statement M
-lanecockle-list-reference-spec = tie.close (tie.spec list-reference-requires tell-listed-requires same-length returns)
+lanecockle-list-reference-spec = tie.close (tie.spec (λ c κs. search needs) (λ c κs. search needs) (λ c. search needs) returns)

@@ -4,32 +4,14 @@ use borrow.Author.Needs.{needs}
 use Rattle.desk.proofs.lanecockle_make_digit.Statement.{statement}
 use Rattle.desk.proofs.lanecockle_make_digit.Tie as tie
 
-make-requires : tie.Need-make-requires
-make-requires c κs = search needs
-
-tell-made-requires : tie.Need-tell-made-requires
-tell-made-requires c κs = search needs
-
 returns : tie.Need-returns
 returns c = by-ini _ _ _ _ _ (c .before .before .if1 .taken) (rw (c .tell-made .ensures, c .before .make .ensures))
 
-make-requires-2 : tie.Need-make-requires-2
-make-requires-2 c κs = search needs
-
-tell-made-requires-2 : tie.Need-tell-made-requires-2
-tell-made-requires-2 c κs = search needs
-
 returns-2 : tie.Need-returns-2
 returns-2 c = by-mod _ _ _ _ _ (c .before .before .before .if1 .left) (c .before .before .if2 .taken) (rw (c .tell-made2 .ensures, c .before .make2 .ensures))
-
-nowhere-requires : tie.Need-nowhere-requires
-nowhere-requires c κs = search needs
-
-refuse-value-requires : tie.Need-refuse-value-requires
-refuse-value-requires c κs = search needs
 
 returns-3 : tie.Need-returns-3
 returns-3 c = by-none _ _ _ _ _ (c .before .before .before .if1 .left) (c .before .before .if2 .left) (rw (c .refuse-value .ensures, c .before .nowhere .ensures))
 
 pub lanecockle-make-digit-spec : {M : Type 1} → statement M
-lanecockle-make-digit-spec = tie.close (tie.spec make-requires tell-made-requires returns make-requires-2 tell-made-requires-2 returns-2 nowhere-requires refuse-value-requires returns-3)
+lanecockle-make-digit-spec = tie.close (tie.spec (λ c κs. search needs) (λ c κs. search needs) returns (λ c κs. search needs) (λ c κs. search needs) returns-2 (λ c κs. search needs) (λ c κs. search needs) returns-3)

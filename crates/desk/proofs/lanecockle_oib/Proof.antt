@@ -3,14 +3,8 @@ use borrow.Author.Needs.{needs}
 use Rattle.desk.proofs.lanecockle_oib.Statement.{statement}
 use Rattle.desk.proofs.lanecockle_oib.Tie as tie
 
-oib-requires : tie.Need-oib-requires
-oib-requires c κs = search needs
-
-tell-requires : tie.Need-tell-requires
-tell-requires c κs = search needs
-
 returns : tie.Need-returns
 returns c = rw (c .tell .ensures, c .before .oib .ensures)
 
 pub lanecockle-oib-spec : {M : Type 1} → statement M
-lanecockle-oib-spec = tie.close (tie.spec oib-requires tell-requires returns)
+lanecockle-oib-spec = tie.close (tie.spec (λ c κs. search needs) (λ c κs. search needs) returns)

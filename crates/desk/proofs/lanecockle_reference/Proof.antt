@@ -3,14 +3,8 @@ use borrow.Author.Needs.{needs}
 use Rattle.desk.proofs.lanecockle_reference.Statement.{statement}
 use Rattle.desk.proofs.lanecockle_reference.Tie as tie
 
-reference-requires : tie.Need-reference-requires
-reference-requires c κs = search needs
-
-tell-requires : tie.Need-tell-requires
-tell-requires c κs = search needs
-
 returns : tie.Need-returns
 returns c = rw (c .tell .ensures, c .before .reference .ensures)
 
 pub lanecockle-reference-spec : {M : Type 1} → statement M
-lanecockle-reference-spec = tie.close (tie.spec reference-requires tell-requires returns)
+lanecockle-reference-spec = tie.close (tie.spec (λ c κs. search needs) (λ c κs. search needs) returns)

@@ -3,14 +3,8 @@ use borrow.Author.Needs.{needs}
 use Rattle.desk.proofs.lanecockle_slip_cents.Statement.{statement}
 use Rattle.desk.proofs.lanecockle_slip_cents.Tie as tie
 
-cents-requires : tie.Need-cents-requires
-cents-requires c κs = search needs
-
-tell-amount-requires : tie.Need-tell-amount-requires
-tell-amount-requires c κs = search needs
-
 returns : tie.Need-returns
 returns c = rw (c .tell-amount .ensures, c .before .cents .ensures)
 
 pub lanecockle-slip-cents-spec : {M : Type 1} → statement M
-lanecockle-slip-cents-spec = tie.close (tie.spec cents-requires tell-amount-requires returns)
+lanecockle-slip-cents-spec = tie.close (tie.spec (λ c κs. search needs) (λ c κs. search needs) returns)

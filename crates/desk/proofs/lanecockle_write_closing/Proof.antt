@@ -4,17 +4,8 @@ use borrow.Author.Needs.{needs}
 use Rattle.desk.proofs.lanecockle_write_closing.Statement.{statement}
 use Rattle.desk.proofs.lanecockle_write_closing.Tie as tie
 
-write-closing-requires : tie.Need-write-closing-requires
-write-closing-requires c κs = search needs
-
-tell-requires : tie.Need-tell-requires
-tell-requires c κs = search needs
-
-same-length : tie.Need-same-length
-same-length c = search needs
-
 returns : tie.Need-returns
 returns c = line-told _ _ _ _ _ _ (c .tell .ensures) (c .before .before .before .write-closing .ensures)
 
 pub lanecockle-write-closing-spec : {M : Type 1} → statement M
-lanecockle-write-closing-spec = tie.close (tie.spec write-closing-requires tell-requires same-length returns)
+lanecockle-write-closing-spec = tie.close (tie.spec (λ c κs. search needs) (λ c κs. search needs) (λ c. search needs) returns)

@@ -4,17 +4,8 @@ use borrow.Author.Needs.{needs}
 use Rattle.desk.proofs.lanecockle_write_group.Statement.{statement}
 use Rattle.desk.proofs.lanecockle_write_group.Tie as tie
 
-write-group-requires : tie.Need-write-group-requires
-write-group-requires c κs = search needs
-
-tell-requires : tie.Need-tell-requires
-tell-requires c κs = search needs
-
-same-length : tie.Need-same-length
-same-length c = search needs
-
 returns : tie.Need-returns
 returns c = line-told _ _ _ _ _ _ (c .tell .ensures) (c .before .before .before .write-group .ensures)
 
 pub lanecockle-write-group-spec : {M : Type 1} → statement M
-lanecockle-write-group-spec = tie.close (tie.spec write-group-requires tell-requires same-length returns)
+lanecockle-write-group-spec = tie.close (tie.spec (λ c κs. search needs) (λ c κs. search needs) (λ c. search needs) returns)

@@ -4,17 +4,8 @@ use borrow.Author.Needs.{needs}
 use Rattle.desk.proofs.lanecockle_write_order.Statement.{statement}
 use Rattle.desk.proofs.lanecockle_write_order.Tie as tie
 
-write-order-requires : tie.Need-write-order-requires
-write-order-requires c κs = search needs
-
-tell-requires : tie.Need-tell-requires
-tell-requires c κs = search needs
-
-same-length : tie.Need-same-length
-same-length c = search needs
-
 returns : tie.Need-returns
 returns c = line-told _ _ _ _ _ _ (c .tell .ensures) (c .before .before .before .write-order .ensures)
 
 pub lanecockle-write-order-spec : {M : Type 1} → statement M
-lanecockle-write-order-spec = tie.close (tie.spec write-order-requires tell-requires same-length returns)
+lanecockle-write-order-spec = tie.close (tie.spec (λ c κs. search needs) (λ c κs. search needs) (λ c. search needs) returns)

@@ -5,19 +5,13 @@ use borrow.Author.Needs.{needs}
 use Rattle.fillings.proofs.accepted.Statement.{statement}
 use Rattle.fillings.proofs.accepted.Tie as tie
 
-iban-passes-requires : tie.Need-iban-passes-requires
-iban-passes-requires c κs = search needs
-
 returns : tie.Need-returns
 unfolding accepts
 returns c = entered _ _ _ _ (c .before .if1 .taken) (c .iban-passes .ensures)
-
-groups-hold-requires : tie.Need-groups-hold-requires
-groups-hold-requires c κs = search needs
 
 returns-2 : tie.Need-returns-2
 unfolding accepts
 returns-2 c = left _ _ _ _ (c .before .before .if1 .left) (c .groups-hold .ensures)
 
 pub accepted-spec : {M : Type 1} → statement M
-accepted-spec = tie.close (tie.spec iban-passes-requires returns groups-hold-requires returns-2)
+accepted-spec = tie.close (tie.spec (λ c κs. search needs) returns (λ c κs. search needs) returns-2)

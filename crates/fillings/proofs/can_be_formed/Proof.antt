@@ -8,20 +8,8 @@ use borrow.Author.Needs.{needs}
 use Rattle.fillings.proofs.can_be_formed.Statement.{statement}
 use Rattle.fillings.proofs.can_be_formed.Tie as tie
 
-slice-aggregate-filled : tie.Need-slice-aggregate-filled
-slice-aggregate-filled c = search needs
-
-filled-requires : tie.Need-filled-requires
-filled-requires c κs = search needs
-
-array-share-prefix-t : tie.Need-array-share-prefix-t
-array-share-prefix-t c = search needs
-
 slice-aggregate-is-formed : tie.Need-slice-aggregate-is-formed
 slice-aggregate-is-formed c = sym (length-take-le _ _ (omega (arith, c .before .before .filled .kept .1 .1 .0)))
-
-is-formed-requires : tie.Need-is-formed-requires
-is-formed-requires c κs = search needs
 
 returns : tie.Need-returns
 returns c =
@@ -32,9 +20,9 @@ pub can-be-formed-spec : {M : Type 1} → statement M
 can-be-formed-spec =
     tie.close
     (tie.spec
-    slice-aggregate-filled
-    filled-requires
-    array-share-prefix-t
+    (λ c. search needs)
+    (λ c κs. search needs)
+    (λ c. search needs)
     slice-aggregate-is-formed
-    is-formed-requires
+    (λ c κs. search needs)
     returns)

@@ -13,29 +13,11 @@ use Rattle.fillings.proofs.is_wet_iban.Tie as tie
 returns : tie.Need-returns
 returns c = short-is-not-wet (c .before .before .args .s .now) (c .if1 .taken)
 
-shared-slice-read-if2 : tie.Need-shared-slice-read-if2
-shared-slice-read-if2 c = search needs
-
 returns-2 : tie.Need-returns-2
 returns-2 c = and-first _ _ (ne-eqb _ _ (c .if2 .taken))
 
-shared-slice-read-if3 : tie.Need-shared-slice-read-if3
-shared-slice-read-if3 c = search needs
-
 returns-3 : tie.Need-returns-3
 returns-3 c = and-second _ _ _ (eq-eqb _ _ (c .before .before .if2 .left)) (and-first _ _ (ne-eqb _ _ (c .if3 .taken)))
-
-sub-all-of : tie.Need-sub-all-of
-sub-all-of c = search needs
-
-part-all-of-start : tie.Need-part-all-of-start
-part-all-of-start c = search needs
-
-part-all-of-end : tie.Need-part-all-of-end
-part-all-of-end c = search needs
-
-all-of-requires : tie.Need-all-of-requires
-all-of-requires c κs = search needs
 
 returns-4 : tie.Need-returns-4
 returns-4 c =
@@ -47,12 +29,12 @@ is-wet-iban-spec =
     tie.close
     (tie.spec
     returns
-    shared-slice-read-if2
+    (λ c. search needs)
     returns-2
-    shared-slice-read-if3
+    (λ c. search needs)
     returns-3
-    sub-all-of
-    part-all-of-start
-    part-all-of-end
-    all-of-requires
+    (λ c. search needs)
+    (λ c. search needs)
+    (λ c. search needs)
+    (λ c κs. search needs)
     returns-4)

@@ -10,17 +10,8 @@ use borrow.Author.Needs.{needs}
 use Rattle.fillings.proofs.list_iban.Statement.{statement}
 use Rattle.fillings.proofs.list_iban.Tie as tie
 
-nowhere-requires : tie.Need-nowhere-requires
-nowhere-requires c κs = search needs
-
 returns : tie.Need-returns
 returns c = (rw (c .nowhere .ensures) (left _ _ _ _ (ne-eqb _ _ (c .before .if1 .taken)) refl), refl)
-
-is-wet-iban-requires : tie.Need-is-wet-iban-requires
-is-wet-iban-requires c κs = search needs
-
-nowhere-requires-2 : tie.Need-nowhere-requires-2
-nowhere-requires-2 c κs = search needs
 
 returns-2 : tie.Need-returns-2
 returns-2 c = (
@@ -28,12 +19,6 @@ returns-2 c = (
       (entered _ _ _ _ (eq-eqb _ _ (c .before .before .before .if1 .left)) (left _ _ _ _ (sym (c .before .before .is-wet-iban .ensures) ∙ not-true _ (c .before .if2 .taken)) refl)),
   refl,
 )
-
-count-marks-requires : tie.Need-count-marks-requires
-count-marks-requires c κs = search needs
-
-nowhere-requires-3 : tie.Need-nowhere-requires-3
-nowhere-requires-3 c κs = search needs
 
 returns-3 : tie.Need-returns-3
 returns-3 c = (
@@ -43,15 +28,6 @@ returns-3 c = (
       (left _ _ _ _ (lt-leb (marks (c .before .before .before .before .before .before .before .before .args .s .now)) 4 (omega (arith, c .before .before .count-marks .ensures))) refl))),
   refl,
 )
-
-rules-requires : tie.Need-rules-requires
-rules-requires c κs = search needs
-
-list-into-requires : tie.Need-list-into-requires
-list-into-requires c κs = search needs
-
-same-length : tie.Need-same-length
-same-length c = search needs
 
 returns-4 : tie.Need-returns-4
 returns-4 c =
@@ -64,15 +40,15 @@ pub list-iban-spec : {M : Type 1} → statement M
 list-iban-spec =
     tie.close
     (tie.spec
-    nowhere-requires
+    (λ c κs. search needs)
     returns
-    is-wet-iban-requires
-    nowhere-requires-2
+    (λ c κs. search needs)
+    (λ c κs. search needs)
     returns-2
-    count-marks-requires
-    nowhere-requires-3
+    (λ c κs. search needs)
+    (λ c κs. search needs)
     returns-3
-    rules-requires
-    list-into-requires
-    same-length
+    (λ c κs. search needs)
+    (λ c κs. search needs)
+    (λ c. search needs)
     returns-4)

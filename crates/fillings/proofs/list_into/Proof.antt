@@ -22,17 +22,8 @@ may-list c =
     let z = c .before .before .before .before in
     (z .pre .0, (c .count-marks .ensures ∙ ap marks (sym (c .before .held .ensures)), (whole-fits _ (omega (arith, z .pre .1, c .count-marks .ensures)), omega arith)))
 
-held-requires : tie.Need-held-requires
-held-requires c κs = search needs
-
-count-marks-requires : tie.Need-count-marks-requires
-count-marks-requires c κs = search needs
-
 list-requires : tie.Need-list-requires
 list-requires c κs = may-list (c .before .before)
-
-same-length : tie.Need-same-length
-same-length c = search needs
 
 returns : tie.Need-returns
 returns c =
@@ -41,14 +32,8 @@ returns c =
     let w = written-all (accepts (a .aim)) (a .s .now) _ (b .before .held .ensures) (c .before .before .list .ensures) in
     room-counted (fillings (accepts (a .aim)) (a .s .now)) (a .out .now) _ _ _ (w .counted) w (omega (arith, fillings-fit (accepts (a .aim)) (a .s .now) (b .before .before .before .before .pre .1), c .before .before .before .before .if1 .taken))
 
-slice-aggregate-list : tie.Need-slice-aggregate-list
-slice-aggregate-list c = search needs
-
 list-requires-2 : tie.Need-list-requires-2
 list-requires-2 c κs = may-list (c .before .before)
-
-nowhere-requires : tie.Need-nowhere-requires
-nowhere-requires c κs = search needs
 
 returns-2 : tie.Need-returns-2
 returns-2 c =
@@ -59,9 +44,6 @@ returns-2 c =
 
 list-requires-3 : tie.Need-list-requires-3
 list-requires-3 c κs = may-list (c .before .before .before .before .before .before)
-
-same-length-2 : tie.Need-same-length-2
-same-length-2 c = search needs
 
 returns-3 : tie.Need-returns-3
 returns-3 c =
@@ -75,15 +57,15 @@ pub list-into-spec : {M : Type 1} → statement M
 list-into-spec =
     tie.close
     (tie.spec
-    held-requires
-    count-marks-requires
+    (λ c κs. search needs)
+    (λ c κs. search needs)
     list-requires
-    same-length
+    (λ c. search needs)
     returns
-    slice-aggregate-list
+    (λ c. search needs)
     list-requires-2
-    nowhere-requires
+    (λ c κs. search needs)
     returns-2
     list-requires-3
-    same-length-2
+    (λ c. search needs)
     returns-3)

@@ -6,25 +6,13 @@ use borrow.Author.Needs.{needs}
 use Rattle.fillings.proofs.list_model.Statement.{statement}
 use Rattle.fillings.proofs.list_model.Tie as tie
 
-nowhere-requires : tie.Need-nowhere-requires
-nowhere-requires c κs = search needs
-
 returns : tie.Need-returns
 returns c = (rw (c .nowhere .ensures) (unhandled-refused (c .before .before .before .before .args .model) (c .before .before .before .before .args .s .now) _ (not-true _ (c .before .if1 .taken))), refl)
-
-can-be-formed-requires : tie.Need-can-be-formed-requires
-can-be-formed-requires c κs = search needs
 
 returns-2 : tie.Need-returns-2
 returns-2 c =
     let a = c .before .before .before .before .before .args in
     none-listed (a .model) (a .s .now) (a .out .now) (not-false _ (c .before .before .if1 .left)) (sym (c .before .can-be-formed .ensures) ∙ not-true _ (c .if2 .taken))
-
-list-into-requires : tie.Need-list-into-requires
-list-into-requires c κs = search needs
-
-same-length : tie.Need-same-length
-same-length c = search needs
 
 returns-3 : tie.Need-returns-3
 returns-3 c =
@@ -35,10 +23,10 @@ pub list-model-spec : {M : Type 1} → statement M
 list-model-spec =
     tie.close
     (tie.spec
-    nowhere-requires
+    (λ c κs. search needs)
     returns
-    can-be-formed-requires
+    (λ c κs. search needs)
     returns-2
-    list-into-requires
-    same-length
+    (λ c κs. search needs)
+    (λ c. search needs)
     returns-3)

@@ -9,17 +9,8 @@ use borrow.Author.Needs.{needs}
 use Rattle.fillings.proofs.list_reference.Statement.{statement}
 use Rattle.fillings.proofs.list_reference.Tie as tie
 
-nowhere-requires : tie.Need-nowhere-requires
-nowhere-requires c κs = search needs
-
 returns : tie.Need-returns
 returns c = (rw (c .nowhere .ensures) (left _ _ _ _ (lt-leb _ _ (c .before .if1 .taken)) refl), refl)
-
-all-of-requires : tie.Need-all-of-requires
-all-of-requires c κs = search needs
-
-nowhere-requires-2 : tie.Need-nowhere-requires-2
-nowhere-requires-2 c κs = search needs
 
 returns-2 : tie.Need-returns-2
 returns-2 c = (
@@ -27,12 +18,6 @@ returns-2 c = (
       (entered _ _ _ _ (le-leb _ _ (c .before .before .before .if1 .left)) (left _ _ _ _ (sym (c .before .before .all-of .ensures) ∙ not-true _ (c .before .if2 .taken)) refl)),
   refl,
 )
-
-count-marks-requires : tie.Need-count-marks-requires
-count-marks-requires c κs = search needs
-
-nowhere-requires-3 : tie.Need-nowhere-requires-3
-nowhere-requires-3 c κs = search needs
 
 returns-3 : tie.Need-returns-3
 returns-3 c = (
@@ -42,15 +27,6 @@ returns-3 c = (
       (left _ _ _ _ (lt-leb (marks (c .before .before .before .before .before .before .before .before .before .args .s .now)) 4 (omega (arith, c .before .before .count-marks .ensures))) refl))),
   refl,
 )
-
-number-requires : tie.Need-number-requires
-number-requires c κs = search needs
-
-list-numbered-requires : tie.Need-list-numbered-requires
-list-numbered-requires c κs = search needs
-
-same-length : tie.Need-same-length
-same-length c = search needs
 
 returns-4 : tie.Need-returns-4
 returns-4 c =
@@ -66,15 +42,15 @@ pub list-reference-spec : {M : Type 1} → statement M
 list-reference-spec =
     tie.close
     (tie.spec
-    nowhere-requires
+    (λ c κs. search needs)
     returns
-    all-of-requires
-    nowhere-requires-2
+    (λ c κs. search needs)
+    (λ c κs. search needs)
     returns-2
-    count-marks-requires
-    nowhere-requires-3
+    (λ c κs. search needs)
+    (λ c κs. search needs)
     returns-3
-    number-requires
-    list-numbered-requires
-    same-length
+    (λ c κs. search needs)
+    (λ c κs. search needs)
+    (λ c. search needs)
     returns-4)

@@ -8,15 +8,6 @@ use borrow.Author.Needs.{needs}
 use Rattle.judge.proofs.amount.Statement.{statement}
 use Rattle.judge.proofs.amount.Tie as tie
 
-spot-at-requires : tie.Need-spot-at-requires
-spot-at-requires c κs = search needs
-
-part-requires : tie.Need-part-requires
-part-requires c κs = search needs
-
-number-requires : tie.Need-number-requires
-number-requires c κs = search needs
-
 returns : tie.Need-returns
 unfolding spotIn spots
 returns c =
@@ -24,4 +15,4 @@ returns c =
     ∙ ap numberIn (c .before .part .ensures ∙ ap (λ (p : Spot). partAt p (c .before .before .before .before .args .s .now)) (c .before .before .spot-at .ensures))
 
 pub amount-spec : {M : Type 1} → statement M
-amount-spec = tie.close (tie.spec spot-at-requires part-requires number-requires returns)
+amount-spec = tie.close (tie.spec (λ c κs. search needs) (λ c κs. search needs) (λ c κs. search needs) returns)

@@ -4,19 +4,10 @@ use borrow.Author.Needs.{needs}
 use Rattle.judge.proofs.begin.Statement.{statement}
 use Rattle.judge.proofs.begin.Tie as tie
 
-first-condition-requires : tie.Need-first-condition-requires
-first-condition-requires c κs = search needs
-
-nothing-requires : tie.Need-nothing-requires
-nothing-requires c κs = search needs
-
-nothing-requires-2 : tie.Need-nothing-requires-2
-nothing-requires-2 c κs = search needs
-
 returns : tie.Need-returns
 unfolding begun
 returns c = rw (c .nothing2 .ensures, c .before .nothing .ensures, c .before .before .first-condition .ensures)
 
 pub begin-spec : {M : Type 1} → statement M
 begin-spec =
-    tie.close (tie.spec first-condition-requires nothing-requires nothing-requires-2 returns)
+    tie.close (tie.spec (λ c κs. search needs) (λ c κs. search needs) (λ c κs. search needs) returns)

@@ -6,21 +6,9 @@ use borrow.Author.Needs.{needs}
 use Rattle.judge.proofs.closing_step.Statement.{statement}
 use Rattle.judge.proofs.closing_step.Tie as tie
 
-may-end-requires : tie.Need-may-end-requires
-may-end-requires c κs = search needs
-
-after-closing-requires : tie.Need-after-closing-requires
-after-closing-requires c κs = search needs
-
-settle-requires : tie.Need-settle-requires
-settle-requires c κs = search needs
-
 returns : tie.Need-returns
 unfolding closingStep
 returns c = entered _ _ _ _ (sym (c .before .before .before .may-end .ensures) ∙ c .before .before .if1 .taken) (rw (← (c .before .after-closing .ensures)) (c .settle .ensures))
-
-out-of-place-requires : tie.Need-out-of-place-requires
-out-of-place-requires c κs = search needs
 
 returns-2 : tie.Need-returns-2
 unfolding closingStep
@@ -30,9 +18,9 @@ pub closing-step-spec : {M : Type 1} → statement M
 closing-step-spec =
     tie.close
     (tie.spec
-    may-end-requires
-    after-closing-requires
-    settle-requires
+    (λ c κs. search needs)
+    (λ c κs. search needs)
+    (λ c κs. search needs)
     returns
-    out-of-place-requires
+    (λ c κs. search needs)
     returns-2)

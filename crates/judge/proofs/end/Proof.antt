@@ -7,33 +7,6 @@ use borrow.Author.Needs.{needs}
 use Rattle.judge.proofs.end.Statement.{statement}
 use Rattle.judge.proofs.end.Tie as tie
 
-enum-told : tie.Need-enum-told
-enum-told c = search needs
-
-ended-early-requires : tie.Need-ended-early-requires
-ended-early-requires c κs = search needs
-
-enum-told-2 : tie.Need-enum-told-2
-enum-told-2 c = search needs
-
-ended-early-requires-2 : tie.Need-ended-early-requires-2
-ended-early-requires-2 c κs = search needs
-
-enum-told-3 : tie.Need-enum-told-3
-enum-told-3 c = search needs
-
-ended-early-requires-3 : tie.Need-ended-early-requires-3
-ended-early-requires-3 c κs = search needs
-
-enum-told-4 : tie.Need-enum-told-4
-enum-told-4 c = search needs
-
-if-sound-requires : tie.Need-if-sound-requires
-if-sound-requires c κs = search needs
-
-enum-known-condition : tie.Need-enum-known-condition
-enum-known-condition c = search needs
-
 returns : tie.Need-returns
 returns c = c .ended-early .ensures ∙ ended-in (c .before .before .before .args .j) Fresh (c .before .enum-told .given .1)
 
@@ -54,15 +27,15 @@ pub end-spec : {M : Type 1} → statement M
 end-spec =
     tie.close
     (tie.spec
-    enum-told
-    ended-early-requires
-    enum-told-2
-    ended-early-requires-2
-    enum-told-3
-    ended-early-requires-3
-    enum-told-4
-    if-sound-requires
-    enum-known-condition
+    (λ c. search needs)
+    (λ c κs. search needs)
+    (λ c. search needs)
+    (λ c κs. search needs)
+    (λ c. search needs)
+    (λ c κs. search needs)
+    (λ c. search needs)
+    (λ c κs. search needs)
+    (λ c. search needs)
     returns
     returns-2
     returns-3

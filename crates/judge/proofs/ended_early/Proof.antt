@@ -7,20 +7,11 @@ use borrow.Author.Needs.{needs}
 use Rattle.judge.proofs.ended_early.Statement.{statement}
 use Rattle.judge.proofs.ended_early.Tie as tie
 
-is-sound-requires : tie.Need-is-sound-requires
-is-sound-requires c κs = search needs
-
 add-line-alone : tie.Need-add-line-alone
 add-line-alone c = omega (arith, sound-within (c .before .before .args .j) (sym (c .before .is-sound .ensures) ∙ c .if1 .taken) .lines)
 
-line-alone-requires : tie.Need-line-alone-requires
-line-alone-requires c κs = search needs
-
 returns : tie.Need-returns
 returns c = rw (c .line-alone .ensures) (entered _ _ _ _ (sym (c .before .before .is-sound .ensures) ∙ c .before .if1 .taken) refl)
-
-line-alone-requires-2 : tie.Need-line-alone-requires-2
-line-alone-requires-2 c κs = search needs
 
 returns-2 : tie.Need-returns-2
 returns-2 c = rw (c .line-alone2 .ensures) (left _ _ _ _ (sym (c .before .before .is-sound .ensures) ∙ c .before .if1 .left) refl)
@@ -29,9 +20,9 @@ pub ended-early-spec : {M : Type 1} → statement M
 ended-early-spec =
     tie.close
     (tie.spec
-    is-sound-requires
+    (λ c κs. search needs)
     add-line-alone
-    line-alone-requires
+    (λ c κs. search needs)
     returns
-    line-alone-requires-2
+    (λ c κs. search needs)
     returns-2)

@@ -5,17 +5,11 @@ use borrow.Author.Needs.{needs}
 use Rattle.judge.proofs.first_condition.Statement.{statement}
 use Rattle.judge.proofs.first_condition.Tie as tie
 
-is-date-requires : tie.Need-is-date-requires
-is-date-requires c κs = search needs
-
 returns : tie.Need-returns
 returns c = taken _ _ _ (sym (c .before .is-date .ensures) ∙ c .if1 .taken)
-
-nowhere-requires : tie.Need-nowhere-requires
-nowhere-requires c κs = search needs
 
 returns-2 : tie.Need-returns-2
 returns-2 c = rw (c .nowhere .ensures) (left _ _ _ _ (sym (c .before .before .is-date .ensures) ∙ c .before .if1 .left) refl)
 
 pub first-condition-spec : {M : Type 1} → statement M
-first-condition-spec = tie.close (tie.spec is-date-requires returns nowhere-requires returns-2)
+first-condition-spec = tie.close (tie.spec (λ c κs. search needs) returns (λ c κs. search needs) returns-2)

@@ -5,17 +5,11 @@ use borrow.Author.Needs.{needs}
 use Rattle.judge.proofs.if_sound.Statement.{statement}
 use Rattle.judge.proofs.if_sound.Tie as tie
 
-is-sound-requires : tie.Need-is-sound-requires
-is-sound-requires c κs = search needs
-
 returns : tie.Need-returns
 returns c = taken _ _ _ (sym (c .before .is-sound .ensures) ∙ c .if1 .taken)
-
-line-alone-requires : tie.Need-line-alone-requires
-line-alone-requires c κs = search needs
 
 returns-2 : tie.Need-returns-2
 returns-2 c = rw (c .line-alone .ensures) (left _ _ _ _ (sym (c .before .before .is-sound .ensures) ∙ c .before .if1 .left) refl)
 
 pub if-sound-spec : {M : Type 1} → statement M
-if-sound-spec = tie.close (tie.spec is-sound-requires returns line-alone-requires returns-2)
+if-sound-spec = tie.close (tie.spec (λ c κs. search needs) returns (λ c κs. search needs) returns-2)

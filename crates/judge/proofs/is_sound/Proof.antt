@@ -27,15 +27,9 @@ returns-5 : tie.Need-returns-5
 unfolding isSound
 returns-5 c = and-second _ _ _ (le-leb _ _ (c .before .before .before .before .if1 .left)) (and-second _ _ _ (le-leb _ _ (c .before .before .before .if2 .left)) (and-second _ _ _ (le-leb _ _ (c .before .before .if3 .left)) (and-second _ _ _ (le-leb _ _ (c .before .if4 .left)) (and-first _ _ (lt-leb _ _ (c .if5 .taken))))))
 
-is-exact-requires : tie.Need-is-exact-requires
-is-exact-requires c κs = search needs
-
 returns-6 : tie.Need-returns-6
 unfolding isSound
 returns-6 c = and-second _ _ _ (le-leb _ _ (c .before .before .before .before .before .before .if1 .left)) (and-second _ _ _ (le-leb _ _ (c .before .before .before .before .before .if2 .left)) (and-second _ _ _ (le-leb _ _ (c .before .before .before .before .if3 .left)) (and-second _ _ _ (le-leb _ _ (c .before .before .before .if4 .left)) (and-second _ _ _ (le-leb _ _ (c .before .before .if5 .left)) (and-first _ _ (sym (c .before .is-exact .ensures) ∙ not-true _ (c .if6 .taken)))))))
-
-is-exact-requires-2 : tie.Need-is-exact-requires-2
-is-exact-requires-2 c κs = search needs
 
 returns-7 : tie.Need-returns-7
 unfolding isSound
@@ -50,7 +44,7 @@ is-sound-spec =
     returns-3
     returns-4
     returns-5
-    is-exact-requires
+    (λ c κs. search needs)
     returns-6
-    is-exact-requires-2
+    (λ c κs. search needs)
     returns-7)

@@ -6,24 +6,9 @@ use borrow.Author.Needs.{needs}
 use Rattle.judge.proofs.label_step.Statement.{statement}
 use Rattle.judge.proofs.label_step.Tie as tie
 
-is-fresh-requires : tie.Need-is-fresh-requires
-is-fresh-requires c κs = search needs
-
-judge-places-requires : tie.Need-judge-places-requires
-judge-places-requires c κs = search needs
-
-after-label-requires : tie.Need-after-label-requires
-after-label-requires c κs = search needs
-
-after-places-requires : tie.Need-after-places-requires
-after-places-requires c κs = search needs
-
 returns : tie.Need-returns
 unfolding labelStep
 returns c = entered _ _ _ _ (sym (c .before .before .before .before .is-fresh .ensures) ∙ c .before .before .before .if1 .taken) (rw (← (c .before .after-label .ensures), ← (c .before .before .judge-places .ensures)) (c .after-places .ensures))
-
-out-of-place-requires : tie.Need-out-of-place-requires
-out-of-place-requires c κs = search needs
 
 returns-2 : tie.Need-returns-2
 unfolding labelStep
@@ -33,10 +18,10 @@ pub label-step-spec : {M : Type 1} → statement M
 label-step-spec =
     tie.close
     (tie.spec
-    is-fresh-requires
-    judge-places-requires
-    after-label-requires
-    after-places-requires
+    (λ c κs. search needs)
+    (λ c κs. search needs)
+    (λ c κs. search needs)
+    (λ c κs. search needs)
     returns
-    out-of-place-requires
+    (λ c κs. search needs)
     returns-2)

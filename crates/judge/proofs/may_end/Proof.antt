@@ -5,14 +5,8 @@ use borrow.Author.Needs.{needs}
 use Rattle.judge.proofs.may_end.Statement.{statement}
 use Rattle.judge.proofs.may_end.Tie as tie
 
-is-grouped-requires : tie.Need-is-grouped-requires
-is-grouped-requires c κs = search needs
-
 returns : tie.Need-returns
 returns c = and-second _ _ _ (sym (c .before .is-grouped .ensures) ∙ c .if1 .taken) refl
 
-returns-2 : tie.Need-returns-2
-returns-2 c = search needs
-
 pub may-end-spec : {M : Type 1} → statement M
-may-end-spec = tie.close (tie.spec is-grouped-requires returns returns-2)
+may-end-spec = tie.close (tie.spec (λ c κs. search needs) returns (λ c. search needs))

@@ -3,18 +3,9 @@ use borrow.Author.Needs.{needs}
 use Rattle.judge.proofs.open_step.Statement.{statement}
 use Rattle.judge.proofs.open_step.Tie as tie
 
-judge-places-requires : tie.Need-judge-places-requires
-judge-places-requires c κs = search needs
-
-after-opening-requires : tie.Need-after-opening-requires
-after-opening-requires c κs = search needs
-
-after-places-requires : tie.Need-after-places-requires
-after-places-requires c κs = search needs
-
 returns : tie.Need-returns
 returns c = rw (← (c .before .after-opening .ensures), ← (c .before .before .judge-places .ensures)) (c .after-places .ensures)
 
 pub open-step-spec : {M : Type 1} → statement M
 open-step-spec =
-    tie.close (tie.spec judge-places-requires after-opening-requires after-places-requires returns)
+    tie.close (tie.spec (λ c κs. search needs) (λ c κs. search needs) (λ c κs. search needs) returns)

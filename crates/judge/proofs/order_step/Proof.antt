@@ -7,31 +7,13 @@ use borrow.Author.Needs.{needs}
 use Rattle.judge.proofs.order_step.Statement.{statement}
 use Rattle.judge.proofs.order_step.Tie as tie
 
-is-grouped-requires : tie.Need-is-grouped-requires
-is-grouped-requires c κs = search needs
-
-out-of-place-requires : tie.Need-out-of-place-requires
-out-of-place-requires c κs = search needs
-
 returns : tie.Need-returns
 unfolding orderStep
 returns c = left _ _ _ _ (sym (c .before .before .is-grouped .ensures) ∙ not-true _ (c .before .if1 .taken)) (c .out-of-place .ensures)
 
-judge-places-requires : tie.Need-judge-places-requires
-judge-places-requires c κs = search needs
-
-after-order-requires : tie.Need-after-order-requires
-after-order-requires c κs = search needs
-
-after-places-requires : tie.Need-after-places-requires
-after-places-requires c κs = search needs
-
 returns-2 : tie.Need-returns-2
 unfolding orderStep
 returns-2 c = entered _ _ _ _ (sym (c .before .before .before .before .before .is-grouped .ensures) ∙ not-false _ (c .before .before .before .before .if1 .left)) (entered _ _ _ _ (lt-ltb _ _ (c .before .before .before .if2 .taken)) (rw (← (c .before .after-order .ensures), ← (c .before .before .judge-places .ensures)) (c .after-places .ensures)))
-
-wrong-number-requires : tie.Need-wrong-number-requires
-wrong-number-requires c κs = search needs
 
 returns-3 : tie.Need-returns-3
 unfolding orderStep
@@ -41,12 +23,12 @@ pub order-step-spec : {M : Type 1} → statement M
 order-step-spec =
     tie.close
     (tie.spec
-    is-grouped-requires
-    out-of-place-requires
+    (λ c κs. search needs)
+    (λ c κs. search needs)
     returns
-    judge-places-requires
-    after-order-requires
-    after-places-requires
+    (λ c κs. search needs)
+    (λ c κs. search needs)
+    (λ c κs. search needs)
     returns-2
-    wrong-number-requires
+    (λ c κs. search needs)
     returns-3)

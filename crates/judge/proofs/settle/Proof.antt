@@ -6,20 +6,11 @@ use borrow.Author.Needs.{needs}
 use Rattle.judge.proofs.settle.Statement.{statement}
 use Rattle.judge.proofs.settle.Tie as tie
 
-wrong-number-requires : tie.Need-wrong-number-requires
-wrong-number-requires c κs = search needs
-
 returns : tie.Need-returns
 returns c = left _ _ _ _ (ne-eqb _ _ (c .before .if1 .taken)) (c .wrong-number .ensures)
 
-is-same-requires : tie.Need-is-same-requires
-is-same-requires c κs = search needs
-
 returns-2 : tie.Need-returns-2
 returns-2 c = entered _ _ _ _ (eq-eqb _ _ (c .before .before .if1 .left)) (entered _ _ _ _ (sym (c .before .is-same .ensures) ∙ c .if2 .taken) refl)
-
-wrong-sum-requires : tie.Need-wrong-sum-requires
-wrong-sum-requires c κs = search needs
 
 returns-3 : tie.Need-returns-3
 returns-3 c = entered _ _ _ _ (eq-eqb _ _ (c .before .before .before .if1 .left)) (left _ _ _ _ (sym (c .before .before .is-same .ensures) ∙ c .before .if2 .left) (c .wrong-sum .ensures))
@@ -28,9 +19,9 @@ pub settle-spec : {M : Type 1} → statement M
 settle-spec =
     tie.close
     (tie.spec
-    wrong-number-requires
+    (λ c κs. search needs)
     returns
-    is-same-requires
+    (λ c κs. search needs)
     returns-2
-    wrong-sum-requires
+    (λ c κs. search needs)
     returns-3)

@@ -7,50 +7,20 @@ use borrow.Author.Needs.{needs}
 use Rattle.judge.proofs.step.Statement.{statement}
 use Rattle.judge.proofs.step.Tie as tie
 
-is-refused-requires : tie.Need-is-refused-requires
-is-refused-requires c κs = search needs
-
 returns : tie.Need-returns
 unfolding stepped
 returns c = taken _ _ _ (sym (c .before .is-refused .ensures) ∙ c .if1 .taken)
-
-is-sound-requires : tie.Need-is-sound-requires
-is-sound-requires c κs = search needs
-
-line-alone-requires : tie.Need-line-alone-requires
-line-alone-requires c κs = search needs
-
-refused-requires : tie.Need-refused-requires
-refused-requires c κs = search needs
 
 returns-2 : tie.Need-returns-2
 unfolding stepped
 returns-2 c = left _ _ _ _ (sym (c .before .before .before .before .before .is-refused .ensures) ∙ c .before .before .before .before .if1 .left) (left _ _ _ _ (sym (and-first _ _ (sym (c .before .before .before .is-sound .ensures) ∙ not-true _ (c .before .before .if2 .taken)))) (rw (c .refused .ensures, c .before .line-alone .ensures)))
 
-line-alone-requires-2 : tie.Need-line-alone-requires-2
-line-alone-requires-2 c κs = search needs
-
-refused-requires-2 : tie.Need-refused-requires-2
-refused-requires-2 c κs = search needs
-
 returns-3 : tie.Need-returns-3
 unfolding stepped
 returns-3 c = left _ _ _ _ (sym (c .before .before .before .before .before .before .is-refused .ensures) ∙ c .before .before .before .before .before .if1 .left) (left _ _ _ _ (sym (and-second _ _ _ (sym (c .before .before .before .before .is-sound .ensures) ∙ not-false _ (c .before .before .before .if2 .left)) (sym (le-ltb _ _ (c .before .before .if3 .taken))))) (rw (c .refused2 .ensures, c .before .line-alone2 .ensures)))
 
-read-type-requires : tie.Need-read-type-requires
-read-type-requires c κs = search needs
-
-enum-known-t : tie.Need-enum-known-t
-enum-known-t c = search needs
-
 type-step-requires : tie.Need-type-step-requires
 type-step-requires c κs = sym (c .before .before .before .before .before .before .is-sound .ensures) ∙ not-false _ (c .before .before .before .before .before .if2 .left)
-
-enum-known-r : tie.Need-enum-known-r
-enum-known-r c = search needs
-
-refused-line-requires : tie.Need-refused-line-requires
-refused-line-requires c κs = search needs
 
 returns-4 : tie.Need-returns-4
 unfolding stepped
@@ -64,19 +34,19 @@ pub step-spec : {M : Type 1} → statement M
 step-spec =
     tie.close
     (tie.spec
-    is-refused-requires
+    (λ c κs. search needs)
     returns
-    is-sound-requires
-    line-alone-requires
-    refused-requires
+    (λ c κs. search needs)
+    (λ c κs. search needs)
+    (λ c κs. search needs)
     returns-2
-    line-alone-requires-2
-    refused-requires-2
+    (λ c κs. search needs)
+    (λ c κs. search needs)
     returns-3
-    read-type-requires
-    enum-known-t
+    (λ c κs. search needs)
+    (λ c. search needs)
     type-step-requires
-    enum-known-r
-    refused-line-requires
+    (λ c. search needs)
+    (λ c κs. search needs)
     returns-4
     returns-5)

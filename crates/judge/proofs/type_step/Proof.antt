@@ -4,26 +4,14 @@ use borrow.Author.Needs.{needs}
 use Rattle.judge.proofs.type_step.Statement.{statement}
 use Rattle.judge.proofs.type_step.Tie as tie
 
-enum-told : tie.Need-enum-told
-enum-told c = search needs
-
 label-step-requires : tie.Need-label-step-requires
 label-step-requires c κs = sound-within (c .before .before .before .args .j) (c .before .before .before .pre) .lines
-
-enum-told-2 : tie.Need-enum-told-2
-enum-told-2 c = search needs
 
 group-step-requires : tie.Need-group-step-requires
 group-step-requires c κs = let w = sound-within (c .before .before .before .args .j) (c .before .before .before .pre) in (w .lines, w .groups)
 
-enum-told-3 : tie.Need-enum-told-3
-enum-told-3 c = search needs
-
 order-step-requires : tie.Need-order-step-requires
 order-step-requires c κs = let w = sound-within (c .before .before .before .args .j) (c .before .before .before .pre) in (w .lines, w .orders, w .counted)
-
-enum-told-4 : tie.Need-enum-told-4
-enum-told-4 c = search needs
 
 closing-step-requires : tie.Need-closing-step-requires
 closing-step-requires c κs = sound-within (c .before .before .before .args .j) (c .before .before .before .pre) .lines
@@ -44,13 +32,13 @@ pub type-step-spec : {M : Type 1} → statement M
 type-step-spec =
     tie.close
     (tie.spec
-    enum-told
+    (λ c. search needs)
     label-step-requires
-    enum-told-2
+    (λ c. search needs)
     group-step-requires
-    enum-told-3
+    (λ c. search needs)
     order-step-requires
-    enum-told-4
+    (λ c. search needs)
     closing-step-requires
     returns
     returns-2

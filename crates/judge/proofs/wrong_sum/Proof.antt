@@ -3,17 +3,8 @@ use borrow.Author.Needs.{needs}
 use Rattle.judge.proofs.wrong_sum.Statement.{statement}
 use Rattle.judge.proofs.wrong_sum.Tie as tie
 
-add-line-alone : tie.Need-add-line-alone
-add-line-alone c = search needs
-
-line-alone-requires : tie.Need-line-alone-requires
-line-alone-requires c κs = search needs
-
-refused-requires : tie.Need-refused-requires
-refused-requires c κs = search needs
-
 returns : tie.Need-returns
 returns c = rw (c .refused .ensures, c .before .line-alone .ensures)
 
 pub wrong-sum-spec : {M : Type 1} → statement M
-wrong-sum-spec = tie.close (tie.spec add-line-alone line-alone-requires refused-requires returns)
+wrong-sum-spec = tie.close (tie.spec (λ c. search needs) (λ c κs. search needs) (λ c κs. search needs) returns)

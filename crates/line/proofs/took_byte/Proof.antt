@@ -17,12 +17,6 @@ returns-2 c =
     let a = c .before .before .before .before .args in
     took-feed (keptOf (a .seen) (a .head .now) (a .tail .now)) (a .b) (c .before .if1 .left) (eq-eqb _ _ (c .if2 .taken))
 
-took-tail-requires : tie.Need-took-tail-requires
-took-tail-requires c κs = search needs
-
-same-length : tie.Need-same-length
-same-length c = search needs
-
 returns-3 : tie.Need-returns-3
 returns-3 c =
     let d = c .before .before .before .before in
@@ -34,12 +28,6 @@ returns-4 : tie.Need-returns-4
 returns-4 c =
     let a = c .before .before .before .before .before .before .args in
     took-space (keptOf (a .seen) (a .head .now) (a .tail .now)) (a .b) (c .before .before .before .if1 .left) (ne-eqb _ _ (c .before .before .if2 .left)) (c .before .if3 .left) (eq-eqb _ _ (c .if4 .taken))
-
-took-head-requires : tie.Need-took-head-requires
-took-head-requires c κs = search needs
-
-same-length-2 : tie.Need-same-length-2
-same-length-2 c = search needs
 
 returns-5 : tie.Need-returns-5
 returns-5 c =
@@ -54,10 +42,10 @@ took-byte-spec =
     (tie.spec
     returns
     returns-2
-    took-tail-requires
-    same-length
+    (λ c κs. search needs)
+    (λ c. search needs)
     returns-3
     returns-4
-    took-head-requires
-    same-length-2
+    (λ c κs. search needs)
+    (λ c. search needs)
     returns-5)

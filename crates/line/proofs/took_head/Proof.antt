@@ -6,15 +6,6 @@ use borrow.Author.Needs.{needs}
 use Rattle.line.proofs.took_head.Statement.{statement}
 use Rattle.line.proofs.took_head.Tie as tie
 
-slice-write-head : tie.Need-slice-write-head
-slice-write-head c = search needs
-
-add-t8 : tie.Need-add-t8
-add-t8 c = search needs
-
-same-length : tie.Need-same-length
-same-length c = search needs
-
 returns : tie.Need-returns
 returns c = λ tail. taken _ _ _ (lt-ltb _ _ (c .if1 .taken))
 
@@ -22,4 +13,4 @@ returns-2 : tie.Need-returns-2
 returns-2 c = λ tail. left _ _ _ _ (le-ltb _ _ (c .if1 .left)) refl
 
 pub took-head-spec : {M : Type 1} → statement M
-took-head-spec = tie.close (tie.spec slice-write-head add-t8 same-length returns returns-2)
+took-head-spec = tie.close (tie.spec (λ c. search needs) (λ c. search needs) (λ c. search needs) returns returns-2)

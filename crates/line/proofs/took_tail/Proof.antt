@@ -6,15 +6,6 @@ use borrow.Author.Needs.{needs}
 use Rattle.line.proofs.took_tail.Statement.{statement}
 use Rattle.line.proofs.took_tail.Tie as tie
 
-slice-write-tail : tie.Need-slice-write-tail
-slice-write-tail c = search needs
-
-add-t8 : tie.Need-add-t8
-add-t8 c = search needs
-
-same-length : tie.Need-same-length
-same-length c = search needs
-
 returns : tie.Need-returns
 returns c = λ head. taken _ _ _ (lt-ltb _ _ (c .if1 .taken))
 
@@ -22,4 +13,4 @@ returns-2 : tie.Need-returns-2
 returns-2 c = λ head. left _ _ _ _ (le-ltb _ _ (c .if1 .left)) refl
 
 pub took-tail-spec : {M : Type 1} → statement M
-took-tail-spec = tie.close (tie.spec slice-write-tail add-t8 same-length returns returns-2)
+took-tail-spec = tie.close (tie.spec (λ c. search needs) (λ c. search needs) (λ c. search needs) returns returns-2)

@@ -9,14 +9,8 @@ use Rattle.models.proofs.number.Tie as tie
 returns : tie.Need-returns
 returns c = left _ _ _ _ (sym (and-first _ _ (ne-eqb _ _ (c .if1 .taken)))) refl
 
-shared-slice-read-if2 : tie.Need-shared-slice-read-if2
-shared-slice-read-if2 c = search needs
-
 returns-2 : tie.Need-returns-2
 returns-2 c = left _ _ _ _ (sym (and-second _ _ _ (eq-eqb _ _ (c .before .before .if1 .left)) (and-first _ _ (ne-eqb _ _ (c .if2 .taken))))) refl
-
-shared-slice-read-if3 : tie.Need-shared-slice-read-if3
-shared-slice-read-if3 c = search needs
 
 returns-3 : tie.Need-returns-3
 returns-3 c =
@@ -24,15 +18,6 @@ returns-3 c =
     (sym (and-second _ _ _ (eq-eqb _ _ (c .before .before .before .before .if1 .left))
     (and-second _ _ _ (eq-eqb _ _ (c .before .before .if2 .left)) (sym (ne-eqb _ _ (c .if3 .taken))))))
     refl
-
-shared-slice-read-two-digits : tie.Need-shared-slice-read-two-digits
-shared-slice-read-two-digits c = search needs
-
-shared-slice-read-two-digits-2 : tie.Need-shared-slice-read-two-digits-2
-shared-slice-read-two-digits-2 c = search needs
-
-two-digits-requires : tie.Need-two-digits-requires
-two-digits-requires c κs = search needs
 
 returns-4 : tie.Need-returns-4
 returns-4 c =
@@ -46,11 +31,11 @@ number-spec =
     tie.close
     (tie.spec
     returns
-    shared-slice-read-if2
+    (λ c. search needs)
     returns-2
-    shared-slice-read-if3
+    (λ c. search needs)
     returns-3
-    shared-slice-read-two-digits
-    shared-slice-read-two-digits-2
-    two-digits-requires
+    (λ c. search needs)
+    (λ c. search needs)
+    (λ c κs. search needs)
     returns-4)

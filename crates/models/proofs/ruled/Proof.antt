@@ -3,11 +3,8 @@ use borrow.Author.Needs.{needs}
 use Rattle.models.proofs.ruled.Statement.{statement}
 use Rattle.models.proofs.ruled.Tie as tie
 
-joined-requires : tie.Need-joined-requires
-joined-requires c κs = search needs
-
 returns : tie.Need-returns
 returns c = rw (c .joined .ensures)
 
 pub ruled-spec : {M : Type 1} → statement M
-ruled-spec = tie.close (tie.spec joined-requires returns)
+ruled-spec = tie.close (tie.spec (λ c κs. search needs) returns)

@@ -6,96 +6,6 @@ use borrow.Author.Needs.{needs}
 use Rattle.models.proofs.rules.Statement.{statement}
 use Rattle.models.proofs.rules.Tie as tie
 
-joined-requires : tie.Need-joined-requires
-joined-requires c κs = search needs
-
-common-requires : tie.Need-common-requires
-common-requires c κs = search needs
-
-joined-requires-2 : tie.Need-joined-requires-2
-joined-requires-2 c κs = search needs
-
-common-requires-2 : tie.Need-common-requires-2
-common-requires-2 c κs = search needs
-
-joined-requires-3 : tie.Need-joined-requires-3
-joined-requires-3 c κs = search needs
-
-joined-requires-4 : tie.Need-joined-requires-4
-joined-requires-4 c κs = search needs
-
-common-requires-3 : tie.Need-common-requires-3
-common-requires-3 c κs = search needs
-
-joined-requires-5 : tie.Need-joined-requires-5
-joined-requires-5 c κs = search needs
-
-joined-requires-6 : tie.Need-joined-requires-6
-joined-requires-6 c κs = search needs
-
-joined-requires-7 : tie.Need-joined-requires-7
-joined-requires-7 c κs = search needs
-
-common-requires-4 : tie.Need-common-requires-4
-common-requires-4 c κs = search needs
-
-joined-requires-8 : tie.Need-joined-requires-8
-joined-requires-8 c κs = search needs
-
-joined-requires-9 : tie.Need-joined-requires-9
-joined-requires-9 c κs = search needs
-
-common-requires-5 : tie.Need-common-requires-5
-common-requires-5 c κs = search needs
-
-joined-requires-10 : tie.Need-joined-requires-10
-joined-requires-10 c κs = search needs
-
-common-requires-6 : tie.Need-common-requires-6
-common-requires-6 c κs = search needs
-
-joined-requires-11 : tie.Need-joined-requires-11
-joined-requires-11 c κs = search needs
-
-common-requires-7 : tie.Need-common-requires-7
-common-requires-7 c κs = search needs
-
-joined-requires-12 : tie.Need-joined-requires-12
-joined-requires-12 c κs = search needs
-
-joined-requires-13 : tie.Need-joined-requires-13
-joined-requires-13 c κs = search needs
-
-common-requires-8 : tie.Need-common-requires-8
-common-requires-8 c κs = search needs
-
-joined-requires-14 : tie.Need-joined-requires-14
-joined-requires-14 c κs = search needs
-
-common-requires-9 : tie.Need-common-requires-9
-common-requires-9 c κs = search needs
-
-joined-requires-15 : tie.Need-joined-requires-15
-joined-requires-15 c κs = search needs
-
-joined-requires-16 : tie.Need-joined-requires-16
-joined-requires-16 c κs = search needs
-
-common-requires-10 : tie.Need-common-requires-10
-common-requires-10 c κs = search needs
-
-joined-requires-17 : tie.Need-joined-requires-17
-joined-requires-17 c κs = search needs
-
-joined-requires-18 : tie.Need-joined-requires-18
-joined-requires-18 c κs = search needs
-
-common-requires-11 : tie.Need-common-requires-11
-common-requires-11 c κs = search needs
-
-special-requires : tie.Need-special-requires
-special-requires c κs = search needs
-
 returns : tie.Need-returns
 unfolding modelOf
 returns c = rw (c .before .match .keys1) (cc)
@@ -151,36 +61,36 @@ pub rules-spec : {M : Type 1} → statement M
 rules-spec =
     tie.close
     (tie.spec
-    joined-requires
-    common-requires
-    joined-requires-2
-    common-requires-2
-    joined-requires-3
-    joined-requires-4
-    common-requires-3
-    joined-requires-5
-    joined-requires-6
-    joined-requires-7
-    common-requires-4
-    joined-requires-8
-    joined-requires-9
-    common-requires-5
-    joined-requires-10
-    common-requires-6
-    joined-requires-11
-    common-requires-7
-    joined-requires-12
-    joined-requires-13
-    common-requires-8
-    joined-requires-14
-    common-requires-9
-    joined-requires-15
-    joined-requires-16
-    common-requires-10
-    joined-requires-17
-    joined-requires-18
-    common-requires-11
-    special-requires
+    (λ c κs. search needs)
+    (λ c κs. search needs)
+    (λ c κs. search needs)
+    (λ c κs. search needs)
+    (λ c κs. search needs)
+    (λ c κs. search needs)
+    (λ c κs. search needs)
+    (λ c κs. search needs)
+    (λ c κs. search needs)
+    (λ c κs. search needs)
+    (λ c κs. search needs)
+    (λ c κs. search needs)
+    (λ c κs. search needs)
+    (λ c κs. search needs)
+    (λ c κs. search needs)
+    (λ c κs. search needs)
+    (λ c κs. search needs)
+    (λ c κs. search needs)
+    (λ c κs. search needs)
+    (λ c κs. search needs)
+    (λ c κs. search needs)
+    (λ c κs. search needs)
+    (λ c κs. search needs)
+    (λ c κs. search needs)
+    (λ c κs. search needs)
+    (λ c κs. search needs)
+    (λ c κs. search needs)
+    (λ c κs. search needs)
+    (λ c κs. search needs)
+    (λ c κs. search needs)
     returns
     returns-2
     returns-3

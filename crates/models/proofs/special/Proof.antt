@@ -6,36 +6,6 @@ use borrow.Author.Needs.{needs}
 use Rattle.models.proofs.special.Statement.{statement}
 use Rattle.models.proofs.special.Tie as tie
 
-joined-requires : tie.Need-joined-requires
-joined-requires c κs = search needs
-
-joined-requires-2 : tie.Need-joined-requires-2
-joined-requires-2 c κs = search needs
-
-joined-requires-3 : tie.Need-joined-requires-3
-joined-requires-3 c κs = search needs
-
-joined-requires-4 : tie.Need-joined-requires-4
-joined-requires-4 c κs = search needs
-
-ruled-requires : tie.Need-ruled-requires
-ruled-requires c κs = search needs
-
-joined-requires-5 : tie.Need-joined-requires-5
-joined-requires-5 c κs = search needs
-
-common-requires : tie.Need-common-requires
-common-requires c κs = search needs
-
-ruled-requires-2 : tie.Need-ruled-requires-2
-ruled-requires-2 c κs = search needs
-
-ruled-requires-3 : tie.Need-ruled-requires-3
-ruled-requires-3 c κs = search needs
-
-ruled-requires-4 : tie.Need-ruled-requires-4
-ruled-requires-4 c κs = search needs
-
 returns : tie.Need-returns
 unfolding specialOf
 returns c = rw (c .before .before .match .keys1) (cc)
@@ -67,16 +37,16 @@ pub special-spec : {M : Type 1} → statement M
 special-spec =
     tie.close
     (tie.spec
-    joined-requires
-    joined-requires-2
-    joined-requires-3
-    joined-requires-4
-    ruled-requires
-    joined-requires-5
-    common-requires
-    ruled-requires-2
-    ruled-requires-3
-    ruled-requires-4
+    (λ c κs. search needs)
+    (λ c κs. search needs)
+    (λ c κs. search needs)
+    (λ c κs. search needs)
+    (λ c κs. search needs)
+    (λ c κs. search needs)
+    (λ c κs. search needs)
+    (λ c κs. search needs)
+    (λ c κs. search needs)
+    (λ c κs. search needs)
     returns
     returns-2
     returns-3

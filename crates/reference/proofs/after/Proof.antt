@@ -10,9 +10,6 @@ returns c =
     let a = c .before .before in
     after-few (a .args .k) (a .args .s .now) (rw (a .pre) at (c .if1 .taken))
 
-seek-requires : tie.Need-seek-requires
-seek-requires c κs = search needs
-
 returns-2 : tie.Need-returns-2
 unfolding afterHyphens
 returns-2 c = rw (c .match .keys1)
@@ -31,4 +28,4 @@ returns-5 : tie.Need-returns-5
 returns-5 c = c .seek .ensures
 
 pub after-spec : {M : Type 1} → statement M
-after-spec = tie.close (tie.spec returns seek-requires returns-2 returns-3 returns-4 returns-5)
+after-spec = tie.close (tie.spec returns (λ c κs. search needs) returns-2 returns-3 returns-4 returns-5)

@@ -9,9 +9,6 @@ use Rattle.reference.proofs.Readers.{room-for}
 use Rattle.reference.proofs.ended.Statement.{statement}
 use Rattle.reference.proofs.ended.Tie as tie
 
-fits-requires : tie.Need-fits-requires
-fits-requires c κs = search needs
-
 mul-result : tie.Need-mul-result
 mul-result c =
     let z = c .before .before .before in
@@ -33,4 +30,4 @@ unfolding digitRead
 returns-2 c = left _ _ _ _ (sym (c .before .fits2 .ensures) ∙ c .if1 .left) refl
 
 pub ended-spec : {M : Type 1} → statement M
-ended-spec = tie.close (tie.spec fits-requires mul-result add-result returns returns-2)
+ended-spec = tie.close (tie.spec (λ c κs. search needs) mul-result add-result returns returns-2)

@@ -5,9 +5,6 @@ use Rattle.text.proofs.Laws.{taken, left}
 use Rattle.reference.proofs.ended_at.Statement.{statement}
 use Rattle.reference.proofs.ended_at.Tie as tie
 
-all-blank-requires : tie.Need-all-blank-requires
-all-blank-requires c κs = search needs
-
 returns : tie.Need-returns
 returns c = taken _ _ _ (sym (c .before .all-blank .ensures) ∙ c .if1 .taken)
 
@@ -15,4 +12,4 @@ returns-2 : tie.Need-returns-2
 returns-2 c = left _ _ _ _ (sym (c .before .all-blank .ensures) ∙ c .if1 .left) refl
 
 pub ended-at-spec : {M : Type 1} → statement M
-ended-at-spec = tie.close (tie.spec all-blank-requires returns returns-2)
+ended-at-spec = tie.close (tie.spec (λ c κs. search needs) returns returns-2)

@@ -17,22 +17,10 @@ returns-2 c =
     let l = c .before .before .before .args .lengths .now in
     and-second _ _ _ (lt-ltb 1 (length l) (omega arith)) (and-first _ _ (le-ltb 0 (c .before .before .before .args .n) (omega arith)))
 
-shared-slice-read-wide : tie.Need-shared-slice-read-wide
-shared-slice-read-wide c = search needs
-
-wide-requires : tie.Need-wide-requires
-wide-requires c κs = search needs
-
 returns-3 : tie.Need-returns-3
 returns-3 c =
     let l = c .before .before .before .before .before .before .args .lengths .now in
     and-second _ _ _ (lt-ltb 1 (length l) (omega arith)) (and-second _ _ _ (lt-ltb 0 (c .before .before .before .before .before .before .args .n) (omega arith)) (and-first _ _ (lt-leb (getD l 0 0) (c .before .before .before .before .before .before .args .n) (omega arith))))
-
-shared-slice-read-wide-2 : tie.Need-shared-slice-read-wide-2
-shared-slice-read-wide-2 c = search needs
-
-wide-requires-2 : tie.Need-wide-requires-2
-wide-requires-2 c κs = search needs
 
 returns-4 : tie.Need-returns-4
 returns-4 c =
@@ -47,9 +35,9 @@ fits-spec =
     (tie.spec
     returns
     returns-2
-    shared-slice-read-wide
-    wide-requires
+    (λ c. search needs)
+    (λ c κs. search needs)
     returns-3
-    shared-slice-read-wide-2
-    wide-requires-2
+    (λ c. search needs)
+    (λ c κs. search needs)
     returns-4)

@@ -8,31 +8,10 @@ use borrow.Author.Needs.{needs}
 use Rattle.reference.proofs.group_holds.Statement.{statement}
 use Rattle.reference.proofs.group_holds.Tie as tie
 
-wide-requires : tie.Need-wide-requires
-wide-requires c κs = search needs
-
-wide-requires-2 : tie.Need-wide-requires-2
-wide-requires-2 c κs = search needs
-
 returns : tie.Need-returns
 returns c =
     let a = c .before .before .before .before .args in
     group-empty (a .g) (a .s .now) (sym (c .before .wide2 .ensures) ∙ c .if1 .taken)
-
-after-requires : tie.Need-after-requires
-after-requires c κs = search needs
-
-enum-known-a : tie.Need-enum-known-a
-enum-known-a c = search needs
-
-add-after : tie.Need-add-after
-add-after c = omega arith
-
-after-requires-2 : tie.Need-after-requires-2
-after-requires-2 c κs = search needs
-
-enum-known-e : tie.Need-enum-known-e
-enum-known-e c = search needs
 
 sub-stretch-holds : tie.Need-sub-stretch-holds
 sub-stretch-holds c =
@@ -57,26 +36,11 @@ part-stretch-holds-end c =
     let within = found-within _ _ _ (sym (n .e .given .1) ∙ n .before .before .after2 .ensures) in
     omega arith
 
-stretch-holds-requires : tie.Need-stretch-holds-requires
-stretch-holds-requires c κs = search needs
-
-enum-told : tie.Need-enum-told
-enum-told c = search needs
-
 sub-stretch-holds-3 : tie.Need-sub-stretch-holds-3
 sub-stretch-holds-3 c = let d = c .before .before .before .before in found-within _ _ _ (sym (d .a .given .1) ∙ d .before .before .after .ensures)
 
 part-stretch-holds-start-2 : tie.Need-part-stretch-holds-start-2
 part-stretch-holds-start-2 c = let d = c .before .before .before .before in found-within _ _ _ (sym (d .a .given .1) ∙ d .before .before .after .ensures)
-
-part-stretch-holds-end-2 : tie.Need-part-stretch-holds-end-2
-part-stretch-holds-end-2 c = search needs
-
-stretch-holds-requires-2 : tie.Need-stretch-holds-requires-2
-stretch-holds-requires-2 c κs = search needs
-
-enum-told-2 : tie.Need-enum-told-2
-enum-told-2 c = search needs
 
 returns-2 : tie.Need-returns-2
 returns-2 c =
@@ -111,25 +75,25 @@ pub group-holds-spec : {M : Type 1} → statement M
 group-holds-spec =
     tie.close
     (tie.spec
-    wide-requires
-    wide-requires-2
+    (λ c κs. search needs)
+    (λ c κs. search needs)
     returns
-    after-requires
-    enum-known-a
-    add-after
-    after-requires-2
-    enum-known-e
+    (λ c κs. search needs)
+    (λ c. search needs)
+    (λ c. omega arith)
+    (λ c κs. search needs)
+    (λ c. search needs)
     sub-stretch-holds
     sub-stretch-holds-2
     part-stretch-holds-start
     part-stretch-holds-end
-    stretch-holds-requires
-    enum-told
+    (λ c κs. search needs)
+    (λ c. search needs)
     sub-stretch-holds-3
     part-stretch-holds-start-2
-    part-stretch-holds-end-2
-    stretch-holds-requires-2
-    enum-told-2
+    (λ c. search needs)
+    (λ c κs. search needs)
+    (λ c. search needs)
     returns-2
     returns-3
     returns-4)

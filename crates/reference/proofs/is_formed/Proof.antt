@@ -21,17 +21,11 @@ eight c = let e : length (c .args .model .lengths) ≡ 8 = search needs in omega
 returns : tie.Need-returns
 returns c = formed-none (c .before .before .args .model) (c .before .before .args .s .now) (c .if1 .taken)
 
-parts-requires : tie.Need-parts-requires
-parts-requires c κs = search needs
-
 returns-2 : tie.Need-returns-2
 returns-2 c =
     let p = c .before in
     let a = p .before .before .before .args in
     sym (none-before (a .model) (a .s .now) (p .parts .result) (p .parts .ensures) (p .before .if1 .left) (c .if2 .taken))
-
-extent-requires : tie.Need-extent-requires
-extent-requires c κs = search needs
 
 returns-3 : tie.Need-returns-3
 returns-3 c =
@@ -41,4 +35,4 @@ returns-3 c =
     extent-formed (a .model) (a .s .now) (p .parts .result) (p .parts .ensures) (bytes z) (eight z) (c .before .if2 .left) (c .extent .result) (c .extent .ensures) (p .before .if1 .left)
 
 pub is-formed-spec : {M : Type 1} → statement M
-is-formed-spec = tie.close (tie.spec returns parts-requires returns-2 extent-requires returns-3)
+is-formed-spec = tie.close (tie.spec returns (λ c κs. search needs) returns-2 (λ c κs. search needs) returns-3)

@@ -30,20 +30,11 @@ returns c =
     let a = c .before .before .before .args in
     taken _ _ _ (eq-eqb (a .model .fewest) 0 (c .if2 .taken)) ∙ empty-text (a .model) (a .s .now) (c .before .if1 .taken)
 
-nowhere-requires : tie.Need-nowhere-requires
-nowhere-requires c κs = search needs
-
 returns-2 : tie.Need-returns-2
 returns-2 c =
     let a = c .before .before .before .before .args in
     rw (c .nowhere .ensures)
     (left _ _ _ _ (ne-eqb (a .model .fewest) 0 (c .before .if2 .left)) refl ∙ empty-text (a .model) (a .s .now) (c .before .before .if1 .taken))
-
-parts-requires : tie.Need-parts-requires
-parts-requires c κs = search needs
-
-unformed-requires : tie.Need-unformed-requires
-unformed-requires c κs = search needs
 
 returns-3 : tie.Need-returns-3
 returns-3 c =
@@ -51,12 +42,6 @@ returns-3 c =
     let a = p .before .before .before .args in
     c .unformed .ensures
     ∙ unformed-text (a .model) (a .s .now) (none-before (a .model) (a .s .now) (p .parts .result) (p .parts .ensures) (p .before .if1 .left) (c .before .if3 .taken)) (firstBad Reference (a .s .now))
-
-extent-requires : tie.Need-extent-requires
-extent-requires c κs = search needs
-
-unformed-requires-2 : tie.Need-unformed-requires-2
-unformed-requires-2 c κs = search needs
 
 returns-4 : tie.Need-returns-4
 returns-4 c =
@@ -67,9 +52,6 @@ returns-4 c =
     c .unformed2 .ensures
     ∙ unformed-text (a .model) (a .s .now) (part-unformed (a .model) (a .s .now) (p .parts .result) (p .parts .ensures) (bytes z) (eight z) (x .before .if3 .left) (x .extent .result) (x .extent .ensures) (c .before .if4 .taken)) (firstBad Reference (a .s .now))
 
-nowhere-requires-2 : tie.Need-nowhere-requires-2
-nowhere-requires-2 c κs = search needs
-
 returns-5 : tie.Need-returns-5
 returns-5 c =
     let x = c .before .before .before in
@@ -79,9 +61,6 @@ returns-5 c =
     rw (c .nowhere2 .ensures)
     (left _ _ _ _ (lt-leb _ _ (c .before .if5 .taken)) refl
     ∙ formed-text (a .model) (a .s .now) (whole-formed (a .model) (a .s .now) (p .parts .result) (p .parts .ensures) (bytes z) (eight z) (x .before .if3 .left) (x .extent .result) (x .extent .ensures) (p .before .if1 .left) (c .before .before .if4 .left)))
-
-between-requires : tie.Need-between-requires
-between-requires c κs = search needs
 
 checked-requires : tie.Need-checked-requires
 checked-requires c κs =
@@ -107,16 +86,16 @@ judged-text-spec =
     tie.close
     (tie.spec
     returns
-    nowhere-requires
+    (λ c κs. search needs)
     returns-2
-    parts-requires
-    unformed-requires
+    (λ c κs. search needs)
+    (λ c κs. search needs)
     returns-3
-    extent-requires
-    unformed-requires-2
+    (λ c κs. search needs)
+    (λ c κs. search needs)
     returns-4
-    nowhere-requires-2
+    (λ c κs. search needs)
     returns-5
-    between-requires
+    (λ c κs. search needs)
     checked-requires
     returns-6)

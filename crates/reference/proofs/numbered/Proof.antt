@@ -7,21 +7,12 @@ use borrow.Author.Needs.{needs}
 use Rattle.reference.proofs.numbered.Statement.{statement}
 use Rattle.reference.proofs.numbered.Tie as tie
 
-rules-requires : tie.Need-rules-requires
-rules-requires c κs = search needs
-
-nowhere-requires : tie.Need-nowhere-requires
-nowhere-requires c κs = search needs
-
 returns : tie.Need-returns
 returns c =
     let s = c .before .before .before .before .before .args .s .now in
     let m = c .before .before .before .rules .result in
     rw (c .nowhere .ensures)
     (unhandled s m (not-true (m .handled) (c .before .if1 .taken)) ∙ ap (modelAnswer s) (c .before .before .before .rules .ensures))
-
-judged-text-requires : tie.Need-judged-text-requires
-judged-text-requires c κs = search needs
 
 returns-2 : tie.Need-returns-2
 returns-2 c =
@@ -32,4 +23,4 @@ returns-2 c =
 
 pub numbered-spec : {M : Type 1} → statement M
 numbered-spec =
-    tie.close (tie.spec rules-requires nowhere-requires returns judged-text-requires returns-2)
+    tie.close (tie.spec (λ c κs. search needs) (λ c κs. search needs) returns (λ c κs. search needs) returns-2)

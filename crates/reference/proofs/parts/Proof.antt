@@ -20,9 +20,6 @@ bytes c i = search needs
 eight : (c : tie.Start) → length (c .args .model .lengths) ≤ 8
 eight c = let e : length (c .args .model .lengths) ≡ 8 = search needs in omega arith
 
-slice-aggregate-part : tie.Need-slice-aggregate-part
-slice-aggregate-part c = search needs
-
 part-requires : tie.Need-part-requires
 part-requires c κs =
     let l = eight (c .before .before .before) in
@@ -34,18 +31,6 @@ returns c =
     let z = p .before .before .before .before in
     let a = z .args in
     read-none (a .model) (bytes z) (eight z) (beforeBlank (a .s .now)) (p .part .result) (p .part .ensures) (c .if1 .taken)
-
-parts-in-requires : tie.Need-parts-in-requires
-parts-in-requires c κs = search needs
-
-wide-requires : tie.Need-wide-requires
-wide-requires c κs = search needs
-
-wide-requires-2 : tie.Need-wide-requires-2
-wide-requires-2 c κs = search needs
-
-within-requires : tie.Need-within-requires
-within-requires c κs = search needs
 
 returns-2 : tie.Need-returns-2
 returns-2 c =
@@ -69,12 +54,12 @@ pub parts-spec : {M : Type 1} → statement M
 parts-spec =
     tie.close
     (tie.spec
-    slice-aggregate-part
+    (λ c. search needs)
     part-requires
     returns
-    parts-in-requires
-    wide-requires
-    wide-requires-2
-    within-requires
+    (λ c κs. search needs)
+    (λ c κs. search needs)
+    (λ c κs. search needs)
+    (λ c κs. search needs)
     returns-2
     returns-3)

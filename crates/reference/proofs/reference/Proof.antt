@@ -5,21 +5,6 @@ use borrow.Author.Needs.{needs}
 use Rattle.reference.proofs.reference.Statement.{statement}
 use Rattle.reference.proofs.reference.Tie as tie
 
-number-requires : tie.Need-number-requires
-number-requires c κs = search needs
-
-enum-known-n : tie.Need-enum-known-n
-enum-known-n c = search needs
-
-numbered-requires : tie.Need-numbered-requires
-numbered-requires c κs = search needs
-
-enum-told : tie.Need-enum-told
-enum-told c = search needs
-
-nowhere-requires : tie.Need-nowhere-requires
-nowhere-requires c κs = search needs
-
 returns : tie.Need-returns
 returns c =
     let s = c .before .before .before .before .before .before .before .args .s .now in
@@ -35,10 +20,10 @@ pub reference-spec : {M : Type 1} → statement M
 reference-spec =
     tie.close
     (tie.spec
-    number-requires
-    enum-known-n
-    numbered-requires
-    enum-told
-    nowhere-requires
+    (λ c κs. search needs)
+    (λ c. search needs)
+    (λ c κs. search needs)
+    (λ c. search needs)
+    (λ c κs. search needs)
     returns
     returns-2)

@@ -8,11 +8,8 @@ use Rattle.reference.proofs.stretch_holds.Tie as tie
 returns : tie.Need-returns
 returns c = taken _ _ _ (eq-eqb _ _ (c .if1 .taken))
 
-ends-right-requires : tie.Need-ends-right-requires
-ends-right-requires c κs = search needs
-
 returns-2 : tie.Need-returns-2
 returns-2 c = left _ _ _ _ (ne-eqb _ _ (c .before .if1 .left)) (c .ends-right .ensures)
 
 pub stretch-holds-spec : {M : Type 1} → statement M
-stretch-holds-spec = tie.close (tie.spec returns ends-right-requires returns-2)
+stretch-holds-spec = tie.close (tie.spec returns (λ c κs. search needs) returns-2)

@@ -13,17 +13,11 @@ use borrow.Author.Needs.{needs}
 use Rattle.reference.proofs.tell.Statement.{statement}
 use Rattle.reference.proofs.tell.Tie as tie
 
-rules-requires : tie.Need-rules-requires
-rules-requires c κs = search needs
-
 returns : tie.Need-returns
 returns c =
     let s = trimmed (c .before .before .before .before .args .s .now) in
     let m = c .before .before .rules .result in
     tells-number _ (Refused (Model none)) refl (sym (unhandled s m (not-true (m .handled) (c .if1 .taken)) ∙ ap (modelAnswer s) (c .before .before .rules .ensures)))
-
-tell-text-requires : tie.Need-tell-text-requires
-tell-text-requires c κs = search needs
 
 returns-2 : tie.Need-returns-2
 returns-2 c =
@@ -32,4 +26,4 @@ returns-2 c =
     rw (← (handled-text s m (not-false (m .handled) (c .before .if1 .left)) ∙ ap (modelAnswer s) (c .before .before .before .rules .ensures))) (c .tell-text .ensures)
 
 pub tell-spec : {M : Type 1} → statement M
-tell-spec = tie.close (tie.spec rules-requires returns tell-text-requires returns-2)
+tell-spec = tie.close (tie.spec (λ c κs. search needs) returns (λ c κs. search needs) returns-2)

@@ -35,32 +35,17 @@ within x =
     let a = z .args in
     extent-within (a .model) (a .s .now) (p .parts .result) (p .parts .ensures) (bytes z) (eight z) (x .before .if1 .left) (x .extent .result) (x .extent .ensures)
 
-parts-requires : tie.Need-parts-requires
-parts-requires c κs = search needs
-
-tell-unformed-requires : tie.Need-tell-unformed-requires
-tell-unformed-requires c κs = search needs
-
 returns : tie.Need-returns
 returns c =
     let p = c .before .before in
     let a = p .before .before .args in
     rw (none-told (a .model) (a .s .now) (p .parts .result) (p .parts .ensures) (c .before .if1 .taken)) (c .tell-unformed .ensures)
 
-extent-requires : tie.Need-extent-requires
-extent-requires c κs = search needs
-
 sub-all-blank : tie.Need-sub-all-blank
 sub-all-blank c = within c
 
 part-all-blank-start : tie.Need-part-all-blank-start
 part-all-blank-start c = within c
-
-part-all-blank-end : tie.Need-part-all-blank-end
-part-all-blank-end c = search needs
-
-all-blank-requires : tie.Need-all-blank-requires
-all-blank-requires c κs = search needs
 
 add-result : tie.Need-add-result
 add-result c = omega (arith, within (c .before .before .before))
@@ -87,15 +72,6 @@ returns-3 c =
     let z = p .before .before in
     let a = z .args in
     tells-number _ (Refused (Length none)) refl (long-told (a .model) (a .s .now) (p .parts .result) (p .parts .ensures) (bytes z) (eight z) (x .before .if1 .left) (x .extent .result) (x .extent .ensures) (c .if3 .taken) (blanks (c .before)))
-
-between-requires : tie.Need-between-requires
-between-requires c κs = search needs
-
-sub-all-hold : tie.Need-sub-all-hold
-sub-all-hold c = search needs
-
-part-all-hold-start : tie.Need-part-all-hold-start
-part-all-hold-start c = omega arith
 
 part-all-hold-end : tie.Need-part-all-hold-end
 part-all-hold-end c = within (c .before .before .before .before .before .before)
@@ -132,20 +108,20 @@ pub tell-text-spec : {M : Type 1} → statement M
 tell-text-spec =
     tie.close
     (tie.spec
-    parts-requires
-    tell-unformed-requires
+    (λ c κs. search needs)
+    (λ c κs. search needs)
     returns
-    extent-requires
+    (λ c κs. search needs)
     sub-all-blank
     part-all-blank-start
-    part-all-blank-end
-    all-blank-requires
+    (λ c. search needs)
+    (λ c κs. search needs)
     add-result
     returns-2
     returns-3
-    between-requires
-    sub-all-hold
-    part-all-hold-start
+    (λ c κs. search needs)
+    (λ c. search needs)
+    (λ c. omega arith)
     part-all-hold-end
     all-hold-requires
     returns-4

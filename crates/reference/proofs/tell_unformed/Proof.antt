@@ -14,19 +14,10 @@ use borrow.Author.Needs.{needs}
 use Rattle.reference.proofs.tell_unformed.Statement.{statement}
 use Rattle.reference.proofs.tell_unformed.Tie as tie
 
-bare-requires : tie.Need-bare-requires
-bare-requires c κs = search needs
-
-enum-known-i : tie.Need-enum-known-i
-enum-known-i c = search needs
-
 add-result : tie.Need-add-result
 add-result c =
     let s = c .before .before .before .before .before .args .s .now in
     omega (arith, wrong-below s _ (sym (c .before .before .before .bare .ensures) ∙ c .before .i .given .1))
-
-enum-known-n : tie.Need-enum-known-n
-enum-known-n c = search needs
 
 returns : tie.Need-returns
 returns c =
@@ -65,10 +56,10 @@ pub tell-unformed-spec : {M : Type 1} → statement M
 tell-unformed-spec =
     tie.close
     (tie.spec
-    bare-requires
-    enum-known-i
+    (λ c κs. search needs)
+    (λ c. search needs)
     add-result
-    enum-known-n
+    (λ c. search needs)
     returns
     returns-2
     returns-3

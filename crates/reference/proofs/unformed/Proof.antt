@@ -7,30 +7,12 @@ use borrow.Author.Needs.{needs}
 use Rattle.reference.proofs.unformed.Statement.{statement}
 use Rattle.reference.proofs.unformed.Tie as tie
 
-first-bad-requires : tie.Need-first-bad-requires
-first-bad-requires c κs = search needs
-
-enum-known-i : tie.Need-enum-known-i
-enum-known-i c = search needs
-
-byte-at-requires : tie.Need-byte-at-requires
-byte-at-requires c κs = search needs
-
-enum-told : tie.Need-enum-told
-enum-told c = search needs
-
-nowhere-requires : tie.Need-nowhere-requires
-nowhere-requires c κs = search needs
-
 returns : tie.Need-returns
 returns c =
     let s = c .before .before .before .before .before .before .args .s .now in
     rw (c .nowhere .ensures)
     (left _ _ _ _ (lt-leb _ _ (c .before .if1 .taken)) refl
     ∙ ap (unformedAnswer s) (sym (c .before .before .enum-told .given .1) ∙ c .before .before .before .before .first-bad .ensures))
-
-nowhere-requires-2 : tie.Need-nowhere-requires-2
-nowhere-requires-2 c κs = search needs
 
 returns-2 : tie.Need-returns-2
 returns-2 c =
@@ -48,12 +30,12 @@ pub unformed-spec : {M : Type 1} → statement M
 unformed-spec =
     tie.close
     (tie.spec
-    first-bad-requires
-    enum-known-i
-    byte-at-requires
-    enum-told
-    nowhere-requires
+    (λ c κs. search needs)
+    (λ c. search needs)
+    (λ c κs. search needs)
+    (λ c. search needs)
+    (λ c κs. search needs)
     returns
-    nowhere-requires-2
+    (λ c κs. search needs)
     returns-2
     returns-3)

@@ -6,20 +6,11 @@ use Rattle.refusal.specs.declared.Answer.the-variants.{Refused}
 use Rattle.refusal.proofs.heard.Statement.{statement}
 use Rattle.refusal.proofs.heard.Tie as tie
 
-byte-at-requires : tie.Need-byte-at-requires
-byte-at-requires c κs = search needs
-
 returns : tie.Need-returns
 returns c = rw (le-leb 32 (c .before .before .args .told) (c .before .if1 .taken)) (c .byte-at .ensures)
 
 returns-2 : tie.Need-returns-2
 returns-2 c = rw (c .if2 .taken)
-
-nowhere-requires : tie.Need-nowhere-requires
-nowhere-requires c κs = search needs
-
-made-requires : tie.Need-made-requires
-made-requires c κs = search needs
 
 returns-3 : tie.Need-returns-3
 returns-3 c =
@@ -29,4 +20,4 @@ returns-3 c =
 pub heard-spec : {M : Type 1} → statement M
 heard-spec =
     tie.close
-    (tie.spec byte-at-requires returns returns-2 nowhere-requires made-requires returns-3)
+    (tie.spec (λ c κs. search needs) returns returns-2 (λ c κs. search needs) (λ c κs. search needs) returns-3)

@@ -14,21 +14,6 @@ use borrow.Author.Needs.{needs}
 use Rattle.slip.proofs.cents.Statement.{statement}
 use Rattle.slip.proofs.cents.Tie as tie
 
-read-requires : tie.Need-read-requires
-read-requires c κs = search needs
-
-enum-told : tie.Need-enum-told
-enum-told c = search needs
-
-piece-requires : tie.Need-piece-requires
-piece-requires c κs = search needs
-
-number-requires : tie.Need-number-requires
-number-requires c κs = search needs
-
-enum-known-r : tie.Need-enum-known-r
-enum-known-r c = search needs
-
 returns : tie.Need-returns
 returns c =
     let s = c .before .before .before .before .before .before .args .s .now in
@@ -44,4 +29,4 @@ returns-2 c = rw (sym (c .before .before .before .read .ensures) ∙ c .before .
 pub cents-spec : {M : Type 1} → statement M
 cents-spec =
     tie.close
-    (tie.spec read-requires enum-told piece-requires number-requires enum-known-r returns returns-2)
+    (tie.spec (λ c κs. search needs) (λ c. search needs) (λ c κs. search needs) (λ c κs. search needs) (λ c. search needs) returns returns-2)

@@ -4,20 +4,11 @@ use borrow.Author.Needs.{needs}
 use Rattle.slip.proofs.ends_right.Statement.{statement}
 use Rattle.slip.proofs.ends_right.Tie as tie
 
-count-ends-requires : tie.Need-count-ends-requires
-count-ends-requires c κs = search needs
-
 returns : tie.Need-returns
 returns c = other-number (c .before .before .before .args .s .now) (c .before .count-ends .result) (c .before .count-ends .ensures) (c .if1 .taken)
 
 returns-2 : tie.Need-returns-2
 returns-2 c = none-last (c .before .before .before .before .args .s .now) (c .before .before .count-ends .result) (c .before .before .count-ends .ensures) (c .before .if1 .left) (c .if2 .taken)
-
-sub-last : tie.Need-sub-last
-sub-last c = search needs
-
-shared-slice-read-result : tie.Need-shared-slice-read-result
-shared-slice-read-result c = search needs
 
 returns-3 : tie.Need-returns-3
 returns-3 c = one-last (c .before .before .before .before .before .args .s .now) (c .before .before .before .count-ends .result) (c .before .before .before .count-ends .ensures) (c .before .before .if1 .left)
@@ -25,4 +16,4 @@ returns-3 c = one-last (c .before .before .before .before .before .args .s .now)
 pub ends-right-spec : {M : Type 1} → statement M
 ends-right-spec =
     tie.close
-    (tie.spec count-ends-requires returns returns-2 sub-last shared-slice-read-result returns-3)
+    (tie.spec (λ c κs. search needs) returns returns-2 (λ c. search needs) (λ c. search needs) returns-3)

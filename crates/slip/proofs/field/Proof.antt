@@ -6,32 +6,14 @@ use borrow.Author.Needs.{needs}
 use Rattle.slip.proofs.field.Statement.{statement}
 use Rattle.slip.proofs.field.Tie as tie
 
-slice-aggregate-result : tie.Need-slice-aggregate-result
-slice-aggregate-result c = search needs
-
 returns : tie.Need-returns
 returns c = field-below (c .before .before .before .args .s .now) (c .before .before .before .args .n) (c .before .if1 .taken)
-
-slice-aggregate-result-2 : tie.Need-slice-aggregate-result-2
-slice-aggregate-result-2 c = search needs
 
 returns-2 : tie.Need-returns-2
 returns-2 c = field-above (c .before .before .before .before .args .s .now) (c .before .before .before .before .args .n) (c .before .before .if1 .left) (c .before .if2 .taken)
 
-is-accepted-requires : tie.Need-is-accepted-requires
-is-accepted-requires c κs = search needs
-
-slice-aggregate-result-3 : tie.Need-slice-aggregate-result-3
-slice-aggregate-result-3 c = search needs
-
 returns-3 : tie.Need-returns-3
 returns-3 c = field-refused (c .before .before .before .before .before .before .args .s .now) (c .before .before .before .before .before .before .args .n) (c .before .before .before .before .if1 .left) (c .before .before .before .if2 .left) (sym (c .before .before .is-accepted .ensures) ∙ not-true _ (c .before .if3 .taken))
-
-sub-piece : tie.Need-sub-piece
-sub-piece c = search needs
-
-piece-requires : tie.Need-piece-requires
-piece-requires c κs = search needs
 
 returns-4 : tie.Need-returns-4
 returns-4 c = field-handed (c .before .before .before .before .before .before .args .s .now) (c .before .before .before .before .before .before .args .n) (c .before .before .before .before .if1 .left) (c .before .before .before .if2 .left) (c .piece .result .now) (sym (c .before .before .is-accepted .ensures) ∙ not-false _ (c .before .if3 .left)) (c .piece .ensures)
@@ -40,13 +22,13 @@ pub field-spec : {M : Type 1} → statement M
 field-spec =
     tie.close
     (tie.spec
-    slice-aggregate-result
+    (λ c. search needs)
     returns
-    slice-aggregate-result-2
+    (λ c. search needs)
     returns-2
-    is-accepted-requires
-    slice-aggregate-result-3
+    (λ c κs. search needs)
+    (λ c. search needs)
     returns-3
-    sub-piece
-    piece-requires
+    (λ c. search needs)
+    (λ c κs. search needs)
     returns-4)

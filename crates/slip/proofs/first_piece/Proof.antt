@@ -7,20 +7,11 @@ use borrow.Author.Needs.{needs}
 use Rattle.slip.proofs.first_piece.Statement.{statement}
 use Rattle.slip.proofs.first_piece.Tie as tie
 
-first-bad-requires : tie.Need-first-bad-requires
-first-bad-requires c κs = search needs
-
-enum-known-i : tie.Need-enum-known-i
-enum-known-i c = search needs
-
 slice-aggregate-result : tie.Need-slice-aggregate-result
 slice-aggregate-result c =
     let s = c .before .before .before .before .before .before .args .s .now in
     let d = split-at s (c .before .before .i .given .0 .0) (sym (c .before .before .before .before .first-bad .ensures) ∙ c .before .before .i .given .1) in
     sym (length-take-le (c .before .before .i .given .0 .0) s (omega (arith, d .0)))
-
-enum-told : tie.Need-enum-told
-enum-told c = search needs
 
 returns : tie.Need-returns
 returns c =
@@ -34,4 +25,4 @@ returns-2 c = piece-here _ _ _ (split-whole (c .before .before .before .before .
 pub first-piece-spec : {M : Type 1} → statement M
 first-piece-spec =
     tie.close
-    (tie.spec first-bad-requires enum-known-i slice-aggregate-result enum-told returns returns-2)
+    (tie.spec (λ c κs. search needs) (λ c. search needs) slice-aggregate-result (λ c. search needs) returns returns-2)

@@ -6,15 +6,6 @@ use borrow.Author.Needs.{needs}
 use Rattle.slip.proofs.judge_one.Statement.{statement}
 use Rattle.slip.proofs.judge_one.Tie as tie
 
-judge-field-requires : tie.Need-judge-field-requires
-judge-field-requires c κs = search needs
-
-enum-told : tie.Need-enum-told
-enum-told c = search needs
-
-enum-known-r : tie.Need-enum-known-r
-enum-known-r c = search needs
-
 placed-requires : tie.Need-placed-requires
 placed-requires c κs =
     let a = c .before .before .before .before .before .before .args in
@@ -29,4 +20,4 @@ returns-2 c = rw (c .placed .ensures, sym (c .before .before .before .before .ju
 pub judge-one-spec : {M : Type 1} → statement M
 judge-one-spec =
     tie.close
-    (tie.spec judge-field-requires enum-told enum-known-r placed-requires returns returns-2)
+    (tie.spec (λ c κs. search needs) (λ c. search needs) (λ c. search needs) placed-requires returns returns-2)

@@ -6,17 +6,11 @@ use borrow.Author.Needs.{needs}
 use Rattle.slip.proofs.placed.Statement.{statement}
 use Rattle.slip.proofs.placed.Tie as tie
 
-told-requires : tie.Need-told-requires
-told-requires c κs = search needs
-
 add-t6 : tie.Need-add-t6
 add-t6 c = omega (arith, ap (λ (p : Place). p .byte) (c .told .ensures))
-
-put-requires : tie.Need-put-requires
-put-requires c κs = search needs
 
 returns : tie.Need-returns
 returns c = c .put .ensures ∙ rw (c .before .told .ensures)
 
 pub placed-spec : {M : Type 1} → statement M
-placed-spec = tie.close (tie.spec told-requires add-t6 put-requires returns)
+placed-spec = tie.close (tie.spec (λ c κs. search needs) add-t6 (λ c κs. search needs) returns)

@@ -6,23 +6,11 @@ use borrow.Author.Needs.{needs}
 use Rattle.slip.proofs.read.Statement.{statement}
 use Rattle.slip.proofs.read.Tie as tie
 
-nowhere-requires : tie.Need-nowhere-requires
-nowhere-requires c κs = search needs
-
 returns : tie.Need-returns
 returns c = rw (c .nowhere .ensures) (too-long (c .before .before .before .args .s .now) (c .before .if1 .taken))
 
-ends-right-requires : tie.Need-ends-right-requires
-ends-right-requires c κs = search needs
-
-nowhere-requires-2 : tie.Need-nowhere-requires-2
-nowhere-requires-2 c κs = search needs
-
 returns-2 : tie.Need-returns-2
 returns-2 c = rw (c .nowhere2 .ensures) (ends-wrong (c .before .before .before .before .before .args .s .now) (c .before .before .before .if1 .left) (sym (c .before .before .ends-right .ensures) ∙ not-true _ (c .before .if2 .taken)))
-
-judge-fields-requires : tie.Need-judge-fields-requires
-judge-fields-requires c κs = search needs
 
 returns-3 : tie.Need-returns-3
 returns-3 c = fields-judged (c .before .before .before .before .before .args .s .now) (c .judge-fields .result) (c .before .before .before .if1 .left) (sym (c .before .before .ends-right .ensures) ∙ not-false _ (c .before .if2 .left)) (c .judge-fields .ensures)
@@ -31,10 +19,10 @@ pub read-spec : {M : Type 1} → statement M
 read-spec =
     tie.close
     (tie.spec
-    nowhere-requires
+    (λ c κs. search needs)
     returns
-    ends-right-requires
-    nowhere-requires-2
+    (λ c κs. search needs)
+    (λ c κs. search needs)
     returns-2
-    judge-fields-requires
+    (λ c κs. search needs)
     returns-3)

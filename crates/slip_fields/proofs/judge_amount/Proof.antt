@@ -7,25 +7,10 @@ use borrow.Author.Needs.{needs}
 use Rattle.slip_fields.proofs.judge_amount.Statement.{statement}
 use Rattle.slip_fields.proofs.judge_amount.Tie as tie
 
-first-bad-requires : tie.Need-first-bad-requires
-first-bad-requires c κs = search needs
-
-enum-known-i : tie.Need-enum-known-i
-enum-known-i c = search needs
-
-byte-at-requires : tie.Need-byte-at-requires
-byte-at-requires c κs = search needs
-
-enum-told : tie.Need-enum-told
-enum-told c = search needs
-
 returns : tie.Need-returns
 returns c =
     rw (sym (c .before .before .before .first-bad .ensures) ∙ c .before .enum-told .given .1)
     (taken _ _ _ (eq-eqb _ _ (c .if1 .taken)))
-
-nowhere-requires : tie.Need-nowhere-requires
-nowhere-requires c κs = search needs
 
 returns-2 : tie.Need-returns-2
 returns-2 c = rw (sym (c .before .before .before .before .first-bad .ensures) ∙ c .before .before .i .given .1) (c .byte-at .ensures)
@@ -39,11 +24,11 @@ pub judge-amount-spec : {M : Type 1} → statement M
 judge-amount-spec =
     tie.close
     (tie.spec
-    first-bad-requires
-    enum-known-i
-    byte-at-requires
-    enum-told
+    (λ c κs. search needs)
+    (λ c. search needs)
+    (λ c κs. search needs)
+    (λ c. search needs)
     returns
-    nowhere-requires
+    (λ c κs. search needs)
     returns-2
     returns-3)

@@ -6,39 +6,6 @@ use borrow.Author.Needs.{needs}
 use Rattle.slip_fields.proofs.judge_field.Statement.{statement}
 use Rattle.slip_fields.proofs.judge_field.Tie as tie
 
-slice-aggregate-judge-word : tie.Need-slice-aggregate-judge-word
-slice-aggregate-judge-word c = search needs
-
-judge-word-requires : tie.Need-judge-word-requires
-judge-word-requires c κs = search needs
-
-slice-aggregate-judge-word-2 : tie.Need-slice-aggregate-judge-word-2
-slice-aggregate-judge-word-2 c = search needs
-
-judge-word-requires-2 : tie.Need-judge-word-requires-2
-judge-word-requires-2 c κs = search needs
-
-judge-amount-requires : tie.Need-judge-amount-requires
-judge-amount-requires c κs = search needs
-
-iban-requires : tie.Need-iban-requires
-iban-requires c κs = search needs
-
-judge-requires : tie.Need-judge-requires
-judge-requires c κs = search needs
-
-reference-requires : tie.Need-reference-requires
-reference-requires c κs = search needs
-
-judge-purpose-requires : tie.Need-judge-purpose-requires
-judge-purpose-requires c κs = search needs
-
-most-of-requires : tie.Need-most-of-requires
-most-of-requires c κs = search needs
-
-judge-requires-2 : tie.Need-judge-requires-2
-judge-requires-2 c κs = search needs
-
 returns : tie.Need-returns
 unfolding fieldAnswer
 returns c = rw (c .before .before .match .keys1) (c .judge-word .ensures)
@@ -78,17 +45,17 @@ pub judge-field-spec : {M : Type 1} → statement M
 judge-field-spec =
     tie.close
     (tie.spec
-    slice-aggregate-judge-word
-    judge-word-requires
-    slice-aggregate-judge-word-2
-    judge-word-requires-2
-    judge-amount-requires
-    iban-requires
-    judge-requires
-    reference-requires
-    judge-purpose-requires
-    most-of-requires
-    judge-requires-2
+    (λ c. search needs)
+    (λ c κs. search needs)
+    (λ c. search needs)
+    (λ c κs. search needs)
+    (λ c κs. search needs)
+    (λ c κs. search needs)
+    (λ c κs. search needs)
+    (λ c κs. search needs)
+    (λ c κs. search needs)
+    (λ c κs. search needs)
+    (λ c κs. search needs)
     returns
     returns-2
     returns-3

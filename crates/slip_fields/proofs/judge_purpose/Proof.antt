@@ -7,18 +7,6 @@ use borrow.Author.Needs.{needs}
 use Rattle.slip_fields.proofs.judge_purpose.Statement.{statement}
 use Rattle.slip_fields.proofs.judge_purpose.Tie as tie
 
-first-bad-requires : tie.Need-first-bad-requires
-first-bad-requires c κs = search needs
-
-enum-known-k : tie.Need-enum-known-k
-enum-known-k c = search needs
-
-byte-at-requires : tie.Need-byte-at-requires
-byte-at-requires c κs = search needs
-
-enum-told : tie.Need-enum-told
-enum-told c = search needs
-
 returns : tie.Need-returns
 returns c =
     rw (sym (c .before .before .before .first-bad .ensures) ∙ c .before .enum-told .given .1)
@@ -28,9 +16,6 @@ returns-2 : tie.Need-returns-2
 returns-2 c =
     rw (sym (c .before .before .before .before .first-bad .ensures) ∙ c .before .before .enum-told .given .1)
     (taken _ _ _ (sym (or-second _ _ _ (ne-eqb _ _ (c .before .if1 .left)) (sym (eq-eqb _ _ (c .if2 .taken))))))
-
-nowhere-requires : tie.Need-nowhere-requires
-nowhere-requires c κs = search needs
 
 returns-3 : tie.Need-returns-3
 returns-3 c = rw (sym (c .before .before .before .before .first-bad .ensures) ∙ c .before .before .k .given .1) (c .byte-at .ensures)
@@ -44,12 +29,12 @@ pub judge-purpose-spec : {M : Type 1} → statement M
 judge-purpose-spec =
     tie.close
     (tie.spec
-    first-bad-requires
-    enum-known-k
-    byte-at-requires
-    enum-told
+    (λ c κs. search needs)
+    (λ c. search needs)
+    (λ c κs. search needs)
+    (λ c. search needs)
     returns
     returns-2
-    nowhere-requires
+    (λ c κs. search needs)
     returns-3
     returns-4)

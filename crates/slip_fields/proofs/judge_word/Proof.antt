@@ -5,17 +5,11 @@ use borrow.Author.Needs.{needs}
 use Rattle.slip_fields.proofs.judge_word.Statement.{statement}
 use Rattle.slip_fields.proofs.judge_word.Tie as tie
 
-is-same-requires : tie.Need-is-same-requires
-is-same-requires c κs = search needs
-
 returns : tie.Need-returns
 returns c = taken _ _ _ (sym (c .before .is-same .ensures) ∙ c .if1 .taken)
-
-nowhere-requires : tie.Need-nowhere-requires
-nowhere-requires c κs = search needs
 
 returns-2 : tie.Need-returns-2
 returns-2 c = rw (c .nowhere .ensures) (left _ _ _ _ (sym (c .before .before .is-same .ensures) ∙ c .before .if1 .left) refl)
 
 pub judge-word-spec : {M : Type 1} → statement M
-judge-word-spec = tie.close (tie.spec is-same-requires returns nowhere-requires returns-2)
+judge-word-spec = tie.close (tie.spec (λ c κs. search needs) returns (λ c κs. search needs) returns-2)

@@ -4,21 +4,6 @@ use borrow.Author.Needs.{needs}
 use Rattle.slip_writer.proofs.judge_one.Statement.{statement}
 use Rattle.slip_writer.proofs.judge_one.Tie as tie
 
-judge-field-requires : tie.Need-judge-field-requires
-judge-field-requires c κs = search needs
-
-enum-told : tie.Need-enum-told
-enum-told c = search needs
-
-enum-known-r : tie.Need-enum-known-r
-enum-known-r c = search needs
-
-told-requires : tie.Need-told-requires
-told-requires c κs = search needs
-
-put-requires : tie.Need-put-requires
-put-requires c κs = search needs
-
 returns : tie.Need-returns
 returns c = let z = c .before .before .before .before .before in one-accepted (z .args .n) (z .args .before .now) (z .args .s .now) (c .before .before .judge-field .ensures) (c .enum-told .given .1)
 
@@ -31,10 +16,10 @@ pub judge-one-spec : {M : Type 1} → statement M
 judge-one-spec =
     tie.close
     (tie.spec
-    judge-field-requires
-    enum-told
-    enum-known-r
-    told-requires
-    put-requires
+    (λ c κs. search needs)
+    (λ c. search needs)
+    (λ c. search needs)
+    (λ c κs. search needs)
+    (λ c κs. search needs)
     returns
     returns-2)

@@ -8,43 +8,16 @@ use borrow.Author.Needs.{needs}
 use Rattle.slip_writer.proofs.judge_three.Statement.{statement}
 use Rattle.slip_writer.proofs.judge_three.Tie as tie
 
-judge-one-requires : tie.Need-judge-one-requires
-judge-one-requires c κs = search needs
-
-enum-known-r : tie.Need-enum-known-r
-enum-known-r c = search needs
-
 returns : tie.Need-returns
 returns c =
     let z = c .before .before .before .before .before .before .before .before in
     refused-first (z .args .n) (z .args .before .now) (z .args .a .now ∷ []) (z .args .b .now ∷ (z .args .c .now ∷ [])) (c .before .before .before .judge-one .ensures) _ (c .before .r .given .1)
-
-enum-told : tie.Need-enum-told
-enum-told c = search needs
-
-add-judge-one : tie.Need-add-judge-one
-add-judge-one c = search needs
-
-judge-one-requires-2 : tie.Need-judge-one-requires-2
-judge-one-requires-2 c κs = search needs
-
-enum-known-r-2 : tie.Need-enum-known-r-2
-enum-known-r-2 c = search needs
 
 returns-2 : tie.Need-returns-2
 returns-2 c =
     let z = c .before .before .before .before .before .before .before .before .before .before .before in
     accepted-next (z .args .n) (z .args .before .now) (z .args .a .now ∷ []) (z .args .b .now ∷ (z .args .c .now ∷ [])) (c .before .before .before .before .before .before .judge-one .ensures) _ (c .before .before .before .before .enum-told .given .1)
     (refused-first (z .args .n + 1) (z .args .a .now) (z .args .b .now ∷ []) (z .args .c .now ∷ []) (c .before .before .before .judge-one2 .ensures) _ (c .before .r2 .given .1))
-
-enum-told-2 : tie.Need-enum-told-2
-enum-told-2 c = search needs
-
-add-judge-one-2 : tie.Need-add-judge-one-2
-add-judge-one-2 c = search needs
-
-judge-one-requires-3 : tie.Need-judge-one-requires-3
-judge-one-requires-3 c κs = search needs
 
 returns-3 : tie.Need-returns-3
 returns-3 c =
@@ -57,15 +30,15 @@ pub judge-three-spec : {M : Type 1} → statement M
 judge-three-spec =
     tie.close
     (tie.spec
-    judge-one-requires
-    enum-known-r
+    (λ c κs. search needs)
+    (λ c. search needs)
     returns
-    enum-told
-    add-judge-one
-    judge-one-requires-2
-    enum-known-r-2
+    (λ c. search needs)
+    (λ c. search needs)
+    (λ c κs. search needs)
+    (λ c. search needs)
     returns-2
-    enum-told-2
-    add-judge-one-2
-    judge-one-requires-3
+    (λ c. search needs)
+    (λ c. search needs)
+    (λ c κs. search needs)
     returns-3)

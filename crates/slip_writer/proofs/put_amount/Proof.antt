@@ -5,15 +5,6 @@ use Rattle.room.proofs.Digits.{digits-length}
 use Rattle.slip_writer.proofs.put_amount.Statement.{statement}
 use Rattle.slip_writer.proofs.put_amount.Tie as tie
 
-put-digits-requires : tie.Need-put-digits-requires
-put-digits-requires c κs = search needs
-
-add-result : tie.Need-add-result
-add-result c = omega arith
-
-same-length : tie.Need-same-length
-same-length c = search needs
-
 returns : tie.Need-returns
 returns c =
     record {
@@ -22,4 +13,4 @@ returns c =
     }
 
 pub put-amount-spec : {M : Type 1} → statement M
-put-amount-spec = tie.close (tie.spec put-digits-requires add-result same-length returns)
+put-amount-spec = tie.close (tie.spec (λ c κs. search needs) (λ c. omega arith) (λ c. search needs) returns)

@@ -16,12 +16,9 @@ slice-write-out c = let z = c .before .before .before .before .before in room-fe
 add-result : tie.Need-add-result
 add-result c = let z = c .before .before .before .before .before in omega (arith, z .good, c .before .before .put-amount .ensures .counted, digits-length 15 (z .args .cents), line-length (digitsText 15 (z .args .cents)), z .pre)
 
-same-length : tie.Need-same-length
-same-length c = search needs
-
 returns : tie.Need-returns
 returns c = line-stands (c .before .before .put-amount .ensures)
 
 pub put-amount-line-spec : {M : Type 1} → statement M
 put-amount-line-spec =
-    tie.close (tie.spec put-amount-requires slice-write-out add-result same-length returns)
+    tie.close (tie.spec put-amount-requires slice-write-out add-result (λ c. search needs) returns)

@@ -16,13 +16,10 @@ put-three-requires c κs =
     let z = c .before .before .before .before .before .before .before .before .before .before in
     room-next (z .args .a .now ∷ []) (three (z .args .b .now) (z .args .c .now) (z .args .d .now)) (z .pre) (c .before .before .before .put-line .ensures)
 
-same-length : tie.Need-same-length
-same-length c = search needs
-
 returns : tie.Need-returns
 returns c =
     let z = c .before .before .before .before .before .before .before .before .before .before .before .before .before in
     lines-stand (z .args .a .now ∷ []) (three (z .args .b .now) (z .args .c .now) (z .args .d .now)) (c .before .before .before .before .before .before .put-line .ensures) (c .before .before .put-three .ensures)
 
 pub put-four-spec : {M : Type 1} → statement M
-put-four-spec = tie.close (tie.spec put-line-requires put-three-requires same-length returns)
+put-four-spec = tie.close (tie.spec put-line-requires put-three-requires (λ c. search needs) returns)

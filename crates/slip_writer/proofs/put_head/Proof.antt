@@ -7,16 +7,10 @@ use borrow.Author.Needs.{needs}
 use Rattle.slip_writer.proofs.put_head.Statement.{statement}
 use Rattle.slip_writer.proofs.put_head.Tie as tie
 
-slice-aggregate-put-line : tie.Need-slice-aggregate-put-line
-slice-aggregate-put-line c = search needs
-
 put-line-requires : tie.Need-put-line-requires
 put-line-requires c κs =
     let z = c .before .before .before in
     room-first (hrvhub30 ∷ []) (eur ∷ (digitsText 15 (z .args .cents) ∷ [])) 0 _ (z .pre)
-
-slice-aggregate-put-line-2 : tie.Need-slice-aggregate-put-line-2
-slice-aggregate-put-line-2 c = search needs
 
 put-line-requires-2 : tie.Need-put-line-requires-2
 put-line-requires-2 c κs =
@@ -28,9 +22,6 @@ put-amount-line-requires c κs =
     let z = c .before .before .before .before .before .before .before .before .before .before .before .before in
     room-next (eur ∷ []) (digitsText 15 (z .args .cents) ∷ []) (room-next (hrvhub30 ∷ []) (eur ∷ (digitsText 15 (z .args .cents) ∷ [])) (z .pre) (c .before .before .before .before .before .before .before .before .put-line .ensures)) (c .before .before .before .put-line2 .ensures)
 
-same-length : tie.Need-same-length
-same-length c = search needs
-
 returns : tie.Need-returns
 returns c =
     let z = c .before .before .before .before .before .before .before .before .before .before .before .before .before .before .before in
@@ -40,10 +31,10 @@ pub put-head-spec : {M : Type 1} → statement M
 put-head-spec =
     tie.close
     (tie.spec
-    slice-aggregate-put-line
+    (λ c. search needs)
     put-line-requires
-    slice-aggregate-put-line-2
+    (λ c. search needs)
     put-line-requires-2
     put-amount-line-requires
-    same-length
+    (λ c. search needs)
     returns)

@@ -11,14 +11,8 @@ put-requires c κs = omega (arith, line-length (c .before .before .before .args 
 slice-write-out : tie.Need-slice-write-out
 slice-write-out c = room-feed (c .before .before .before .before .before .before .args .s .now) (c .before .before .before .before .before .before .pre) (c .before .before .put .ensures)
 
-add-result : tie.Need-add-result
-add-result c = search needs
-
-same-length : tie.Need-same-length
-same-length c = search needs
-
 returns : tie.Need-returns
 returns c = line-stands (c .before .before .put .ensures)
 
 pub put-line-spec : {M : Type 1} → statement M
-put-line-spec = tie.close (tie.spec put-requires slice-write-out add-result same-length returns)
+put-line-spec = tie.close (tie.spec put-requires slice-write-out (λ c. search needs) (λ c. search needs) returns)

@@ -20,9 +20,6 @@ put-line-requires-3 c κs =
     let z = c .before .before .before .before .before .before .before .before .before .before .before .before .before in
     room-next (z .args .b .now ∷ []) (z .args .c .now ∷ []) (room-next (z .args .a .now ∷ []) (z .args .b .now ∷ (z .args .c .now ∷ [])) (z .pre) (c .before .before .before .before .before .before .before .put-line .ensures)) (c .before .before .before .put-line2 .ensures)
 
-same-length : tie.Need-same-length
-same-length c = search needs
-
 returns : tie.Need-returns
 returns c =
     let z = c .before .before .before .before .before .before .before .before .before .before .before .before .before .before .before .before in
@@ -31,4 +28,4 @@ returns c =
 pub put-three-spec : {M : Type 1} → statement M
 put-three-spec =
     tie.close
-    (tie.spec put-line-requires put-line-requires-2 put-line-requires-3 same-length returns)
+    (tie.spec put-line-requires put-line-requires-2 put-line-requires-3 (λ c. search needs) returns)

@@ -6,9 +6,6 @@ use borrow.Author.Needs.{needs}
 use Rattle.slip_writer.proofs.size_four.Statement.{statement}
 use Rattle.slip_writer.proofs.size_four.Tie as tie
 
-add-result : tie.Need-add-result
-add-result c = search needs
-
 size-three-requires : tie.Need-size-three-requires
 size-three-requires c κs = let z = c .before .before .before .before in omega (arith, z .pre, lines-length (z .args .a .now) (three (z .args .b .now) (z .args .c .now) (z .args .d .now)))
 
@@ -19,4 +16,4 @@ returns : tie.Need-returns
 returns c = let z = c .before .before .before .before .before in omega (arith, z .pre, lines-length (z .args .a .now) (three (z .args .b .now) (z .args .c .now) (z .args .d .now)), c .size-three .ensures)
 
 pub size-four-spec : {M : Type 1} → statement M
-size-four-spec = tie.close (tie.spec add-result size-three-requires add-result-2 returns)
+size-four-spec = tie.close (tie.spec (λ c. search needs) size-three-requires add-result-2 returns)

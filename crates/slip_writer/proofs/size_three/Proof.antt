@@ -5,9 +5,6 @@ use borrow.Author.Needs.{needs}
 use Rattle.slip_writer.proofs.size_three.Statement.{statement}
 use Rattle.slip_writer.proofs.size_three.Tie as tie
 
-add-result : tie.Need-add-result
-add-result c = search needs
-
 add-result-2 : tie.Need-add-result-2
 add-result-2 c = omega (arith, three-length (c .args .a .now) (c .args .b .now) (c .args .c .now))
 
@@ -18,4 +15,4 @@ returns : tie.Need-returns
 returns c = omega (arith, three-length (c .args .a .now) (c .args .b .now) (c .args .c .now))
 
 pub size-three-spec : {M : Type 1} → statement M
-size-three-spec = tie.close (tie.spec add-result add-result-2 add-result-3 returns)
+size-three-spec = tie.close (tie.spec (λ c. search needs) add-result-2 add-result-3 returns)

@@ -9,27 +9,15 @@ use Rattle.slip_writer.proofs.write.Tie as tie
 returns : tie.Need-returns
 returns c = let z = c .before .before .before .before .before .before .before .before .before .before .before .before .before in amount-refused (z .args .cents) (eleven (z .args .f4 .now) (z .args .f5 .now) (z .args .f6 .now) (z .args .f7 .now) (z .args .f8 .now) (z .args .f9 .now) (z .args .f10 .now) (z .args .f11 .now) (z .args .f12 .now) (z .args .f13 .now) (z .args .f14 .now)) (z .args .out .now) (c .if1 .taken)
 
-judge-given-requires : tie.Need-judge-given-requires
-judge-given-requires c κs = search needs
-
-enum-known-r : tie.Need-enum-known-r
-enum-known-r c = search needs
-
 returns-2 : tie.Need-returns-2
 returns-2 c =
     let z = c .before .before .before .before .before .before .before .before .before .before .before .before .before .before .before .before .before in
     field-refused (z .args .cents) (eleven (z .args .f4 .now) (z .args .f5 .now) (z .args .f6 .now) (z .args .f7 .now) (z .args .f8 .now) (z .args .f9 .now) (z .args .f10 .now) (z .args .f11 .now) (z .args .f12 .now) (z .args .f13 .now) (z .args .f14 .now)) (z .args .out .now) (c .before .before .before .before .if1 .left) (c .before .before .before .judge-given .ensures) _ (c .before .r .given .1)
 
-enum-told : tie.Need-enum-told
-enum-told c = search needs
-
 write-accepted-requires : tie.Need-write-accepted-requires
 write-accepted-requires c κs =
     let z = c .before .before .before .before .before .before .before .before .before .before .before .before .before .before .before .before .before in
     accepted-small (z .args .cents) (z .args .f4 .now) (z .args .f5 .now) (z .args .f6 .now) (z .args .f7 .now) (z .args .f8 .now) (z .args .f9 .now) (z .args .f10 .now) (z .args .f11 .now) (z .args .f12 .now) (z .args .f13 .now) (z .args .f14 .now) (c .before .before .before .judge-given .ensures) (c .before .enum-told .given .1)
-
-same-length : tie.Need-same-length
-same-length c = search needs
 
 returns-3 : tie.Need-returns-3
 returns-3 c =
@@ -41,10 +29,10 @@ write-spec =
     tie.close
     (tie.spec
     returns
-    judge-given-requires
-    enum-known-r
+    (λ c κs. search needs)
+    (λ c. search needs)
     returns-2
-    enum-told
+    (λ c. search needs)
     write-accepted-requires
-    same-length
+    (λ c. search needs)
     returns-3)

@@ -62,9 +62,6 @@ size-four-requires-2 c κs = let z = c .before .before .before .before .before .
 add-size : tie.Need-add-size
 add-size c = omega (arith, c .before .before .before .before .before .before .before .before .before .before .before .before .before .before .before .pre, size-is c)
 
-nowhere-requires : tie.Need-nowhere-requires
-nowhere-requires c κs = search needs
-
 returns : tie.Need-returns
 returns c = let y = c .before .before in (room-refused (slip (c .before .before .before .before .before .before .before .before .before .before .before .before .before .before .before .before .before)) _ _ _ (size-is y) (c .before .if1 .taken) (c .nowhere .ensures), refl)
 
@@ -84,9 +81,6 @@ put-four-requires-2 c κs =
     let z = c .before .before .before .before .before .before .before .before .before .before .before .before .before .before .before .before .before .before .before .before .before .before .before .before .before .before .before .before .before in
     room-next (middle z) (back z) (room-next (front z) (middle z ++ back z) (room-next (headOf (z .args .cents)) (fields z) (may-write (c .before .before .before .before .before .before .before .before .before .before .before .before .before .before) _ (c .before .before .before .before .before .before .before .before .before .before .before .before .before .if1 .left)) (c .before .before .before .before .before .before .before .before .before .before .before .put-head .ensures)) (c .before .before .before .before .before .before .before .put-four .ensures)) (c .before .before .before .put-three .ensures)
 
-same-length : tie.Need-same-length
-same-length c = search needs
-
 returns-2 : tie.Need-returns-2
 returns-2 c =
     let z = c .before .before .before .before .before .before .before .before .before .before .before .before .before .before .before .before .before .before .before .before .before .before .before .before .before .before .before .before .before .before .before .before in
@@ -104,11 +98,11 @@ write-accepted-spec =
     add-middle
     size-four-requires-2
     add-size
-    nowhere-requires
+    (λ c κs. search needs)
     returns
     put-head-requires
     put-four-requires
     put-three-requires
     put-four-requires-2
-    same-length
+    (λ c. search needs)
     returns-2)

@@ -8,28 +8,10 @@ use borrow.Author.Needs.{needs}
 use Rattle.sums.proofs.add.Statement.{statement}
 use Rattle.sums.proofs.add.Tie as tie
 
-too-much-requires : tie.Need-too-much-requires
-too-much-requires c κs = search needs
-
 returns : tie.Need-returns
 returns c =
     let a = c .before .before .args in
     c .too-much .ensures ∙ sums-large (centsOf (a .s) + a .cents) (omega arith)
-
-add-lows : tie.Need-add-lows
-add-lows c = search needs
-
-add-carried : tie.Need-add-carried
-add-carried c = search needs
-
-add-carried-2 : tie.Need-add-carried-2
-add-carried-2 c = search needs
-
-add-highs : tie.Need-add-highs
-add-highs c = search needs
-
-too-much-requires-2 : tie.Need-too-much-requires-2
-too-much-requires-2 c κs = search needs
 
 returns-2 : tie.Need-returns-2
 returns-2 c =
@@ -49,12 +31,12 @@ pub add-spec : {M : Type 1} → statement M
 add-spec =
     tie.close
     (tie.spec
-    too-much-requires
+    (λ c κs. search needs)
     returns
-    add-lows
-    add-carried
-    add-carried-2
-    add-highs
-    too-much-requires-2
+    (λ c. search needs)
+    (λ c. search needs)
+    (λ c. search needs)
+    (λ c. search needs)
+    (λ c κs. search needs)
     returns-2
     returns-3)

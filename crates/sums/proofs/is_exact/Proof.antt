@@ -11,11 +11,8 @@ use Rattle.sums.proofs.is_exact.Tie as tie
 returns : tie.Need-returns
 returns c = sym (le-ltb (centsOf (c .before .args .s)) tooMuch (omega arith))
 
-add-result : tie.Need-add-result
-add-result c = search needs
-
 returns-2 : tie.Need-returns-2
 returns-2 c = fits-carried (c .before .args .s)
 
 pub is-exact-spec : {M : Type 1} → statement M
-is-exact-spec = tie.close (tie.spec returns add-result returns-2)
+is-exact-spec = tie.close (tie.spec returns (λ c. search needs) returns-2)

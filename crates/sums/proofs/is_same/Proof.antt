@@ -11,14 +11,8 @@ use borrow.Author.Needs.{needs}
 use Rattle.sums.proofs.is_same.Statement.{statement}
 use Rattle.sums.proofs.is_same.Tie as tie
 
-is-exact-requires : tie.Need-is-exact-requires
-is-exact-requires c κs = search needs
-
 returns : tie.Need-returns
 returns c = and-first _ _ (sym (c .before .is-exact .ensures) ∙ not-true _ (c .if1 .taken))
-
-is-exact-requires-2 : tie.Need-is-exact-requires-2
-is-exact-requires-2 c κs = search needs
 
 returns-2 : tie.Need-returns-2
 returns-2 c =
@@ -59,9 +53,9 @@ pub is-same-spec : {M : Type 1} → statement M
 is-same-spec =
     tie.close
     (tie.spec
-    is-exact-requires
+    (λ c κs. search needs)
     returns
-    is-exact-requires-2
+    (λ c κs. search needs)
     returns-2
     add-if3
     add-if3-2

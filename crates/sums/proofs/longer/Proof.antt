@@ -11,17 +11,8 @@ returns c = value-skips (c .before .args .v) (c .before .args .b) (no-digit-belo
 returns-2 : tie.Need-returns-2
 returns-2 c = value-skips (c .before .before .args .v) (c .before .before .args .b) (no-digit-above (c .before .before .args .b) (c .before .if1 .left) (c .if2 .taken))
 
-mul-result : tie.Need-mul-result
-mul-result c = search needs
-
-cast-result : tie.Need-cast-result
-cast-result c = search needs
-
-add-result : tie.Need-add-result
-add-result c = search needs
-
 returns-3 : tie.Need-returns-3
 returns-3 c = value-takes (c .before .before .args .v) (c .before .before .args .b) (digit-between (c .before .before .args .b) (c .before .if1 .left) (c .if2 .left))
 
 pub longer-spec : {M : Type 1} → statement M
-longer-spec = tie.close (tie.spec returns returns-2 mul-result cast-result add-result returns-3)
+longer-spec = tie.close (tie.spec returns returns-2 (λ c. search needs) (λ c. search needs) (λ c. search needs) returns-3)

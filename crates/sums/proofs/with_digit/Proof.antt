@@ -13,27 +13,15 @@ use borrow.Author.Needs.{needs}
 use Rattle.sums.proofs.with_digit.Statement.{statement}
 use Rattle.sums.proofs.with_digit.Tie as tie
 
-add-requires : tie.Need-add-requires
-add-requires c κs = search needs
-
 returns : tie.Need-returns
 returns c =
     let a = c .before .before .args in
     c .add .ensures ∙ ap sumOf (add-zero (centsOf (a .s)) ∙ value-skips (centsOf (a .s)) (a .b) (no-digit-below (a .b) (c .before .if1 .taken)))
 
-add-requires-2 : tie.Need-add-requires-2
-add-requires-2 c κs = search needs
-
 returns-2 : tie.Need-returns-2
 returns-2 c =
     let a = c .before .before .before .args in
     c .add2 .ensures ∙ ap sumOf (add-zero (centsOf (a .s)) ∙ value-skips (centsOf (a .s)) (a .b) (no-digit-above (a .b) (c .before .before .if1 .left) (c .before .if2 .taken)))
-
-is-exact-requires : tie.Need-is-exact-requires
-is-exact-requires c κs = search needs
-
-too-much-requires : tie.Need-too-much-requires
-too-much-requires c κs = search needs
 
 returns-3 : tie.Need-returns-3
 returns-3 c =
@@ -43,15 +31,6 @@ returns-3 c =
     ∙ sums-large (valueFrom (centsOf (a .s)) ds)
     (omega (arith, value-keeps (centsOf (a .s)) ds, ltb-false (centsOf (a .s)) tooMuch (sym (c .before .before .is-exact .ensures) ∙ not-true _ (c .before .if3 .taken))))
 
-mul-units : tie.Need-mul-units
-mul-units c = search needs
-
-cast-units : tie.Need-cast-units
-cast-units c = search needs
-
-add-units : tie.Need-add-units
-add-units c = search needs
-
 add-highs : tie.Need-add-highs
 add-highs c = omega (arith, fits-small (c .before .before .before .before .args .s) (sym (c .before .is-exact .ensures) ∙ not-false _ (c .if3 .left)))
 
@@ -60,9 +39,6 @@ mul-highs c = omega (arith, fits-small (c .before .before .before .before .args 
 
 add-highs-2 : tie.Need-add-highs-2
 add-highs-2 c = omega (arith, fits-small (c .before .before .before .before .args .s) (sym (c .before .is-exact .ensures) ∙ not-false _ (c .if3 .left)))
-
-too-much-requires-2 : tie.Need-too-much-requires-2
-too-much-requires-2 c κs = search needs
 
 returns-4 : tie.Need-returns-4
 returns-4 c =
@@ -78,19 +54,19 @@ pub with-digit-spec : {M : Type 1} → statement M
 with-digit-spec =
     tie.close
     (tie.spec
-    add-requires
+    (λ c κs. search needs)
     returns
-    add-requires-2
+    (λ c κs. search needs)
     returns-2
-    is-exact-requires
-    too-much-requires
+    (λ c κs. search needs)
+    (λ c κs. search needs)
     returns-3
-    mul-units
-    cast-units
-    add-units
+    (λ c. search needs)
+    (λ c. search needs)
+    (λ c. search needs)
     add-highs
     mul-highs
     add-highs-2
-    too-much-requires-2
+    (λ c κs. search needs)
     returns-4
     returns-5)

@@ -5,11 +5,8 @@ use borrow.Author.Needs.{needs}
 use Rattle.text.proofs.all_blank.Statement.{statement}
 use Rattle.text.proofs.all_blank.Tie as tie
 
-all-within-requires : tie.Need-all-within-requires
-all-within-requires c κs = search needs
-
 returns : tie.Need-returns
 returns c = c .all-within .ensures Blanks (alone-between 32)
 
 pub all-blank-spec : {M : Type 1} → statement M
-all-blank-spec = tie.close (tie.spec all-within-requires returns)
+all-blank-spec = tie.close (tie.spec (λ c κs. search needs) returns)

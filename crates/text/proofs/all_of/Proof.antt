@@ -7,50 +7,17 @@ use borrow.Author.Needs.{needs}
 use Rattle.text.proofs.all_of.Statement.{statement}
 use Rattle.text.proofs.all_of.Tie as tie
 
-enum-told : tie.Need-enum-told
-enum-told c = search needs
-
-all-within-requires : tie.Need-all-within-requires
-all-within-requires c κs = search needs
-
 returns : tie.Need-returns
 returns c = rw (c .before .enum-told .given .1) (c .all-within .ensures Digits (λ b. refl))
-
-enum-told-2 : tie.Need-enum-told-2
-enum-told-2 c = search needs
-
-all-within-requires-2 : tie.Need-all-within-requires-2
-all-within-requires-2 c κs = search needs
 
 returns-2 : tie.Need-returns-2
 returns-2 c = rw (c .before .enum-told2 .given .1) (c .all-within2 .ensures Letters (λ b. refl))
 
-enum-told-3 : tie.Need-enum-told-3
-enum-told-3 c = search needs
-
-all-blank-requires : tie.Need-all-blank-requires
-all-blank-requires c κs = search needs
-
 returns-3 : tie.Need-returns-3
 returns-3 c = rw (c .before .enum-told3 .given .1) (c .all-blank .ensures)
 
-enum-told-4 : tie.Need-enum-told-4
-enum-told-4 c = search needs
-
-all-within-requires-3 : tie.Need-all-within-requires-3
-all-within-requires-3 c κs = search needs
-
 returns-4 : tie.Need-returns-4
 returns-4 c = rw (c .before .enum-told4 .given .1) (c .all-within3 .ensures Zeros (alone-between 48))
-
-first-bad-requires : tie.Need-first-bad-requires
-first-bad-requires c κs = search needs
-
-enum-told-5 : tie.Need-enum-told-5
-enum-told-5 c = search needs
-
-enum-told-6 : tie.Need-enum-told-6
-enum-told-6 c = search needs
 
 returns-5 : tie.Need-returns-5
 unfolding isNothing
@@ -64,20 +31,20 @@ pub all-of-spec : {M : Type 1} → statement M
 all-of-spec =
     tie.close
     (tie.spec
-    enum-told
-    all-within-requires
+    (λ c. search needs)
+    (λ c κs. search needs)
     returns
-    enum-told-2
-    all-within-requires-2
+    (λ c. search needs)
+    (λ c κs. search needs)
     returns-2
-    enum-told-3
-    all-blank-requires
+    (λ c. search needs)
+    (λ c κs. search needs)
     returns-3
-    enum-told-4
-    all-within-requires-3
+    (λ c. search needs)
+    (λ c κs. search needs)
     returns-4
-    first-bad-requires
-    enum-told-5
-    enum-told-6
+    (λ c κs. search needs)
+    (λ c. search needs)
+    (λ c. search needs)
     returns-5
     returns-6)

@@ -5,17 +5,11 @@ use borrow.Author.Needs.{needs}
 use Rattle.text.proofs.is_account_byte.Statement.{statement}
 use Rattle.text.proofs.is_account_byte.Tie as tie
 
-is-digit-requires : tie.Need-is-digit-requires
-is-digit-requires c κs = search needs
-
 returns : tie.Need-returns
 returns c = or-first _ _ (sym (c .before .is-digit .ensures) ∙ c .if1 .taken)
-
-is-letter-requires : tie.Need-is-letter-requires
-is-letter-requires c κs = search needs
 
 returns-2 : tie.Need-returns-2
 returns-2 c = or-second _ _ _ (sym (c .before .before .is-digit .ensures) ∙ c .before .if1 .left) (c .is-letter .ensures)
 
 pub is-account-byte-spec : {M : Type 1} → statement M
-is-account-byte-spec = tie.close (tie.spec is-digit-requires returns is-letter-requires returns-2)
+is-account-byte-spec = tie.close (tie.spec (λ c κs. search needs) returns (λ c κs. search needs) returns-2)

@@ -5,9 +5,6 @@ use borrow.Author.Needs.{needs}
 use Rattle.text.proofs.is_place_byte.Statement.{statement}
 use Rattle.text.proofs.is_place_byte.Tie as tie
 
-is-account-byte-requires : tie.Need-is-account-byte-requires
-is-account-byte-requires c κs = search needs
-
 returns : tie.Need-returns
 returns c = or-first _ _ (sym (c .before .is-account-byte .ensures) ∙ c .if1 .taken)
 
@@ -15,4 +12,4 @@ returns-2 : tie.Need-returns-2
 returns-2 c = or-second _ _ _ (sym (c .before .is-account-byte .ensures) ∙ c .if1 .left) refl
 
 pub is-place-byte-spec : {M : Type 1} → statement M
-is-place-byte-spec = tie.close (tie.spec is-account-byte-requires returns returns-2)
+is-place-byte-spec = tie.close (tie.spec (λ c κs. search needs) returns returns-2)

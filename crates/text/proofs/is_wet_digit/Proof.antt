@@ -5,9 +5,6 @@ use borrow.Author.Needs.{needs}
 use Rattle.text.proofs.is_wet_digit.Statement.{statement}
 use Rattle.text.proofs.is_wet_digit.Tie as tie
 
-is-digit-requires : tie.Need-is-digit-requires
-is-digit-requires c κs = search needs
-
 returns : tie.Need-returns
 returns c = or-first _ _ (sym (c .before .is-digit .ensures) ∙ c .if1 .taken)
 
@@ -15,4 +12,4 @@ returns-2 : tie.Need-returns-2
 returns-2 c = or-second _ _ _ (sym (c .before .is-digit .ensures) ∙ c .if1 .left) refl
 
 pub is-wet-digit-spec : {M : Type 1} → statement M
-is-wet-digit-spec = tie.close (tie.spec is-digit-requires returns returns-2)
+is-wet-digit-spec = tie.close (tie.spec (λ c κs. search needs) returns returns-2)

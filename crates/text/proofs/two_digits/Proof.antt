@@ -6,14 +6,8 @@ use borrow.Author.Needs.{needs}
 use Rattle.text.proofs.two_digits.Statement.{statement}
 use Rattle.text.proofs.two_digits.Tie as tie
 
-is-digit-requires : tie.Need-is-digit-requires
-is-digit-requires c κs = search needs
-
 returns : tie.Need-returns
 returns c = left _ _ _ _ (sym (and-first _ _ (sym (c .before .is-digit .ensures) ∙ not-true _ (c .if1 .taken)))) refl
-
-is-digit-requires-2 : tie.Need-is-digit-requires-2
-is-digit-requires-2 c κs = search needs
 
 returns-2 : tie.Need-returns-2
 returns-2 c =
@@ -25,20 +19,8 @@ returns-2 c =
 sub-t5 : tie.Need-sub-t5
 sub-t5 c = digit-bounds (c .before .before .before .before .args .a) (sym (c .before .before .before .is-digit .ensures) ∙ not-false _ (c .before .before .if1 .left)) .0
 
-cast-t6 : tie.Need-cast-t6
-cast-t6 c = search needs
-
-mul-t7 : tie.Need-mul-t7
-mul-t7 c = search needs
-
 sub-t8 : tie.Need-sub-t8
 sub-t8 c = digit-bounds (c .before .before .before .before .args .b) (sym (c .before .is-digit2 .ensures) ∙ not-false _ (c .if2 .left)) .0
-
-cast-t9 : tie.Need-cast-t9
-cast-t9 c = search needs
-
-add-t10 : tie.Need-add-t10
-add-t10 c = search needs
 
 returns-3 : tie.Need-returns-3
 returns-3 c =
@@ -50,14 +32,14 @@ pub two-digits-spec : {M : Type 1} → statement M
 two-digits-spec =
     tie.close
     (tie.spec
-    is-digit-requires
+    (λ c κs. search needs)
     returns
-    is-digit-requires-2
+    (λ c κs. search needs)
     returns-2
     sub-t5
-    cast-t6
-    mul-t7
+    (λ c. search needs)
+    (λ c. search needs)
     sub-t8
-    cast-t9
-    add-t10
+    (λ c. search needs)
+    (λ c. search needs)
     returns-3)

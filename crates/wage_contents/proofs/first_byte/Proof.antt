@@ -7,11 +7,5 @@ use Rattle.wage_contents.proofs.first_byte.Tie as tie
 returns : tie.Need-returns
 returns c = first-of-none (c .before .args .f .now) (c .if1 .taken)
 
-shared-slice-read-result : tie.Need-shared-slice-read-result
-shared-slice-read-result c = search needs
-
-returns-2 : tie.Need-returns-2
-returns-2 c = search needs
-
 pub first-byte-spec : {M : Type 1} → statement M
-first-byte-spec = tie.close (tie.spec returns shared-slice-read-result returns-2)
+first-byte-spec = tie.close (tie.spec returns (λ c. search needs) (λ c. search needs))

@@ -12,23 +12,8 @@ use Rattle.wage_contents.proofs.is_blank.Tie as tie
 returns : tie.Need-returns
 returns c = blank-none _ (c .if1 .taken)
 
-shared-slice-read-if2 : tie.Need-shared-slice-read-if2
-shared-slice-read-if2 c = omega arith
-
 returns-2 : tie.Need-returns-2
 returns-2 c = begins-otherwise _ (omega arith) (c .if2 .taken)
-
-sub-all-blank : tie.Need-sub-all-blank
-sub-all-blank c = omega arith
-
-part-all-blank-start : tie.Need-part-all-blank-start
-part-all-blank-start c = search needs
-
-part-all-blank-end : tie.Need-part-all-blank-end
-part-all-blank-end c = search needs
-
-all-blank-requires : tie.Need-all-blank-requires
-all-blank-requires c κs = search needs
 
 returns-3 : tie.Need-returns-3
 returns-3 c =
@@ -37,4 +22,4 @@ returns-3 c =
 
 pub is-blank-spec : {M : Type 1} → statement M
 is-blank-spec =
-    tie.close (tie.spec returns shared-slice-read-if2 returns-2 sub-all-blank part-all-blank-start part-all-blank-end all-blank-requires returns-3)
+    tie.close (tie.spec returns (λ c. omega arith) returns-2 (λ c. omega arith) (λ c. search needs) (λ c. search needs) (λ c κs. search needs) returns-3)

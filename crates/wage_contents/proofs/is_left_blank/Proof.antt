@@ -4,14 +4,8 @@ use borrow.Author.Needs.{needs}
 use Rattle.wage_contents.proofs.is_left_blank.Statement.{statement}
 use Rattle.wage_contents.proofs.is_left_blank.Tie as tie
 
-is-blank-requires : tie.Need-is-blank-requires
-is-blank-requires c κs = search needs
-
 returns : tie.Need-returns
 returns c = and-second _ _ _ (c .before .if1 .taken) (c .is-blank .ensures)
 
-returns-2 : tie.Need-returns-2
-returns-2 c = search needs
-
 pub is-left-blank-spec : {M : Type 1} → statement M
-is-left-blank-spec = tie.close (tie.spec is-blank-requires returns returns-2)
+is-left-blank-spec = tie.close (tie.spec (λ c κs. search needs) returns (λ c. search needs))

@@ -6,18 +6,6 @@ use borrow.Author.Needs.{needs}
 use Rattle.wage_contents.proofs.judge_among.Statement.{statement}
 use Rattle.wage_contents.proofs.judge_among.Tie as tie
 
-read-requires : tie.Need-read-requires
-read-requires c κs = search needs
-
-enum-known-i : tie.Need-enum-known-i
-enum-known-i c = search needs
-
-byte-at-requires : tie.Need-byte-at-requires
-byte-at-requires c κs = search needs
-
-enum-known-v : tie.Need-enum-known-v
-enum-known-v c = search needs
-
 returns : tie.Need-returns
 unfolding amongAnswer
 returns c = let w = read-right _ _ (sym (c .before .before .before .before .read .ensures) ∙ c .before .before .v .given .1) in
@@ -33,9 +21,6 @@ unfolding amongAnswer
 returns-3 c = let w = read-right _ _ (sym (c .before .before .before .before .before .before .read .ensures) ∙ c .before .before .before .before .v .given .1) in
     w .1 _ _ (third-of _ _ _ _ _ (w .0) _ (c .before .before .if1 .left) (c .before .if2 .left) (c .if3 .taken))
 
-form-requires : tie.Need-form-requires
-form-requires c κs = search needs
-
 returns-4 : tie.Need-returns-4
 unfolding amongAnswer
 returns-4 c = read-wrong _ _ _ _ (sym (c .before .before .before .before .read .ensures) ∙ c .before .before .i .given .1) (c .byte-at .ensures)
@@ -49,13 +34,13 @@ pub judge-among-spec : {M : Type 1} → statement M
 judge-among-spec =
     tie.close
     (tie.spec
-    read-requires
-    enum-known-i
-    byte-at-requires
-    enum-known-v
+    (λ c κs. search needs)
+    (λ c. search needs)
+    (λ c κs. search needs)
+    (λ c. search needs)
     returns
     returns-2
     returns-3
-    form-requires
+    (λ c κs. search needs)
     returns-4
     returns-5)

@@ -5,18 +5,6 @@ use borrow.Author.Needs.{needs}
 use Rattle.wage_contents.proofs.judge_bytes.Statement.{statement}
 use Rattle.wage_contents.proofs.judge_bytes.Tie as tie
 
-first-bad-requires : tie.Need-first-bad-requires
-first-bad-requires c κs = search needs
-
-enum-known-i : tie.Need-enum-known-i
-enum-known-i c = search needs
-
-enum-told : tie.Need-enum-told
-enum-told c = search needs
-
-byte-at-requires : tie.Need-byte-at-requires
-byte-at-requires c κs = search needs
-
 returns : tie.Need-returns
 unfolding bytesAnswer
 returns c = rw (sym (c .before .before .before .before .first-bad .ensures) ∙ c .before .before .i .given .1) (c .byte-at .ensures)
@@ -26,4 +14,4 @@ unfolding bytesAnswer
 returns-2 c = rw (sym (c .before .before .first-bad .ensures) ∙ c .enum-told .given .1)
 
 pub judge-bytes-spec : {M : Type 1} → statement M
-judge-bytes-spec = tie.close (tie.spec first-bad-requires enum-known-i byte-at-requires enum-told returns returns-2)
+judge-bytes-spec = tie.close (tie.spec (λ c κs. search needs) (λ c. search needs) (λ c κs. search needs) (λ c. search needs) returns returns-2)

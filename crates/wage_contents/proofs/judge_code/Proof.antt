@@ -9,36 +9,12 @@ use borrow.Author.Needs.{needs}
 use Rattle.wage_contents.proofs.judge_code.Statement.{statement}
 use Rattle.wage_contents.proofs.judge_code.Tie as tie
 
-read-requires : tie.Need-read-requires
-read-requires c κs = search needs
-
-enum-known-i : tie.Need-enum-known-i
-enum-known-i c = search needs
-
-byte-at-requires : tie.Need-byte-at-requires
-byte-at-requires c κs = search needs
-
-enum-known-v : tie.Need-enum-known-v
-enum-known-v c = search needs
-
-is-code-requires : tie.Need-is-code-requires
-is-code-requires c κs = search needs
-
-form-requires : tie.Need-form-requires
-form-requires c κs = search needs
-
 returns : tie.Need-returns
 unfolding codeAnswer
 returns c = let w = read-right _ _ (sym (c .before .before .before .before .before .before .read .ensures) ∙ c .before .before .before .before .v .given .1) in
     rw (sym (w .0))
     (w .1 _ _
     (left _ _ _ _ (sym (c .before .before .is-code .ensures) ∙ not-true _ (c .before .if1 .taken)) (c .form .ensures)))
-
-is-unmodelled-loan-requires : tie.Need-is-unmodelled-loan-requires
-is-unmodelled-loan-requires c κs = search needs
-
-form-requires-2 : tie.Need-form-requires-2
-form-requires-2 c κs = search needs
 
 returns-2 : tie.Need-returns-2
 unfolding codeAnswer
@@ -64,15 +40,15 @@ pub judge-code-spec : {M : Type 1} → statement M
 judge-code-spec =
     tie.close
     (tie.spec
-    read-requires
-    enum-known-i
-    byte-at-requires
-    enum-known-v
-    is-code-requires
-    form-requires
+    (λ c κs. search needs)
+    (λ c. search needs)
+    (λ c κs. search needs)
+    (λ c. search needs)
+    (λ c κs. search needs)
+    (λ c κs. search needs)
     returns
-    is-unmodelled-loan-requires
-    form-requires-2
+    (λ c κs. search needs)
+    (λ c κs. search needs)
     returns-2
     returns-3
     returns-4)

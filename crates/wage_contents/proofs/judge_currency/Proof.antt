@@ -6,25 +6,13 @@ use borrow.Author.Needs.{needs}
 use Rattle.wage_contents.proofs.judge_currency.Statement.{statement}
 use Rattle.wage_contents.proofs.judge_currency.Tie as tie
 
-is-left-blank-requires : tie.Need-is-left-blank-requires
-is-left-blank-requires c κs = search needs
-
 returns : tie.Need-returns
 unfolding currencyAnswer
 returns c = taken _ _ _ (sym (or-first _ _ (sym (c .before .is-left-blank .ensures) ∙ c .if1 .taken)))
 
-slice-aggregate-is-same : tie.Need-slice-aggregate-is-same
-slice-aggregate-is-same c = search needs
-
-is-same-requires : tie.Need-is-same-requires
-is-same-requires c κs = search needs
-
 returns-2 : tie.Need-returns-2
 unfolding currencyAnswer
 returns-2 c = taken _ _ _ (sym (or-second _ _ _ (sym (c .before .before .before .before .is-left-blank .ensures) ∙ c .before .before .before .if1 .left) (sym (sym (c .before .is-same .ensures) ∙ c .if2 .taken))))
-
-form-requires : tie.Need-form-requires
-form-requires c κs = search needs
 
 returns-3 : tie.Need-returns-3
 unfolding currencyAnswer
@@ -34,10 +22,10 @@ pub judge-currency-spec : {M : Type 1} → statement M
 judge-currency-spec =
     tie.close
     (tie.spec
-    is-left-blank-requires
+    (λ c κs. search needs)
     returns
-    slice-aggregate-is-same
-    is-same-requires
+    (λ c. search needs)
+    (λ c κs. search needs)
     returns-2
-    form-requires
+    (λ c κs. search needs)
     returns-3)

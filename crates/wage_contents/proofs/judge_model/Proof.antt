@@ -6,19 +6,13 @@ use borrow.Author.Needs.{needs}
 use Rattle.wage_contents.proofs.judge_model.Statement.{statement}
 use Rattle.wage_contents.proofs.judge_model.Tie as tie
 
-all-of-requires : tie.Need-all-of-requires
-all-of-requires c κs = search needs
-
 returns : tie.Need-returns
 unfolding modelPlaceAnswer
 returns c = taken _ _ _ (sym (c .before .all-of .ensures) ∙ c .if1 .taken)
-
-judge-requires : tie.Need-judge-requires
-judge-requires c κs = search needs
 
 returns-2 : tie.Need-returns-2
 unfolding modelPlaceAnswer
 returns-2 c = left _ _ _ _ (sym (c .before .before .all-of .ensures) ∙ c .before .if1 .left) (c .judge .ensures)
 
 pub judge-model-spec : {M : Type 1} → statement M
-judge-model-spec = tie.close (tie.spec all-of-requires returns judge-requires returns-2)
+judge-model-spec = tie.close (tie.spec (λ c κs. search needs) returns (λ c κs. search needs) returns-2)

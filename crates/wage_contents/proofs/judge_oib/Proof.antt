@@ -7,34 +7,10 @@ use borrow.Author.Needs.{needs}
 use Rattle.wage_contents.proofs.judge_oib.Statement.{statement}
 use Rattle.wage_contents.proofs.judge_oib.Tie as tie
 
-read-oib-requires : tie.Need-read-oib-requires
-read-oib-requires c κs = search needs
-
-enum-known-i : tie.Need-enum-known-i
-enum-known-i c = search needs
-
-byte-at-requires : tie.Need-byte-at-requires
-byte-at-requires c κs = search needs
-
-enum-told : tie.Need-enum-told
-enum-told c = search needs
-
 returns : tie.Need-returns
 returns c =
     let a = c .before .before .before .before .before .args in
     taken _ _ _ (c .if1 .taken) ∙ told-oib (a .absent) (a .f .now) _ (sym (c .before .enum-told .given .1) ∙ c .before .before .before .read-oib .ensures)
-
-form-requires : tie.Need-form-requires
-form-requires c κs = search needs
-
-enum-told-2 : tie.Need-enum-told-2
-enum-told-2 c = search needs
-
-nowhere-requires : tie.Need-nowhere-requires
-nowhere-requires c κs = search needs
-
-enum-told-3 : tie.Need-enum-told-3
-enum-told-3 c = search needs
 
 returns-2 : tie.Need-returns-2
 returns-2 c =
@@ -62,15 +38,15 @@ pub judge-oib-spec : {M : Type 1} → statement M
 judge-oib-spec =
     tie.close
     (tie.spec
-    read-oib-requires
-    enum-known-i
-    byte-at-requires
-    enum-told
+    (λ c κs. search needs)
+    (λ c. search needs)
+    (λ c κs. search needs)
+    (λ c. search needs)
     returns
-    form-requires
-    enum-told-2
-    nowhere-requires
-    enum-told-3
+    (λ c κs. search needs)
+    (λ c. search needs)
+    (λ c κs. search needs)
+    (λ c. search needs)
     returns-2
     returns-3
     returns-4

@@ -6,22 +6,13 @@ use borrow.Author.Needs.{needs}
 use Rattle.wage_contents.proofs.judge_purpose.Statement.{statement}
 use Rattle.wage_contents.proofs.judge_purpose.Tie as tie
 
-all-of-requires : tie.Need-all-of-requires
-all-of-requires c κs = search needs
-
 returns : tie.Need-returns
 unfolding purposePlaceAnswer
 returns c = taken _ _ _ (sym (or-first _ _ (sym (c .before .all-of .ensures) ∙ c .if1 .taken)))
 
-all-of-requires-2 : tie.Need-all-of-requires-2
-all-of-requires-2 c κs = search needs
-
 returns-2 : tie.Need-returns-2
 unfolding purposePlaceAnswer
 returns-2 c = taken _ _ _ (sym (or-second _ _ _ (sym (c .before .before .before .all-of .ensures) ∙ c .before .before .if1 .left) (sym (sym (c .before .all-of2 .ensures) ∙ c .if2 .taken))))
-
-form-requires : tie.Need-form-requires
-form-requires c κs = search needs
 
 returns-3 : tie.Need-returns-3
 unfolding purposePlaceAnswer
@@ -30,4 +21,4 @@ returns-3 c = left _ _ _ _ (sym (or-second _ _ _ (sym (c .before .before .before
 pub judge-purpose-spec : {M : Type 1} → statement M
 judge-purpose-spec =
     tie.close
-    (tie.spec all-of-requires returns all-of-requires-2 returns-2 form-requires returns-3)
+    (tie.spec (λ c κs. search needs) returns (λ c κs. search needs) returns-2 (λ c κs. search needs) returns-3)

@@ -7,15 +7,6 @@ use borrow.Author.Needs.{needs}
 use Rattle.wage_contents.proofs.judge_reference.Statement.{statement}
 use Rattle.wage_contents.proofs.judge_reference.Tie as tie
 
-model-in-requires : tie.Need-model-in-requires
-model-in-requires c κs = search needs
-
-tell-reference-requires : tie.Need-tell-reference-requires
-tell-reference-requires c κs = search needs
-
-heard-requires : tie.Need-heard-requires
-heard-requires c κs = search needs
-
 returns : tie.Need-returns
 returns c =
     let a = c .before .before .before .before .before .args in
@@ -26,4 +17,4 @@ returns c =
 
 pub judge-reference-spec : {M : Type 1} → statement M
 judge-reference-spec =
-    tie.close (tie.spec model-in-requires tell-reference-requires heard-requires returns)
+    tie.close (tie.spec (λ c κs. search needs) (λ c κs. search needs) (λ c κs. search needs) returns)

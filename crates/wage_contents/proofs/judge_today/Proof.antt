@@ -8,24 +8,6 @@ use borrow.Author.Needs.{needs}
 use Rattle.wage_contents.proofs.judge_today.Statement.{statement}
 use Rattle.wage_contents.proofs.judge_today.Tie as tie
 
-read-requires : tie.Need-read-requires
-read-requires c κs = search needs
-
-enum-known-i : tie.Need-enum-known-i
-enum-known-i c = search needs
-
-byte-at-requires : tie.Need-byte-at-requires
-byte-at-requires c κs = search needs
-
-enum-known-v : tie.Need-enum-known-v
-enum-known-v c = search needs
-
-is-date-requires : tie.Need-is-date-requires
-is-date-requires c κs = search needs
-
-date-requires : tie.Need-date-requires
-date-requires c κs = search needs
-
 returns : tie.Need-returns
 unfolding todayAnswer
 returns c = let w = read-right _ _ (sym (c .before .before .before .before .before .before .read .ensures) ∙ c .before .before .before .before .v .given .1) in
@@ -39,9 +21,6 @@ returns-2 c = let w = read-right _ _ (sym (c .before .before .before .before .be
     rw (sym (w .0))
     (w .1 _ _
     (taken _ _ _ (sym (and-second _ _ _ (sym (c .before .before .is-date .ensures) ∙ not-false _ (c .before .if1 .left)) (sym (eq-eqb _ _ (c .if2 .taken)))))))
-
-date-requires-2 : tie.Need-date-requires-2
-date-requires-2 c κs = search needs
 
 returns-3 : tie.Need-returns-3
 unfolding todayAnswer
@@ -58,14 +37,14 @@ pub judge-today-spec : {M : Type 1} → statement M
 judge-today-spec =
     tie.close
     (tie.spec
-    read-requires
-    enum-known-i
-    byte-at-requires
-    enum-known-v
-    is-date-requires
-    date-requires
+    (λ c κs. search needs)
+    (λ c. search needs)
+    (λ c κs. search needs)
+    (λ c. search needs)
+    (λ c κs. search needs)
+    (λ c κs. search needs)
     returns
     returns-2
-    date-requires-2
+    (λ c κs. search needs)
     returns-3
     returns-4)

@@ -6,21 +6,9 @@ use borrow.Author.Needs.{needs}
 use Rattle.wage_contents.proofs.model_in.Statement.{statement}
 use Rattle.wage_contents.proofs.model_in.Tie as tie
 
-is-blank-requires : tie.Need-is-blank-requires
-is-blank-requires c κs = search needs
-
 returns : tie.Need-returns
 unfolding modelIn
 returns c = taken _ _ _ (sym (c .before .is-blank .ensures) ∙ c .if1 .taken)
-
-number-requires : tie.Need-number-requires
-number-requires c κs = search needs
-
-enum-known-n : tie.Need-enum-known-n
-enum-known-n c = search needs
-
-enum-told : tie.Need-enum-told
-enum-told c = search needs
 
 returns-2 : tie.Need-returns-2
 unfolding modelIn
@@ -33,4 +21,4 @@ returns-3 c = left _ _ _ _ (sym (c .before .before .before .before .is-blank .en
 pub model-in-spec : {M : Type 1} → statement M
 model-in-spec =
     tie.close
-    (tie.spec is-blank-requires returns number-requires enum-known-n enum-told returns-2 returns-3)
+    (tie.spec (λ c κs. search needs) returns (λ c κs. search needs) (λ c. search needs) (λ c. search needs) returns-2 returns-3)

@@ -22,18 +22,6 @@ returns c =
     let f = c .before .before .args .f .now in
     tells-number _ (Refused (Form none)) refl (sym (short-account f (allOf Blanks (drop 21 f)) (c .if1 .taken)))
 
-sub-all-blank : tie.Need-sub-all-blank
-sub-all-blank c = search needs
-
-part-all-blank-start : tie.Need-part-all-blank-start
-part-all-blank-start c = search needs
-
-part-all-blank-end : tie.Need-part-all-blank-end
-part-all-blank-end c = search needs
-
-all-blank-requires : tie.Need-all-blank-requires
-all-blank-requires c κs = search needs
-
 returns-2 : tie.Need-returns-2
 returns-2 c =
     let f = c .before .before .before .before .before .args .f .now in
@@ -42,9 +30,6 @@ returns-2 c =
 
 slice-aggregate-tell-iban : tie.Need-slice-aggregate-tell-iban
 slice-aggregate-tell-iban c = sym (length-take-le 21 (c .before .before .before .before .before .before .args .f .now) (omega arith))
-
-tell-iban-requires : tie.Need-tell-iban-requires
-tell-iban-requires c κs = search needs
 
 returns-3 : tie.Need-returns-3
 returns-3 c =
@@ -58,11 +43,11 @@ tell-account-spec =
     tie.close
     (tie.spec
     returns
-    sub-all-blank
-    part-all-blank-start
-    part-all-blank-end
-    all-blank-requires
+    (λ c. search needs)
+    (λ c. search needs)
+    (λ c. search needs)
+    (λ c κs. search needs)
     returns-2
     slice-aggregate-tell-iban
-    tell-iban-requires
+    (λ c κs. search needs)
     returns-3)

@@ -16,12 +16,6 @@ use borrow.Author.Needs.{needs}
 use Rattle.wage_contents.proofs.tell_description.Statement.{statement}
 use Rattle.wage_contents.proofs.tell_description.Tie as tie
 
-all-described-requires : tie.Need-all-described-requires
-all-described-requires c κs = search needs
-
-is-blank-requires : tie.Need-is-blank-requires
-is-blank-requires c κs = search needs
-
 returns : tie.Need-returns
 unfolding descriptionAnswer
 returns c =
@@ -36,17 +30,8 @@ returns-2 c =
     (permitted-answers Description (c .before .before .before .before .before .args .f .now) _ (sym (c .before .before .before .all-described .ensures) ∙ c .before .before .if1 .taken)
     ∙ sym (taken _ _ _ (ap not (sym (c .before .is-blank .ensures) ∙ c .if2 .left))))
 
-first-bad-requires : tie.Need-first-bad-requires
-first-bad-requires c κs = search needs
-
-enum-known-i : tie.Need-enum-known-i
-enum-known-i c = search needs
-
 add-result : tie.Need-add-result
 add-result c = let h = found-below Description (c .before .before .before .before .before .before .before .args .f .now) _ (sym (c .before .before .before .first-bad .ensures) ∙ c .before .i .given .1) in omega arith
-
-enum-told : tie.Need-enum-told
-enum-told c = search needs
 
 returns-3 : tie.Need-returns-3
 unfolding descriptionAnswer
@@ -63,13 +48,13 @@ pub tell-description-spec : {M : Type 1} → statement M
 tell-description-spec =
     tie.close
     (tie.spec
-    all-described-requires
-    is-blank-requires
+    (λ c κs. search needs)
+    (λ c κs. search needs)
     returns
     returns-2
-    first-bad-requires
-    enum-known-i
+    (λ c κs. search needs)
+    (λ c. search needs)
     add-result
-    enum-told
+    (λ c. search needs)
     returns-3
     returns-4)

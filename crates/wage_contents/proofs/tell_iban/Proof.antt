@@ -4,12 +4,6 @@ use borrow.Author.Needs.{needs}
 use Rattle.wage_contents.proofs.tell_iban.Statement.{statement}
 use Rattle.wage_contents.proofs.tell_iban.Tie as tie
 
-tell-account-requires : tie.Need-tell-account-requires
-tell-account-requires c κs = search needs
-
-tell-no-iban-requires : tie.Need-tell-no-iban-requires
-tell-no-iban-requires c κs = search needs
-
 returns : tie.Need-returns
 returns c =
     let a = c .before .before .before .before .args in
@@ -21,4 +15,4 @@ returns-2 c =
     account-told (a .f .now) _ (a .blank) (c .before .tell-account .ensures) (c .if1 .left)
 
 pub tell-iban-spec : {M : Type 1} → statement M
-tell-iban-spec = tie.close (tie.spec tell-account-requires tell-no-iban-requires returns returns-2)
+tell-iban-spec = tie.close (tie.spec (λ c κs. search needs) (λ c κs. search needs) returns returns-2)

@@ -11,9 +11,6 @@ use borrow.Author.Needs.{needs}
 use Rattle.wage_contents.proofs.tell_reference.Statement.{statement}
 use Rattle.wage_contents.proofs.tell_reference.Tie as tie
 
-tell-unmodelled-requires : tie.Need-tell-unmodelled-requires
-tell-unmodelled-requires c κs = search needs
-
 returns : tie.Need-returns
 unfolding heldReference
 returns c = rw (eq-eqb _ 100 (c .before .if1 .taken)) (c .tell-unmodelled .ensures)
@@ -22,13 +19,10 @@ returns-2 : tie.Need-returns-2
 unfolding heldReference
 returns-2 c = tells-number _ (Refused (Form none)) refl (sym (left _ _ _ _ (ne-eqb _ 100 (c .before .if1 .left)) (taken _ _ _ (eq-eqb _ 101 (c .if2 .taken)))))
 
-tell-requires : tie.Need-tell-requires
-tell-requires c κs = search needs
-
 returns-3 : tie.Need-returns-3
 unfolding heldReference
 returns-3 c = rw (ne-eqb _ 100 (c .before .before .if1 .left), ne-eqb _ 101 (c .before .if2 .left)) (c .tell .ensures)
 
 pub tell-reference-spec : {M : Type 1} → statement M
 tell-reference-spec =
-    tie.close (tie.spec tell-unmodelled-requires returns returns-2 tell-requires returns-3)
+    tie.close (tie.spec (λ c κs. search needs) returns returns-2 (λ c κs. search needs) returns-3)

@@ -15,19 +15,10 @@ use borrow.Author.Needs.{needs}
 use Rattle.wage_contents.proofs.tell_unmodelled.Statement.{statement}
 use Rattle.wage_contents.proofs.tell_unmodelled.Tie as tie
 
-bare-requires : tie.Need-bare-requires
-bare-requires c κs = search needs
-
-enum-known-i : tie.Need-enum-known-i
-enum-known-i c = search needs
-
 add-result : tie.Need-add-result
 add-result c =
     let f = c .before .before .before .before .before .args .f .now in
     omega (arith, bare-wrong-below f _ (sym (c .before .before .before .bare .ensures) ∙ c .before .i .given .1))
-
-enum-known-n : tie.Need-enum-known-n
-enum-known-n c = search needs
 
 returns : tie.Need-returns
 returns c =
@@ -51,4 +42,4 @@ returns-3 c =
 pub tell-unmodelled-spec : {M : Type 1} → statement M
 tell-unmodelled-spec =
     tie.close
-    (tie.spec bare-requires enum-known-i add-result enum-known-n returns returns-2 returns-3)
+    (tie.spec (λ c κs. search needs) (λ c. search needs) add-result (λ c. search needs) returns returns-2 returns-3)

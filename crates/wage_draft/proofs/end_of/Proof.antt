@@ -4,17 +4,11 @@ use borrow.Author.Needs.{needs}
 use Rattle.wage_draft.proofs.end_of.Statement.{statement}
 use Rattle.wage_draft.proofs.end_of.Tie as tie
 
-sub-if1 : tie.Need-sub-if1
-sub-if1 c = search needs
-
 returns : tie.Need-returns
 returns c = ends-short (c .before .args .text .now) (c .before .args .at) (c .before .args .size) (omega arith) (omega arith)
-
-add-result : tie.Need-add-result
-add-result c = search needs
 
 returns-2 : tie.Need-returns-2
 returns-2 c = ends-whole (c .before .args .text .now) (c .before .args .at) (c .before .args .size) (omega arith) (omega arith)
 
 pub end-of-spec : {M : Type 1} → statement M
-end-of-spec = tie.close (tie.spec sub-if1 returns add-result returns-2)
+end-of-spec = tie.close (tie.spec (λ c. search needs) returns (λ c. search needs) returns-2)

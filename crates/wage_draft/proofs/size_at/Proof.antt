@@ -7,15 +7,6 @@ use borrow.Author.Needs.{needs}
 use Rattle.wage_draft.proofs.size_at.Statement.{statement}
 use Rattle.wage_draft.proofs.size_at.Tie as tie
 
-mul-result : tie.Need-mul-result
-mul-result c = search needs
-
-shared-slice-read-result : tie.Need-shared-slice-read-result
-shared-slice-read-result c = search needs
-
-returns : tie.Need-returns
-returns c = search needs
-
 returns-2 : tie.Need-returns-2
 returns-2 c =
     let s = c .before .args .sizes .now in
@@ -23,4 +14,4 @@ returns-2 c =
     sym (List·getD-eq-default s 0 h)
 
 pub size-at-spec : {M : Type 1} → statement M
-size-at-spec = tie.close (tie.spec mul-result shared-slice-read-result returns returns-2)
+size-at-spec = tie.close (tie.spec (λ c. search needs) (λ c. search needs) (λ c. search needs) returns-2)

@@ -6,27 +6,6 @@ use borrow.Author.Needs.{needs}
 use Rattle.wage_fields.proofs.group_rule.Statement.{statement}
 use Rattle.wage_fields.proofs.group_rule.Tie as tie
 
-judge-iban-requires : tie.Need-judge-iban-requires
-judge-iban-requires c κs = search needs
-
-judge-currency-requires : tie.Need-judge-currency-requires
-judge-currency-requires c κs = search needs
-
-judge-iban-requires-2 : tie.Need-judge-iban-requires-2
-judge-iban-requires-2 c κs = search needs
-
-judge-currency-requires-2 : tie.Need-judge-currency-requires-2
-judge-currency-requires-2 c κs = search needs
-
-judge-bytes-requires : tie.Need-judge-bytes-requires
-judge-bytes-requires c κs = search needs
-
-judge-bytes-requires-2 : tie.Need-judge-bytes-requires-2
-judge-bytes-requires-2 c κs = search needs
-
-judge-later-requires : tie.Need-judge-later-requires
-judge-later-requires c κs = search needs
-
 returns : tie.Need-returns
 unfolding groupRule
 returns c = rw (c .before .match .keys1) (c .judge-iban .ensures)
@@ -66,13 +45,13 @@ pub group-rule-spec : {M : Type 1} → statement M
 group-rule-spec =
     tie.close
     (tie.spec
-    judge-iban-requires
-    judge-currency-requires
-    judge-iban-requires-2
-    judge-currency-requires-2
-    judge-bytes-requires
-    judge-bytes-requires-2
-    judge-later-requires
+    (λ c κs. search needs)
+    (λ c κs. search needs)
+    (λ c κs. search needs)
+    (λ c κs. search needs)
+    (λ c κs. search needs)
+    (λ c κs. search needs)
+    (λ c κs. search needs)
     returns
     returns-2
     returns-3

@@ -9,15 +9,6 @@ use borrow.Author.Needs.{needs}
 use Rattle.wage_fields.proofs.judge_place.Statement.{statement}
 use Rattle.wage_fields.proofs.judge_place.Tie as tie
 
-spot-at-requires : tie.Need-spot-at-requires
-spot-at-requires c κs = search needs
-
-part-requires : tie.Need-part-requires
-part-requires c κs = search needs
-
-rule-requires : tie.Need-rule-requires
-rule-requires c κs = search needs
-
 placed-requires : tie.Need-placed-requires
 placed-requires c κs =
     let a = c .before .before .before .before .args in
@@ -30,4 +21,4 @@ returns c = rw (← c .before .before .before .spot-at .ensures, ← c .before .
 
 pub judge-place-spec : {M : Type 1} → statement M
 judge-place-spec =
-    tie.close (tie.spec spot-at-requires part-requires rule-requires placed-requires returns)
+    tie.close (tie.spec (λ c κs. search needs) (λ c κs. search needs) (λ c κs. search needs) placed-requires returns)

@@ -6,42 +6,6 @@ use borrow.Author.Needs.{needs}
 use Rattle.wage_fields.proofs.label_rule.Statement.{statement}
 use Rattle.wage_fields.proofs.label_rule.Tie as tie
 
-judge-today-requires : tie.Need-judge-today-requires
-judge-today-requires c κs = search needs
-
-judge-among-requires : tie.Need-judge-among-requires
-judge-among-requires c κs = search needs
-
-judge-among-requires-2 : tie.Need-judge-among-requires-2
-judge-among-requires-2 c κs = search needs
-
-judge-among-requires-3 : tie.Need-judge-among-requires-3
-judge-among-requires-3 c κs = search needs
-
-judge-oib-requires : tie.Need-judge-oib-requires
-judge-oib-requires c κs = search needs
-
-judge-bytes-requires : tie.Need-judge-bytes-requires
-judge-bytes-requires c κs = search needs
-
-find-requires : tie.Need-find-requires
-find-requires c κs = search needs
-
-find-requires-2 : tie.Need-find-requires-2
-find-requires-2 c κs = search needs
-
-part-requires : tie.Need-part-requires
-part-requires c κs = search needs
-
-part-requires-2 : tie.Need-part-requires-2
-part-requires-2 c κs = search needs
-
-judge-employer-requires : tie.Need-judge-employer-requires
-judge-employer-requires c κs = search needs
-
-judge-oib-requires-2 : tie.Need-judge-oib-requires-2
-judge-oib-requires-2 c κs = search needs
-
 returns : tie.Need-returns
 unfolding labelRule
 returns c = rw (c .before .match .keys1) (c .judge-today .ensures)
@@ -85,18 +49,18 @@ pub label-rule-spec : {M : Type 1} → statement M
 label-rule-spec =
     tie.close
     (tie.spec
-    judge-today-requires
-    judge-among-requires
-    judge-among-requires-2
-    judge-among-requires-3
-    judge-oib-requires
-    judge-bytes-requires
-    find-requires
-    find-requires-2
-    part-requires
-    part-requires-2
-    judge-employer-requires
-    judge-oib-requires-2
+    (λ c κs. search needs)
+    (λ c κs. search needs)
+    (λ c κs. search needs)
+    (λ c κs. search needs)
+    (λ c κs. search needs)
+    (λ c κs. search needs)
+    (λ c κs. search needs)
+    (λ c κs. search needs)
+    (λ c κs. search needs)
+    (λ c κs. search needs)
+    (λ c κs. search needs)
+    (λ c κs. search needs)
     returns
     returns-2
     returns-3

@@ -50,30 +50,12 @@ after-description c kind r h =
     after-purpose (c .before .before .before) kind r
     (accepted-there kind _ 6 _ refl r (drop 7 (take 8 (spots Order))) (nothing-told _ _ (description (c .before) kind) (c .if2 .left)) h)
 
-order-part-requires : tie.Need-order-part-requires
-order-part-requires c κs = search needs
-
-judge-purpose-requires : tie.Need-judge-purpose-requires
-judge-purpose-requires c κs = search needs
-
-is-accepted-requires : tie.Need-is-accepted-requires
-is-accepted-requires c κs = search needs
-
 at-order-requires : tie.Need-at-order-requires
 at-order-requires c κs = asked-fits 0 _ 5 _ (purpose (c .before .before) 0)
 
 returns : tie.Need-returns
 unfolding spots
 returns c = λ kind. refused-there kind _ 5 _ (purpose (c .before .before .before) kind) _ (drop 6 (take 8 (spots Order))) (sym (c .before .before .is-accepted .ensures) ∙ not-true _ (c .before .if1 .taken)) (c .at-order .ensures)
-
-order-part-requires-2 : tie.Need-order-part-requires-2
-order-part-requires-2 c κs = search needs
-
-tell-description-requires : tie.Need-tell-description-requires
-tell-description-requires c κs = search needs
-
-heard-requires : tie.Need-heard-requires
-heard-requires c κs = search needs
 
 at-order-requires-2 : tie.Need-at-order-requires-2
 at-order-requires-2 c κs = asked-fits 0 _ 6 _ (c .heard .ensures ∙ description (c .before .before) 0 .hears)
@@ -86,12 +68,6 @@ returns-2 c = λ kind.
     after-purpose (c .before .before .before .before .before) kind _
     (refused-there kind _ 6 _ e _ (drop 7 (take 8 (spots Order))) (ap isAccepted e ∙ refusal-told _ _ t (c .before .before .if2 .taken)) (c .at-order2 .ensures))
 
-order-part-requires-3 : tie.Need-order-part-requires-3
-order-part-requires-3 c κs = search needs
-
-judge-bytes-requires : tie.Need-judge-bytes-requires
-judge-bytes-requires c κs = search needs
-
 at-order-requires-3 : tie.Need-at-order-requires-3
 at-order-requires-3 c κs = asked-fits 0 _ 7 _ (amount c 0)
 
@@ -103,17 +79,17 @@ pub matter-spec : {M : Type 1} → statement M
 matter-spec =
     tie.close
     (tie.spec
-    order-part-requires
-    judge-purpose-requires
-    is-accepted-requires
+    (λ c κs. search needs)
+    (λ c κs. search needs)
+    (λ c κs. search needs)
     at-order-requires
     returns
-    order-part-requires-2
-    tell-description-requires
-    heard-requires
+    (λ c κs. search needs)
+    (λ c κs. search needs)
+    (λ c κs. search needs)
     at-order-requires-2
     returns-2
-    order-part-requires-3
-    judge-bytes-requires
+    (λ c κs. search needs)
+    (λ c κs. search needs)
     at-order-requires-3
     returns-3)

@@ -12,9 +12,6 @@ use borrow.Author.Needs.{needs}
 use Rattle.wage_fields.proofs.modelled.Statement.{statement}
 use Rattle.wage_fields.proofs.modelled.Tie as tie
 
-heard-requires : tie.Need-heard-requires
-heard-requires c κs = search needs
-
 at-order-requires : tie.Need-at-order-requires
 at-order-requires c κs =
     let a = c .before .before .before .args in
@@ -25,18 +22,6 @@ returns c =
     let a = c .before .before .before .before .args in
     let n = none-held (a .held) (c .before .before .if1 .taken) in
     c .at-order .ensures ∙ ap (answerAt (orderSpot (a .k))) (c .before .heard .ensures ∙ sym n) ∙ told-stands (orderSpot (a .k)) (heldAnswer (a .held)) _ (rw n)
-
-add-next : tie.Need-add-next
-add-next c = search needs
-
-order-part-requires : tie.Need-order-part-requires
-order-part-requires c κs = search needs
-
-tell-reference-requires : tie.Need-tell-reference-requires
-tell-reference-requires c κs = search needs
-
-heard-requires-2 : tie.Need-heard-requires-2
-heard-requires-2 c κs = search needs
 
 at-order-requires-2 : tie.Need-at-order-requires-2
 at-order-requires-2 c κs =
@@ -49,9 +34,6 @@ returns-2 c =
     let a = c .before .before .before .before .before .before .before .args in
     let n = unhandled-told (a .held) _ _ (c .before .before .before .before .before .if1 .left) (c .before .before .before .tell-reference .ensures) (c .before .before .if2 .taken) in
     c .at-order2 .ensures ∙ ap (answerAt (orderSpot (a .k))) (c .before .heard2 .ensures ∙ sym n) ∙ told-stands (orderSpot (a .k)) (heldAnswer (a .held)) _ (rw n)
-
-heard-requires-3 : tie.Need-heard-requires-3
-heard-requires-3 c κs = search needs
 
 at-order-requires-3 : tie.Need-at-order-requires-3
 at-order-requires-3 c κs =
@@ -68,15 +50,15 @@ pub modelled-spec : {M : Type 1} → statement M
 modelled-spec =
     tie.close
     (tie.spec
-    heard-requires
+    (λ c κs. search needs)
     at-order-requires
     returns
-    add-next
-    order-part-requires
-    tell-reference-requires
-    heard-requires-2
+    (λ c. search needs)
+    (λ c κs. search needs)
+    (λ c κs. search needs)
+    (λ c κs. search needs)
     at-order-requires-2
     returns-2
-    heard-requires-3
+    (λ c κs. search needs)
     at-order-requires-3
     returns-3)

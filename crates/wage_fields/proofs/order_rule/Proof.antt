@@ -6,48 +6,6 @@ use borrow.Author.Needs.{needs}
 use Rattle.wage_fields.proofs.order_rule.Statement.{statement}
 use Rattle.wage_fields.proofs.order_rule.Tie as tie
 
-judge-iban-requires : tie.Need-judge-iban-requires
-judge-iban-requires c κs = search needs
-
-judge-among-requires : tie.Need-judge-among-requires
-judge-among-requires c κs = search needs
-
-judge-model-requires : tie.Need-judge-model-requires
-judge-model-requires c κs = search needs
-
-find-requires : tie.Need-find-requires
-find-requires c κs = search needs
-
-part-requires : tie.Need-part-requires
-part-requires c κs = search needs
-
-judge-reference-requires : tie.Need-judge-reference-requires
-judge-reference-requires c κs = search needs
-
-judge-purpose-requires : tie.Need-judge-purpose-requires
-judge-purpose-requires c κs = search needs
-
-judge-description-requires : tie.Need-judge-description-requires
-judge-description-requires c κs = search needs
-
-judge-bytes-requires : tie.Need-judge-bytes-requires
-judge-bytes-requires c κs = search needs
-
-judge-model-requires-2 : tie.Need-judge-model-requires-2
-judge-model-requires-2 c κs = search needs
-
-find-requires-2 : tie.Need-find-requires-2
-find-requires-2 c κs = search needs
-
-part-requires-2 : tie.Need-part-requires-2
-part-requires-2 c κs = search needs
-
-judge-reference-requires-2 : tie.Need-judge-reference-requires-2
-judge-reference-requires-2 c κs = search needs
-
-payment-rule-requires : tie.Need-payment-rule-requires
-payment-rule-requires c κs = search needs
-
 returns : tie.Need-returns
 unfolding orderRule
 returns c = rw (c .before .match .keys1) (c .judge-iban .ensures)
@@ -95,20 +53,20 @@ pub order-rule-spec : {M : Type 1} → statement M
 order-rule-spec =
     tie.close
     (tie.spec
-    judge-iban-requires
-    judge-among-requires
-    judge-model-requires
-    find-requires
-    part-requires
-    judge-reference-requires
-    judge-purpose-requires
-    judge-description-requires
-    judge-bytes-requires
-    judge-model-requires-2
-    find-requires-2
-    part-requires-2
-    judge-reference-requires-2
-    payment-rule-requires
+    (λ c κs. search needs)
+    (λ c κs. search needs)
+    (λ c κs. search needs)
+    (λ c κs. search needs)
+    (λ c κs. search needs)
+    (λ c κs. search needs)
+    (λ c κs. search needs)
+    (λ c κs. search needs)
+    (λ c κs. search needs)
+    (λ c κs. search needs)
+    (λ c κs. search needs)
+    (λ c κs. search needs)
+    (λ c κs. search needs)
+    (λ c κs. search needs)
     returns
     returns-2
     returns-3

@@ -13,33 +13,12 @@ use borrow.Author.Needs.{needs}
 use Rattle.wage_fields.proofs.order_stride.Statement.{statement}
 use Rattle.wage_fields.proofs.order_stride.Tie as tie
 
-sub-judge-place : tie.Need-sub-judge-place
-sub-judge-place c = search needs
-
-part-judge-place-start : tie.Need-part-judge-place-start
-part-judge-place-start c = search needs
-
-part-judge-place-end : tie.Need-part-judge-place-end
-part-judge-place-end c = search needs
-
-judge-place-requires : tie.Need-judge-place-requires
-judge-place-requires c κs = search needs
-
 returns : tie.Need-returns
 unfolding placeAnswer
 returns c =
     let a = c .before .before .before .before .args in
     rw (ne-eqb (length (a .s .now)) 1002 (c .before .before .if1 .taken))
     (λ day. lent-place day (a .kind) Order (a .s .now) (a .k) (spots Order) _ (c .judge-place .ensures))
-
-payer-requires : tie.Need-payer-requires
-payer-requires c κs = search needs
-
-matter-requires : tie.Need-matter-requires
-matter-requires c κs = search needs
-
-recipient-requires : tie.Need-recipient-requires
-recipient-requires c κs = search needs
 
 returns-2 : tie.Need-returns-2
 returns-2 c = rw (eq-eqb _ _ (c .before .before .if1 .left), c .before .match .keys1) (c .payer .ensures (c .before .before .before .before .args .kind))
@@ -63,14 +42,14 @@ pub order-stride-spec : {M : Type 1} → statement M
 order-stride-spec =
     tie.close
     (tie.spec
-    sub-judge-place
-    part-judge-place-start
-    part-judge-place-end
-    judge-place-requires
+    (λ c. search needs)
+    (λ c. search needs)
+    (λ c. search needs)
+    (λ c κs. search needs)
     returns
-    payer-requires
-    matter-requires
-    recipient-requires
+    (λ c κs. search needs)
+    (λ c κs. search needs)
+    (λ c κs. search needs)
     returns-2
     returns-3
     returns-4

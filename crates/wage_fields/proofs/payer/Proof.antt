@@ -49,15 +49,6 @@ after-currency c kind r h =
     after-iban (c .before .before .before .before) kind r
     (accepted-there kind _ 2 _ (currency (c .before .before) kind) r (drop 3 (take 5 (spots Order))) (told-right _ _ (c .before .is-accepted .ensures) (c .if2 .left)) h)
 
-order-part-requires : tie.Need-order-part-requires
-order-part-requires c κs = search needs
-
-tell-iban-requires : tie.Need-tell-iban-requires
-tell-iban-requires c κs = search needs
-
-heard-requires : tie.Need-heard-requires
-heard-requires c κs = search needs
-
 at-order-requires : tie.Need-at-order-requires
 at-order-requires c κs = asked-fits 0 _ 0 _ (c .heard .ensures ∙ iban (c .before .before) 0 .hears)
 
@@ -68,15 +59,6 @@ returns c = λ kind.
     let e = c .before .heard .ensures ∙ t .hears in
     refused-there kind _ 0 _ e _ (drop 1 (take 5 (spots Order))) (ap isAccepted e ∙ refusal-told _ _ t (c .before .before .if1 .taken)) (c .at-order .ensures)
 
-order-part-requires-2 : tie.Need-order-part-requires-2
-order-part-requires-2 c κs = search needs
-
-judge-among-requires : tie.Need-judge-among-requires
-judge-among-requires c κs = search needs
-
-is-accepted-requires : tie.Need-is-accepted-requires
-is-accepted-requires c κs = search needs
-
 at-order-requires-2 : tie.Need-at-order-requires-2
 at-order-requires-2 c κs = asked-fits 0 _ 2 _ (currency (c .before .before) 0)
 
@@ -85,15 +67,6 @@ unfolding spots
 returns-2 c = λ kind.
     after-iban (c .before .before .before .before .before) kind _
     (refused-there kind _ 2 _ (currency (c .before .before .before) kind) _ (drop 3 (take 5 (spots Order))) (sym (c .before .before .is-accepted .ensures) ∙ not-true _ (c .before .if2 .taken)) (c .at-order2 .ensures))
-
-order-part-requires-3 : tie.Need-order-part-requires-3
-order-part-requires-3 c κs = search needs
-
-model-in-requires : tie.Need-model-in-requires
-model-in-requires c κs = search needs
-
-modelled-requires : tie.Need-modelled-requires
-modelled-requires c κs = search needs
 
 returns-3 : tie.Need-returns-3
 unfolding saidAt spots spotIn orderRule
@@ -105,17 +78,17 @@ pub payer-spec : {M : Type 1} → statement M
 payer-spec =
     tie.close
     (tie.spec
-    order-part-requires
-    tell-iban-requires
-    heard-requires
+    (λ c κs. search needs)
+    (λ c κs. search needs)
+    (λ c κs. search needs)
     at-order-requires
     returns
-    order-part-requires-2
-    judge-among-requires
-    is-accepted-requires
+    (λ c κs. search needs)
+    (λ c κs. search needs)
+    (λ c κs. search needs)
     at-order-requires-2
     returns-2
-    order-part-requires-3
-    model-in-requires
-    modelled-requires
+    (λ c κs. search needs)
+    (λ c κs. search needs)
+    (λ c κs. search needs)
     returns-3)

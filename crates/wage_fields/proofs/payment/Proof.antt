@@ -91,30 +91,12 @@ after-code c r h =
     after-second (c .before .before .before .before) r
     (accepted-there _ _ 14 _ (code (c .before .before)) r (drop 15 (spots Order)) (told-right _ _ (c .before .is-accepted5 .ensures) (c .if5 .left)) h)
 
-order-part-requires : tie.Need-order-part-requires
-order-part-requires c κs = search needs
-
-judge-among-requires : tie.Need-judge-among-requires
-judge-among-requires c κs = search needs
-
-is-accepted-requires : tie.Need-is-accepted-requires
-is-accepted-requires c κs = search needs
-
 at-order-requires : tie.Need-at-order-requires
 at-order-requires c κs = asked-fits _ _ 10 _ (charges (c .before .before))
 
 returns : tie.Need-returns
 unfolding spots
 returns c = refused-there _ _ 10 _ (charges (c .before .before .before)) _ (drop 11 (spots Order)) (sym (c .before .before .is-accepted .ensures) ∙ not-true _ (c .before .if1 .taken)) (c .at-order .ensures)
-
-order-part-requires-2 : tie.Need-order-part-requires-2
-order-part-requires-2 c κs = search needs
-
-judge-currency-requires : tie.Need-judge-currency-requires
-judge-currency-requires c κs = search needs
-
-is-accepted-requires-2 : tie.Need-is-accepted-requires-2
-is-accepted-requires-2 c κs = search needs
 
 at-order-requires-2 : tie.Need-at-order-requires-2
 at-order-requires-2 c κs = asked-fits _ _ 11 _ (currency (c .before .before))
@@ -125,15 +107,6 @@ returns-2 c =
     after-charges (c .before .before .before .before .before) _
     (refused-there _ _ 11 _ (currency (c .before .before .before)) _ (drop 12 (spots Order)) (sym (c .before .before .is-accepted2 .ensures) ∙ not-true _ (c .before .if2 .taken)) (c .at-order2 .ensures))
 
-order-part-requires-3 : tie.Need-order-part-requires-3
-order-part-requires-3 c κs = search needs
-
-judge-sign-requires : tie.Need-judge-sign-requires
-judge-sign-requires c κs = search needs
-
-is-accepted-requires-3 : tie.Need-is-accepted-requires-3
-is-accepted-requires-3 c κs = search needs
-
 at-order-requires-3 : tie.Need-at-order-requires-3
 at-order-requires-3 c κs = asked-fits _ _ 12 _ (first (c .before .before))
 
@@ -142,15 +115,6 @@ unfolding spots
 returns-3 c =
     after-currency (c .before .before .before .before .before) _
     (refused-there _ _ 12 _ (first (c .before .before .before)) _ (drop 13 (spots Order)) (sym (c .before .before .is-accepted3 .ensures) ∙ not-true _ (c .before .if3 .taken)) (c .at-order3 .ensures))
-
-order-part-requires-4 : tie.Need-order-part-requires-4
-order-part-requires-4 c κs = search needs
-
-judge-sign-requires-2 : tie.Need-judge-sign-requires-2
-judge-sign-requires-2 c κs = search needs
-
-is-accepted-requires-4 : tie.Need-is-accepted-requires-4
-is-accepted-requires-4 c κs = search needs
 
 at-order-requires-4 : tie.Need-at-order-requires-4
 at-order-requires-4 c κs = asked-fits _ _ 13 _ (second (c .before .before))
@@ -161,15 +125,6 @@ returns-4 c =
     after-first (c .before .before .before .before .before) _
     (refused-there _ _ 13 _ (second (c .before .before .before)) _ (drop 14 (spots Order)) (sym (c .before .before .is-accepted4 .ensures) ∙ not-true _ (c .before .if4 .taken)) (c .at-order4 .ensures))
 
-order-part-requires-5 : tie.Need-order-part-requires-5
-order-part-requires-5 c κs = search needs
-
-judge-code-requires : tie.Need-judge-code-requires
-judge-code-requires c κs = search needs
-
-is-accepted-requires-5 : tie.Need-is-accepted-requires-5
-is-accepted-requires-5 c κs = search needs
-
 at-order-requires-5 : tie.Need-at-order-requires-5
 at-order-requires-5 c κs = asked-fits _ _ 14 _ (code (c .before .before))
 
@@ -178,12 +133,6 @@ unfolding spots
 returns-5 c =
     after-second (c .before .before .before .before .before) _
     (refused-there _ _ 14 _ (code (c .before .before .before)) _ (drop 15 (spots Order)) (sym (c .before .before .is-accepted5 .ensures) ∙ not-true _ (c .before .if5 .taken)) (c .at-order5 .ensures))
-
-order-part-requires-6 : tie.Need-order-part-requires-6
-order-part-requires-6 c κs = search needs
-
-judge-oib-requires : tie.Need-judge-oib-requires
-judge-oib-requires c κs = search needs
 
 at-order-requires-6 : tie.Need-at-order-requires-6
 at-order-requires-6 c κs = asked-fits _ _ 15 _ (oib c)
@@ -196,32 +145,32 @@ pub payment-spec : {M : Type 1} → statement M
 payment-spec =
     tie.close
     (tie.spec
-    order-part-requires
-    judge-among-requires
-    is-accepted-requires
+    (λ c κs. search needs)
+    (λ c κs. search needs)
+    (λ c κs. search needs)
     at-order-requires
     returns
-    order-part-requires-2
-    judge-currency-requires
-    is-accepted-requires-2
+    (λ c κs. search needs)
+    (λ c κs. search needs)
+    (λ c κs. search needs)
     at-order-requires-2
     returns-2
-    order-part-requires-3
-    judge-sign-requires
-    is-accepted-requires-3
+    (λ c κs. search needs)
+    (λ c κs. search needs)
+    (λ c κs. search needs)
     at-order-requires-3
     returns-3
-    order-part-requires-4
-    judge-sign-requires-2
-    is-accepted-requires-4
+    (λ c κs. search needs)
+    (λ c κs. search needs)
+    (λ c κs. search needs)
     at-order-requires-4
     returns-4
-    order-part-requires-5
-    judge-code-requires
-    is-accepted-requires-5
+    (λ c κs. search needs)
+    (λ c κs. search needs)
+    (λ c κs. search needs)
     at-order-requires-5
     returns-5
-    order-part-requires-6
-    judge-oib-requires
+    (λ c κs. search needs)
+    (λ c κs. search needs)
     at-order-requires-6
     returns-6)

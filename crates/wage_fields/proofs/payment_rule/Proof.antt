@@ -6,33 +6,6 @@ use borrow.Author.Needs.{needs}
 use Rattle.wage_fields.proofs.payment_rule.Statement.{statement}
 use Rattle.wage_fields.proofs.payment_rule.Tie as tie
 
-judge-among-requires : tie.Need-judge-among-requires
-judge-among-requires c κs = search needs
-
-judge-currency-requires : tie.Need-judge-currency-requires
-judge-currency-requires c κs = search needs
-
-judge-sign-requires : tie.Need-judge-sign-requires
-judge-sign-requires c κs = search needs
-
-judge-sign-requires-2 : tie.Need-judge-sign-requires-2
-judge-sign-requires-2 c κs = search needs
-
-find-requires : tie.Need-find-requires
-find-requires c κs = search needs
-
-part-requires : tie.Need-part-requires
-part-requires c κs = search needs
-
-is-blank-requires : tie.Need-is-blank-requires
-is-blank-requires c κs = search needs
-
-judge-code-requires : tie.Need-judge-code-requires
-judge-code-requires c κs = search needs
-
-judge-oib-requires : tie.Need-judge-oib-requires
-judge-oib-requires c κs = search needs
-
 returns : tie.Need-returns
 unfolding paymentRule
 returns c = rw (c .before .match .keys1) (c .judge-among .ensures)
@@ -68,15 +41,15 @@ pub payment-rule-spec : {M : Type 1} → statement M
 payment-rule-spec =
     tie.close
     (tie.spec
-    judge-among-requires
-    judge-currency-requires
-    judge-sign-requires
-    judge-sign-requires-2
-    find-requires
-    part-requires
-    is-blank-requires
-    judge-code-requires
-    judge-oib-requires
+    (λ c κs. search needs)
+    (λ c κs. search needs)
+    (λ c κs. search needs)
+    (λ c κs. search needs)
+    (λ c κs. search needs)
+    (λ c κs. search needs)
+    (λ c κs. search needs)
+    (λ c κs. search needs)
+    (λ c κs. search needs)
     returns
     returns-2
     returns-3

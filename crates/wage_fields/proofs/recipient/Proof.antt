@@ -22,18 +22,6 @@ both : (c : tie.After-modelled) → let a = c .before .before .before .before .a
 unfolding saidAt spots spotIn orderRule
 both c = modelled-there _ _ 8 _ _ (c .before .model-in .ensures ∙ ap modelIn (c .before .before .order-part .ensures)) refl refl (c .modelled .ensures)
 
-order-part-requires : tie.Need-order-part-requires
-order-part-requires c κs = search needs
-
-model-in-requires : tie.Need-model-in-requires
-model-in-requires c κs = search needs
-
-modelled-requires : tie.Need-modelled-requires
-modelled-requires c κs = search needs
-
-is-accepted-requires : tie.Need-is-accepted-requires
-is-accepted-requires c κs = search needs
-
 returns : tie.Need-returns
 returns c = λ day. stride-refused day _ Order _ 8 10 (spots Order) (omega arith) _ (both (c .before .before) day) (sym (c .before .is-accepted .ensures) ∙ not-true _ (c .if1 .taken))
 
@@ -47,10 +35,10 @@ pub recipient-spec : {M : Type 1} → statement M
 recipient-spec =
     tie.close
     (tie.spec
-    order-part-requires
-    model-in-requires
-    modelled-requires
-    is-accepted-requires
+    (λ c κs. search needs)
+    (λ c κs. search needs)
+    (λ c κs. search needs)
+    (λ c κs. search needs)
     returns
     payment-requires
     returns-2)

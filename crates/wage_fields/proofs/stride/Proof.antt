@@ -7,45 +7,6 @@ use borrow.Author.Needs.{needs}
 use Rattle.wage_fields.proofs.stride.Statement.{statement}
 use Rattle.wage_fields.proofs.stride.Tie as tie
 
-enum-told : tie.Need-enum-told
-enum-told c = search needs
-
-order-stride-requires : tie.Need-order-stride-requires
-order-stride-requires c κs = search needs
-
-enum-told-2 : tie.Need-enum-told-2
-enum-told-2 c = search needs
-
-sub-judge-place : tie.Need-sub-judge-place
-sub-judge-place c = search needs
-
-part-judge-place-start : tie.Need-part-judge-place-start
-part-judge-place-start c = search needs
-
-part-judge-place-end : tie.Need-part-judge-place-end
-part-judge-place-end c = search needs
-
-judge-place-requires : tie.Need-judge-place-requires
-judge-place-requires c κs = search needs
-
-enum-told-3 : tie.Need-enum-told-3
-enum-told-3 c = search needs
-
-sub-judge-place-2 : tie.Need-sub-judge-place-2
-sub-judge-place-2 c = search needs
-
-part-judge-place-start-2 : tie.Need-part-judge-place-start-2
-part-judge-place-start-2 c = search needs
-
-part-judge-place-end-2 : tie.Need-part-judge-place-end-2
-part-judge-place-end-2 c = search needs
-
-judge-place-requires-2 : tie.Need-judge-place-requires-2
-judge-place-requires-2 c κs = search needs
-
-enum-told-4 : tie.Need-enum-told-4
-enum-told-4 c = search needs
-
 returns : tie.Need-returns
 returns c = rw (c .before .enum-told .given .1) (c .order-stride .ensures (c .before .before .before .before .args .day))
 
@@ -69,19 +30,19 @@ pub stride-spec : {M : Type 1} → statement M
 stride-spec =
     tie.close
     (tie.spec
-    enum-told
-    order-stride-requires
-    enum-told-2
-    sub-judge-place
-    part-judge-place-start
-    part-judge-place-end
-    judge-place-requires
-    enum-told-3
-    sub-judge-place-2
-    part-judge-place-start-2
-    part-judge-place-end-2
-    judge-place-requires-2
-    enum-told-4
+    (λ c. search needs)
+    (λ c κs. search needs)
+    (λ c. search needs)
+    (λ c. search needs)
+    (λ c. search needs)
+    (λ c. search needs)
+    (λ c κs. search needs)
+    (λ c. search needs)
+    (λ c. search needs)
+    (λ c. search needs)
+    (λ c. search needs)
+    (λ c κs. search needs)
+    (λ c. search needs)
     returns
     returns-2
     returns-3

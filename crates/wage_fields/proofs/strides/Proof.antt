@@ -5,27 +5,9 @@ use borrow.Author.Needs.{needs}
 use Rattle.wage_fields.proofs.strides.Statement.{statement}
 use Rattle.wage_fields.proofs.strides.Tie as tie
 
-enum-told : tie.Need-enum-told
-enum-told c = search needs
-
 returns : tie.Need-returns
 unfolding spots
 returns c = rw (c .before .enum-told .given .1, eq-eqb _ _ (c .if1 .taken))
-
-enum-told-2 : tie.Need-enum-told-2
-enum-told-2 c = search needs
-
-count-requires : tie.Need-count-requires
-count-requires c κs = search needs
-
-enum-told-3 : tie.Need-enum-told-3
-enum-told-3 c = search needs
-
-count-requires-2 : tie.Need-count-requires-2
-count-requires-2 c κs = search needs
-
-enum-told-4 : tie.Need-enum-told-4
-enum-told-4 c = search needs
 
 returns-2 : tie.Need-returns-2
 unfolding spots
@@ -45,13 +27,13 @@ pub strides-spec : {M : Type 1} → statement M
 strides-spec =
     tie.close
     (tie.spec
-    enum-told
+    (λ c. search needs)
     returns
-    enum-told-2
-    count-requires
-    enum-told-3
-    count-requires-2
-    enum-told-4
+    (λ c. search needs)
+    (λ c κs. search needs)
+    (λ c. search needs)
+    (λ c κs. search needs)
+    (λ c. search needs)
     returns-2
     returns-3
     returns-4

@@ -6,17 +6,11 @@ use borrow.Author.Needs.{needs}
 use Rattle.wage_fields.proofs.told.Statement.{statement}
 use Rattle.wage_fields.proofs.told.Tie as tie
 
-told-requires : tie.Need-told-requires
-told-requires c κs = search needs
-
 add-t7 : tie.Need-add-t7
 add-t7 c = omega (arith, ap (λ (p : Place). p .byte) (c .told .ensures))
-
-put-requires : tie.Need-put-requires
-put-requires c κs = search needs
 
 returns : tie.Need-returns
 returns c = c .put .ensures ∙ rw (c .before .told .ensures)
 
 pub told-spec : {M : Type 1} → statement M
-told-spec = tie.close (tie.spec told-requires add-t7 put-requires returns)
+told-spec = tie.close (tie.spec (λ c κs. search needs) add-t7 (λ c κs. search needs) returns)

@@ -10,18 +10,12 @@ use Rattle.wage_line.proofs.ends_right.Tie as tie
 returns : tie.Need-returns
 returns c = no-ends (c .before .args .s .now) (c .if1 .taken)
 
-shared-slice-read-if2 : tie.Need-shared-slice-read-if2
-shared-slice-read-if2 c = search needs
-
 returns-2 : tie.Need-returns-2
 returns-2 c = and-first _ _ (ne-eqb _ _ (c .if2 .taken))
-
-shared-slice-read-result : tie.Need-shared-slice-read-result
-shared-slice-read-result c = search needs
 
 returns-3 : tie.Need-returns-3
 returns-3 c = and-second _ _ _ (eq-eqb _ _ (c .before .if2 .left)) refl
 
 pub ends-right-spec : {M : Type 1} → statement M
 ends-right-spec =
-    tie.close (tie.spec returns shared-slice-read-if2 returns-2 shared-slice-read-result returns-3)
+    tie.close (tie.spec returns (λ c. search needs) returns-2 (λ c. search needs) returns-3)

@@ -6,30 +6,6 @@ use borrow.Author.Needs.{needs}
 use Rattle.wage_line.proofs.group_spot.Statement.{statement}
 use Rattle.wage_line.proofs.group_spot.Tie as tie
 
-at-requires : tie.Need-at-requires
-at-requires c κs = search needs
-
-at-requires-2 : tie.Need-at-requires-2
-at-requires-2 c κs = search needs
-
-at-requires-3 : tie.Need-at-requires-3
-at-requires-3 c κs = search needs
-
-at-requires-4 : tie.Need-at-requires-4
-at-requires-4 c κs = search needs
-
-at-requires-5 : tie.Need-at-requires-5
-at-requires-5 c κs = search needs
-
-at-requires-6 : tie.Need-at-requires-6
-at-requires-6 c κs = search needs
-
-at-requires-7 : tie.Need-at-requires-7
-at-requires-7 c κs = search needs
-
-at-requires-8 : tie.Need-at-requires-8
-at-requires-8 c κs = search needs
-
 returns : tie.Need-returns
 returns c = rw (c .before .match .keys1) (c .at .ensures)
 
@@ -58,14 +34,14 @@ pub group-spot-spec : {M : Type 1} → statement M
 group-spot-spec =
     tie.close
     (tie.spec
-    at-requires
-    at-requires-2
-    at-requires-3
-    at-requires-4
-    at-requires-5
-    at-requires-6
-    at-requires-7
-    at-requires-8
+    (λ c κs. search needs)
+    (λ c κs. search needs)
+    (λ c κs. search needs)
+    (λ c κs. search needs)
+    (λ c κs. search needs)
+    (λ c κs. search needs)
+    (λ c κs. search needs)
+    (λ c κs. search needs)
     returns
     returns-2
     returns-3

@@ -6,57 +6,6 @@ use borrow.Author.Needs.{needs}
 use Rattle.wage_line.proofs.order_spot.Statement.{statement}
 use Rattle.wage_line.proofs.order_spot.Tie as tie
 
-at-requires : tie.Need-at-requires
-at-requires c κs = search needs
-
-at-requires-2 : tie.Need-at-requires-2
-at-requires-2 c κs = search needs
-
-at-requires-3 : tie.Need-at-requires-3
-at-requires-3 c κs = search needs
-
-at-requires-4 : tie.Need-at-requires-4
-at-requires-4 c κs = search needs
-
-at-requires-5 : tie.Need-at-requires-5
-at-requires-5 c κs = search needs
-
-at-requires-6 : tie.Need-at-requires-6
-at-requires-6 c κs = search needs
-
-at-requires-7 : tie.Need-at-requires-7
-at-requires-7 c κs = search needs
-
-at-requires-8 : tie.Need-at-requires-8
-at-requires-8 c κs = search needs
-
-at-requires-9 : tie.Need-at-requires-9
-at-requires-9 c κs = search needs
-
-at-requires-10 : tie.Need-at-requires-10
-at-requires-10 c κs = search needs
-
-at-requires-11 : tie.Need-at-requires-11
-at-requires-11 c κs = search needs
-
-at-requires-12 : tie.Need-at-requires-12
-at-requires-12 c κs = search needs
-
-at-requires-13 : tie.Need-at-requires-13
-at-requires-13 c κs = search needs
-
-at-requires-14 : tie.Need-at-requires-14
-at-requires-14 c κs = search needs
-
-at-requires-15 : tie.Need-at-requires-15
-at-requires-15 c κs = search needs
-
-at-requires-16 : tie.Need-at-requires-16
-at-requires-16 c κs = search needs
-
-at-requires-17 : tie.Need-at-requires-17
-at-requires-17 c κs = search needs
-
 returns : tie.Need-returns
 returns c = rw (c .before .match .keys1) (c .at .ensures)
 
@@ -112,23 +61,23 @@ pub order-spot-spec : {M : Type 1} → statement M
 order-spot-spec =
     tie.close
     (tie.spec
-    at-requires
-    at-requires-2
-    at-requires-3
-    at-requires-4
-    at-requires-5
-    at-requires-6
-    at-requires-7
-    at-requires-8
-    at-requires-9
-    at-requires-10
-    at-requires-11
-    at-requires-12
-    at-requires-13
-    at-requires-14
-    at-requires-15
-    at-requires-16
-    at-requires-17
+    (λ c κs. search needs)
+    (λ c κs. search needs)
+    (λ c κs. search needs)
+    (λ c κs. search needs)
+    (λ c κs. search needs)
+    (λ c κs. search needs)
+    (λ c κs. search needs)
+    (λ c κs. search needs)
+    (λ c κs. search needs)
+    (λ c κs. search needs)
+    (λ c κs. search needs)
+    (λ c κs. search needs)
+    (λ c κs. search needs)
+    (λ c κs. search needs)
+    (λ c κs. search needs)
+    (λ c κs. search needs)
+    (λ c κs. search needs)
     returns
     returns-2
     returns-3

@@ -4,30 +4,6 @@ use borrow.Author.Needs.{needs}
 use Rattle.wage_line.proofs.spot_at.Statement.{statement}
 use Rattle.wage_line.proofs.spot_at.Tie as tie
 
-enum-told : tie.Need-enum-told
-enum-told c = search needs
-
-label-spot-requires : tie.Need-label-spot-requires
-label-spot-requires c κs = search needs
-
-enum-told-2 : tie.Need-enum-told-2
-enum-told-2 c = search needs
-
-group-spot-requires : tie.Need-group-spot-requires
-group-spot-requires c κs = search needs
-
-enum-told-3 : tie.Need-enum-told-3
-enum-told-3 c = search needs
-
-order-spot-requires : tie.Need-order-spot-requires
-order-spot-requires c κs = search needs
-
-enum-told-4 : tie.Need-enum-told-4
-enum-told-4 c = search needs
-
-at-requires : tie.Need-at-requires
-at-requires c κs = search needs
-
 returns : tie.Need-returns
 unfolding spots
 returns c = rw (c .before .enum-told .given .1) (c .label-spot .ensures)
@@ -48,14 +24,14 @@ pub spot-at-spec : {M : Type 1} → statement M
 spot-at-spec =
     tie.close
     (tie.spec
-    enum-told
-    label-spot-requires
-    enum-told-2
-    group-spot-requires
-    enum-told-3
-    order-spot-requires
-    enum-told-4
-    at-requires
+    (λ c. search needs)
+    (λ c κs. search needs)
+    (λ c. search needs)
+    (λ c κs. search needs)
+    (λ c. search needs)
+    (λ c κs. search needs)
+    (λ c. search needs)
+    (λ c κs. search needs)
     returns
     returns-2
     returns-3

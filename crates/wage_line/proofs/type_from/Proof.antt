@@ -7,25 +7,13 @@ use borrow.Author.Needs.{needs}
 use Rattle.wage_line.proofs.type_from.Statement.{statement}
 use Rattle.wage_line.proofs.type_from.Tie as tie
 
-wrong-type-requires : tie.Need-wrong-type-requires
-wrong-type-requires c κs = search needs
-
 returns : tie.Need-returns
 unfolding typeFrom
 returns c = left _ _ _ _ (ne-eqb _ _ (c .before .if1 .taken)) (c .wrong-type .ensures)
 
-wrong-type-requires-2 : tie.Need-wrong-type-requires-2
-wrong-type-requires-2 c κs = search needs
-
-wrong-type-requires-3 : tie.Need-wrong-type-requires-3
-wrong-type-requires-3 c κs = search needs
-
 returns-2 : tie.Need-returns-2
 unfolding typeFrom
 returns-2 c = entered _ _ _ _ (eq-eqb _ _ (c .before .before .before .if1 .left)) (left _ _ _ _ (ne-eqb _ _ (c .before .before .if2 .left)) (left _ _ _ _ (ne-eqb _ _ (c .before .if3 .taken)) (c .wrong-type3 .ensures)))
-
-wrong-type-requires-4 : tie.Need-wrong-type-requires-4
-wrong-type-requires-4 c κs = search needs
 
 returns-3 : tie.Need-returns-3
 unfolding typeFrom
@@ -55,12 +43,12 @@ pub type-from-spec : {M : Type 1} → statement M
 type-from-spec =
     tie.close
     (tie.spec
-    wrong-type-requires
+    (λ c κs. search needs)
     returns
-    wrong-type-requires-2
-    wrong-type-requires-3
+    (λ c κs. search needs)
+    (λ c κs. search needs)
     returns-2
-    wrong-type-requires-4
+    (λ c κs. search needs)
     returns-3
     returns-4
     returns-5

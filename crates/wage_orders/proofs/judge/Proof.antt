@@ -7,29 +7,17 @@ use borrow.Author.Needs.{needs}
 use Rattle.wage_orders.proofs.judge.Statement.{statement}
 use Rattle.wage_orders.proofs.judge.Tie as tie
 
-nowhere-requires : tie.Need-nowhere-requires
-nowhere-requires c κs = search needs
-
 returns : tie.Need-returns
 unfolding groupOrders
 returns c = rw (c .nowhere .ensures) (left _ _ _ _ (ne-eqb _ _ (c .before .if1 .taken)) refl)
-
-nowhere-requires-2 : tie.Need-nowhere-requires-2
-nowhere-requires-2 c κs = search needs
 
 returns-2 : tie.Need-returns-2
 unfolding groupOrders
 returns-2 c = rw (c .nowhere2 .ensures) (entered _ _ _ _ (eq-eqb _ _ (c .before .before .if1 .left)) (taken _ _ _ (eq-eqb _ _ (c .before .if2 .taken))))
 
-nowhere-requires-3 : tie.Need-nowhere-requires-3
-nowhere-requires-3 c κs = search needs
-
 returns-3 : tie.Need-returns-3
 unfolding groupOrders
 returns-3 c = rw (c .nowhere3 .ensures) (entered _ _ _ _ (eq-eqb _ _ (c .before .before .before .if1 .left)) (left _ _ _ _ (ne-eqb _ _ (c .before .before .if2 .left)) (left _ _ _ _ (lt-leb _ _ (c .before .if3 .taken)) refl)))
-
-judge-lines-requires : tie.Need-judge-lines-requires
-judge-lines-requires c κs = search needs
 
 returns-4 : tie.Need-returns-4
 unfolding groupOrders
@@ -39,11 +27,11 @@ pub judge-spec : {M : Type 1} → statement M
 judge-spec =
     tie.close
     (tie.spec
-    nowhere-requires
+    (λ c κs. search needs)
     returns
-    nowhere-requires-2
+    (λ c κs. search needs)
     returns-2
-    nowhere-requires-3
+    (λ c κs. search needs)
     returns-3
-    judge-lines-requires
+    (λ c κs. search needs)
     returns-4)

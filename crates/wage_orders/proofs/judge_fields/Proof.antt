@@ -4,18 +4,6 @@ use borrow.Author.Needs.{needs}
 use Rattle.wage_orders.proofs.judge_fields.Statement.{statement}
 use Rattle.wage_orders.proofs.judge_fields.Tie as tie
 
-judge-places-requires : tie.Need-judge-places-requires
-judge-places-requires c κs = search needs
-
-enum-told : tie.Need-enum-told
-enum-told c = search needs
-
-enum-known-r : tie.Need-enum-known-r
-enum-known-r c = search needs
-
-in-line-requires : tie.Need-in-line-requires
-in-line-requires c κs = search needs
-
 returns : tie.Need-returns
 returns c = rw (sym (c .before .before .judge-places .ensures) ∙ c .enum-told .given .1)
 
@@ -25,4 +13,4 @@ returns-2 c = rw (c .in-line .ensures, sym (c .before .before .before .before .j
 pub judge-fields-spec : {M : Type 1} → statement M
 judge-fields-spec =
     tie.close
-    (tie.spec judge-places-requires enum-told enum-known-r in-line-requires returns returns-2)
+    (tie.spec (λ c κs. search needs) (λ c. search needs) (λ c. search needs) (λ c κs. search needs) returns returns-2)

@@ -4,18 +4,6 @@ use borrow.Author.Needs.{needs}
 use Rattle.wage_writer.proofs.draft_line.Statement.{statement}
 use Rattle.wage_writer.proofs.draft_line.Tie as tie
 
-dress-requires : tie.Need-dress-requires
-dress-requires c κs = search needs
-
-count-requires : tie.Need-count-requires
-count-requires c κs = search needs
-
-draft-requires : tie.Need-draft-requires
-draft-requires c κs = search needs
-
-same-length : tie.Need-same-length
-same-length c = search needs
-
 returns : tie.Need-returns
 returns c =
     let z = c .before .before .before .before .before .before .before .before .before .before .before .before in
@@ -23,4 +11,4 @@ returns c =
 
 pub draft-line-spec : {M : Type 1} → statement M
 draft-line-spec =
-    tie.close (tie.spec dress-requires count-requires draft-requires same-length returns)
+    tie.close (tie.spec (λ c κs. search needs) (λ c κs. search needs) (λ c κs. search needs) (λ c. search needs) returns)

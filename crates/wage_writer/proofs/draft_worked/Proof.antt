@@ -5,24 +5,6 @@ use borrow.Author.Needs.{needs}
 use Rattle.wage_writer.proofs.draft_worked.Statement.{statement}
 use Rattle.wage_writer.proofs.draft_worked.Tie as tie
 
-slice-aggregate-put-worked : tie.Need-slice-aggregate-put-worked
-slice-aggregate-put-worked c = search needs
-
-put-worked-requires : tie.Need-put-worked-requires
-put-worked-requires c κs = search needs
-
-slice-aggregate-draft : tie.Need-slice-aggregate-draft
-slice-aggregate-draft c = search needs
-
-slice-aggregate-draft-2 : tie.Need-slice-aggregate-draft-2
-slice-aggregate-draft-2 c = search needs
-
-draft-requires : tie.Need-draft-requires
-draft-requires c κs = search needs
-
-same-length : tie.Need-same-length
-same-length c = search needs
-
 returns : tie.Need-returns
 returns c = rw (c .before .before .before .before .before .before .before .put-worked .ensures, two-fields _ _ (digits-length 5 _) (digits-length 20 _)) at (c .before .before .draft .ensures)
 
@@ -30,10 +12,10 @@ pub draft-worked-spec : {M : Type 1} → statement M
 draft-worked-spec =
     tie.close
     (tie.spec
-    slice-aggregate-put-worked
-    put-worked-requires
-    slice-aggregate-draft
-    slice-aggregate-draft-2
-    draft-requires
-    same-length
+    (λ c. search needs)
+    (λ c κs. search needs)
+    (λ c. search needs)
+    (λ c. search needs)
+    (λ c κs. search needs)
+    (λ c. search needs)
     returns)

@@ -5,20 +5,11 @@ use borrow.Author.Needs.{needs}
 use Rattle.wage_writer.proofs.put_line.Statement.{statement}
 use Rattle.wage_writer.proofs.put_line.Tie as tie
 
-nowhere-requires : tie.Need-nowhere-requires
-nowhere-requires c κs = search needs
-
 returns : tie.Need-returns
 returns c = room-short (c .before .before .before .before .args .line .now) (c .before .before .before .before .args .out .now) _ (c .before .if1 .taken) (c .nowhere .ensures)
-
-put-requires : tie.Need-put-requires
-put-requires c κs = search needs
-
-same-length : tie.Need-same-length
-same-length c = search needs
 
 returns-2 : tie.Need-returns-2
 returns-2 c = room-enough (c .before .before .before .before .before .before .before .args .line .now) (c .before .before .before .before .before .before .before .args .out .now) _ (c .before .before .before .before .before .before .before .pre) (omega arith) (c .before .before .put .ensures)
 
 pub put-line-spec : {M : Type 1} → statement M
-put-line-spec = tie.close (tie.spec nowhere-requires returns put-requires same-length returns-2)
+put-line-spec = tie.close (tie.spec (λ c κs. search needs) returns (λ c κs. search needs) (λ c. search needs) returns-2)

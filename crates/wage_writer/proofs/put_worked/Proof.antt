@@ -4,24 +4,6 @@ use borrow.Author.Needs.{needs}
 use Rattle.wage_writer.proofs.put_worked.Statement.{statement}
 use Rattle.wage_writer.proofs.put_worked.Tie as tie
 
-number-requires : tie.Need-number-requires
-number-requires c κs = search needs
-
-total-requires : tie.Need-total-requires
-total-requires c κs = search needs
-
-put-digits-requires : tie.Need-put-digits-requires
-put-digits-requires c κs = search needs
-
-put-digits-requires-2 : tie.Need-put-digits-requires-2
-put-digits-requires-2 c κs = search needs
-
-put-digits-requires-3 : tie.Need-put-digits-requires-3
-put-digits-requires-3 c κs = search needs
-
-same-length : tie.Need-same-length
-same-length c = search needs
-
 returns : tie.Need-returns
 returns c =
     let z = c .before .before .before .before .before .before .before .before .before .before .before .before .before .before .before .before in
@@ -31,10 +13,10 @@ pub put-worked-spec : {M : Type 1} → statement M
 put-worked-spec =
     tie.close
     (tie.spec
-    number-requires
-    total-requires
-    put-digits-requires
-    put-digits-requires-2
-    put-digits-requires-3
-    same-length
+    (λ c κs. search needs)
+    (λ c κs. search needs)
+    (λ c κs. search needs)
+    (λ c κs. search needs)
+    (λ c κs. search needs)
+    (λ c. search needs)
     returns)

@@ -7,20 +7,8 @@ use borrow.Author.Needs.{needs}
 use Rattle.wage_writer.proofs.sizes_behind.Statement.{statement}
 use Rattle.wage_writer.proofs.sizes_behind.Tie as tie
 
-slice-aggregate-result : tie.Need-slice-aggregate-result
-slice-aggregate-result c = search needs
-
 returns : tie.Need-returns
 returns c = sym (drop-of-length-le (c .before .before .args .sizes .now) {i = 4} (omega arith))
-
-sub-result : tie.Need-sub-result
-sub-result c = search needs
-
-part-result-start : tie.Need-part-result-start
-part-result-start c = search needs
-
-part-result-end : tie.Need-part-result-end
-part-result-end c = search needs
 
 returns-2 : tie.Need-returns-2
 returns-2 c = to-the-end 4 (c .before .before .args .sizes .now)
@@ -29,9 +17,9 @@ pub sizes-behind-spec : {M : Type 1} → statement M
 sizes-behind-spec =
     tie.close
     (tie.spec
-    slice-aggregate-result
+    (λ c. search needs)
     returns
-    sub-result
-    part-result-start
-    part-result-end
+    (λ c. search needs)
+    (λ c. search needs)
+    (λ c. search needs)
     returns-2)

@@ -8,30 +8,9 @@ use borrow.Author.Needs.{needs}
 use Rattle.wage_writer.proofs.write_closing.Statement.{statement}
 use Rattle.wage_writer.proofs.write_closing.Tie as tie
 
-is-date-requires : tie.Need-is-date-requires
-is-date-requires c κs = search needs
-
-nowhere-requires : tie.Need-nowhere-requires
-nowhere-requires c κs = search needs
-
 returns : tie.Need-returns
 unfolding closingAnswer
 returns c = day-wrong _ _ _ _ _ (sym (c .before .before .is-date .ensures) ∙ not-true _ (c .before .if1 .taken)) (c .nowhere .ensures)
-
-slice-aggregate-dress : tie.Need-slice-aggregate-dress
-slice-aggregate-dress c = search needs
-
-dress-requires : tie.Need-dress-requires
-dress-requires c κs = search needs
-
-slice-aggregate-put-line : tie.Need-slice-aggregate-put-line
-slice-aggregate-put-line c = search needs
-
-put-line-requires : tie.Need-put-line-requires
-put-line-requires c κs = search needs
-
-same-length : tie.Need-same-length
-same-length c = search needs
 
 returns-2 : tie.Need-returns-2
 unfolding closingAnswer
@@ -43,12 +22,12 @@ pub write-closing-spec : {M : Type 1} → statement M
 write-closing-spec =
     tie.close
     (tie.spec
-    is-date-requires
-    nowhere-requires
+    (λ c κs. search needs)
+    (λ c κs. search needs)
     returns
-    slice-aggregate-dress
-    dress-requires
-    slice-aggregate-put-line
-    put-line-requires
-    same-length
+    (λ c. search needs)
+    (λ c κs. search needs)
+    (λ c. search needs)
+    (λ c κs. search needs)
+    (λ c. search needs)
     returns-2)

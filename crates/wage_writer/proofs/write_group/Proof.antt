@@ -8,33 +8,15 @@ use borrow.Author.Needs.{needs}
 use Rattle.wage_writer.proofs.write_group.Statement.{statement}
 use Rattle.wage_writer.proofs.write_group.Tie as tie
 
-is-date-requires : tie.Need-is-date-requires
-is-date-requires c κs = search needs
-
-nowhere-requires : tie.Need-nowhere-requires
-nowhere-requires c κs = search needs
-
 returns : tie.Need-returns
 unfolding groupAnswer
 returns c = day-wrong _ _ _ _ _ (sym (c .before .before .is-date .ensures) ∙ not-true _ (c .before .if1 .taken)) (c .nowhere .ensures)
-
-is-kind-requires : tie.Need-is-kind-requires
-is-kind-requires c κs = search needs
-
-nowhere-requires-2 : tie.Need-nowhere-requires-2
-nowhere-requires-2 c κs = search needs
 
 returns-2 : tie.Need-returns-2
 unfolding groupAnswer
 returns-2 c =
     day-right _ _ _ _ _ _ (sym (c .before .before .before .before .is-date .ensures) ∙ not-false _ (c .before .before .before .if1 .left))
     (kind-wrong _ _ (c .before .before .before .before .before .before .before .before .before .args .kind) _ _ (sym (c .before .before .is-kind .ensures) ∙ not-true _ (c .before .if2 .taken)) (c .nowhere2 .ensures))
-
-judge-requires : tie.Need-judge-requires
-judge-requires c κs = search needs
-
-enum-known-r : tie.Need-enum-known-r
-enum-known-r c = search needs
 
 returns-3 : tie.Need-returns-3
 unfolding groupAnswer
@@ -43,14 +25,8 @@ returns-3 c =
     (kind-right _ _ (c .before .before .before .before .before .before .before .before .before .before .before .before .args .kind) _ _ _ (sym (c .before .before .before .before .before .is-kind .ensures) ∙ not-false _ (c .before .before .before .before .if2 .left))
     (refused-first _ _ _ _ _ (sym (c .before .before .before .judge .ensures) ∙ c .before .r .given .1)))
 
-enum-told : tie.Need-enum-told
-enum-told c = search needs
-
 write-judged-requires : tie.Need-write-judged-requires
 write-judged-requires c κs = accepted-small _ _ _ (sym (c .before .before .before .judge .ensures) ∙ c .before .enum-told .given .1)
-
-same-length : tie.Need-same-length
-same-length c = search needs
 
 returns-4 : tie.Need-returns-4
 unfolding groupAnswer
@@ -63,16 +39,16 @@ pub write-group-spec : {M : Type 1} → statement M
 write-group-spec =
     tie.close
     (tie.spec
-    is-date-requires
-    nowhere-requires
+    (λ c κs. search needs)
+    (λ c κs. search needs)
     returns
-    is-kind-requires
-    nowhere-requires-2
+    (λ c κs. search needs)
+    (λ c κs. search needs)
     returns-2
-    judge-requires
-    enum-known-r
+    (λ c κs. search needs)
+    (λ c. search needs)
     returns-3
-    enum-told
+    (λ c. search needs)
     write-judged-requires
-    same-length
+    (λ c. search needs)
     returns-4)

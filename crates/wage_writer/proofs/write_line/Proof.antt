@@ -4,29 +4,8 @@ use borrow.Author.Needs.{needs}
 use Rattle.wage_writer.proofs.write_line.Statement.{statement}
 use Rattle.wage_writer.proofs.write_line.Tie as tie
 
-slice-aggregate-draft-line : tie.Need-slice-aggregate-draft-line
-slice-aggregate-draft-line c = search needs
-
-draft-line-requires : tie.Need-draft-line-requires
-draft-line-requires c κs = search needs
-
-enum-known-r : tie.Need-enum-known-r
-enum-known-r c = search needs
-
 returns : tie.Need-returns
 returns c = draft-refused _ _ _ (c .before .before .before .before .draft-line .ensures) _ _ _ (c .before .r .given .1)
-
-enum-told : tie.Need-enum-told
-enum-told c = search needs
-
-slice-aggregate-put-line : tie.Need-slice-aggregate-put-line
-slice-aggregate-put-line c = search needs
-
-put-line-requires : tie.Need-put-line-requires
-put-line-requires c κs = search needs
-
-same-length : tie.Need-same-length
-same-length c = search needs
 
 returns-2 : tie.Need-returns-2
 returns-2 c = draft-written _ _ _ (c .before .before .before .before .before .before .before .before .draft-line .ensures) _ _ (c .before .before .before .before .before .enum-told .given .1) _ _ (c .before .before .put-line .ensures)
@@ -35,12 +14,12 @@ pub write-line-spec : {M : Type 1} → statement M
 write-line-spec =
     tie.close
     (tie.spec
-    slice-aggregate-draft-line
-    draft-line-requires
-    enum-known-r
+    (λ c. search needs)
+    (λ c κs. search needs)
+    (λ c. search needs)
     returns
-    enum-told
-    slice-aggregate-put-line
-    put-line-requires
-    same-length
+    (λ c. search needs)
+    (λ c. search needs)
+    (λ c κs. search needs)
+    (λ c. search needs)
     returns-2)
