@@ -13,7 +13,7 @@ use lib.Seq.{drop-cons, drop-length}
 use borrow.Author.Tests.{ne-eqb, lt-leb, le-leb, ltb-true, ltb-false}
 use Rattle.text.specs.Bytes.{later}
 use Rattle.text.specs.declared.Found.the-variants.{At, Nothing}
-use Rattle.text.proofs.Laws.{taken, left, both-true, shifted, shifted-zero, shifted-later}
+use Rattle.text.proofs.Laws.{taken, left, both-true, shifted, shifted-zero, shifted-later, Below, below-later}
 use Rattle.refusal.specs.Verdict.{wrongAt}
 use Rattle.refusal.proofs.Verdicts.{refused}
 use Rattle.characters.specs.Answers.{charactersVerdict}
@@ -153,6 +153,26 @@ module _ (s : List ℕ) (i n : ℕ) (p : Passed s i n) where
               ∙ ap (λ (k : ℕ). n + k) (pair-counted (getD s i 0) (getD s (i + 1) 0) r e)
               ∙ omega arith;
         }
+
+-- ---------------------------------------------------------------------------
+-- Where the scan stops: within the text
+
+-- what the scan for characters finds
+pub wrong-below : (s : List ℕ) → Below (length s) (firstWrong s)
+unfolding firstWrong
+wrong-below [] = tt
+wrong-below (b ∷ []) = go (isSingle b)
+  where
+    go : (t : Bool) → Below 1 (cond t Nothing (At 0))
+    go true = tt
+    go false = omega arith
+wrong-below (b ∷ (c ∷ s)) = go (isSingle b) (isPair b c) (wrong-below (c ∷ s)) (wrong-below s)
+  where
+    go : (t u : Bool) → Below (suc (length s)) (firstWrong (c ∷ s)) → Below (length s) (firstWrong s) →
+        Below (suc (suc (length s))) (cond t (later (firstWrong (c ∷ s))) (cond u (later (later (firstWrong s))) (At 0)))
+    go true u f g = below-later (suc (length s)) (firstWrong (c ∷ s)) f
+    go false true f g = below-later (suc (length s)) (later (firstWrong s)) (below-later (length s) (firstWrong s) g)
+    go false false f g = omega arith
 
 -- ---------------------------------------------------------------------------
 -- The answers, by what the scan came to
