@@ -1,22 +1,22 @@
--- `text::count_marks` meets its contract. The loop's invariant: the marks passed and those left from `i` on make up the whole. Assumes nothing.
+-- `text::count` meets its contract. The loop's invariant: the bytes `c` passed and those left from `i` on make up the whole. Assumes nothing.
 use Prim.Native.Nat.{_≤_, _+_, _-_}
 use mathlib.Core.Path.{_≡_, sym, _∙_}
 use native.Mathlib.Omega.{arith}
 use native.Mathlib.Nat.{zero-add}
 use lib.ListN.{length, drop}
-use Rattle.text.specs.Bytes.{marks}
-use Rattle.text.proofs.Laws.{marks-more, marks-same, marks-end}
-use Rattle.text.proofs.count_marks.Statement.{statement}
-use Rattle.text.proofs.count_marks.Tie as tie
+use Rattle.text.specs.Bytes.{countOf}
+use Rattle.text.proofs.Laws.{count-more, count-same, count-end}
+use Rattle.text.proofs.count.Statement.{statement}
+use Rattle.text.proofs.count.Tie as tie
 
 abbrev Inv-loop : tie.InvT-loop
-Inv-loop s n₀ i₀ n i = (i ≤ length s) × ((n ≤ i) × (marks s ≡ n + marks (drop i s)))
+Inv-loop b s n₀ i₀ n i = (i ≤ length s) × ((n ≤ i) × (countOf b s ≡ n + countOf b (drop i s)))
 
 abbrev μ-loop : tie.MeasureT-loop
-μ-loop s n₀ i₀ n i = length s - i
+μ-loop b s n₀ i₀ n i = length s - i
 
 loop-holds : tie.Need-loop-holds Inv-loop μ-loop
-loop-holds c = (omega arith, (omega arith, sym (zero-add (marks (c .args .s .now)))))
+loop-holds c = (omega arith, (omega arith, sym (zero-add (countOf (c .args .c) (c .args .s .now)))))
 
 shared-slice-read-if1 : tie.Need-shared-slice-read-if1 Inv-loop μ-loop
 shared-slice-read-if1 c = omega arith
@@ -34,7 +34,7 @@ loop-again : tie.Need-loop-again Inv-loop μ-loop
 loop-again c =
     let s = c .before .before .before .before .args .s .now in
     let l = c .before .before .before .loop in
-    (omega arith, (omega arith, l .inv .1 .1 ∙ marks-more s (l .i) (l .n) (omega arith) (c .if1 .taken)))
+    (omega arith, (omega arith, l .inv .1 .1 ∙ count-more (c .before .before .before .before .args .c) s (l .i) (l .n) (omega arith) (c .if1 .taken)))
 
 add-i-2 : tie.Need-add-i-2 Inv-loop μ-loop
 add-i-2 c = omega arith
@@ -46,15 +46,15 @@ loop-again-2 : tie.Need-loop-again-2 Inv-loop μ-loop
 loop-again-2 c =
     let s = c .before .before .before .before .args .s .now in
     let l = c .before .before .before .loop in
-    (omega arith, (omega arith, l .inv .1 .1 ∙ marks-same s (l .i) (l .n) (omega arith) (c .if1 .left)))
+    (omega arith, (omega arith, l .inv .1 .1 ∙ count-same (c .before .before .before .before .args .c) s (l .i) (l .n) (omega arith) (c .if1 .left)))
 
 returns : tie.Need-returns Inv-loop μ-loop
 returns c =
     let l = c .before .loop in
-    marks-end (c .before .before .args .s .now) (l .i) (l .n) (omega arith) (omega arith) ∙ sym (l .inv .1 .1)
+    count-end (c .before .before .args .c) (c .before .before .args .s .now) (l .i) (l .n) (omega arith) (omega arith) ∙ sym (l .inv .1 .1)
 
-pub count-marks-spec : {M : Type 1} → statement M
-count-marks-spec =
+pub count-spec : {M : Type 1} → statement M
+count-spec =
     tie.close
     (tie.spec
     Inv-loop
