@@ -6,7 +6,7 @@ use mathlib.Core.List.{List, [], _∷_}
 use Prim.Native.Nat.{ℕ, zero, suc, _+_, _-_, _≤_, _<_}
 use native.Mathlib.Numerals.{add-one}
 use native.Mathlib.Omega.{arith}
-use native.Mathlib.Nat.{add-zero}
+use native.Mathlib.Nat.{zero-add, add-zero}
 use lib.Dec.{eqb, leb}
 use lib.ListN.{length, take, drop, getD, length-drop}
 use lib.Seq.{drop-drop, length-take-le, take-all}
@@ -130,23 +130,48 @@ start-behind s t i k h = rw (first-piece 10 t .2, length-take-le i s h)
 abbrev pub behind : ℕ → Part → Part
 behind n p = record { start = n + p .start; length = p .length }
 
--- where a text's pieces stand, where a scan for its first line feed found one, and where not
-pub piece-first : (s : List ℕ) (r : ℕ) → r ≡ length (pieceOf 0 (split 10 s)) → _≡_ {A = Part} (record { start = 0; length = r }) (piecePart 0 (split 10 s))
-unfolding startOf
-piece-first s r e = rw e
+-- nothing further on
+pub behind-none : (p : Part) → p ≡ behind 0 p
+behind-none p = rw (zero-add (p .start))
 
-pub piece-past : (s : List ℕ) (k : ℕ) → 0 < k → firstBad Line s ≡ Nothing → piecePart k (split 10 s) ≡ record { start = 0; length = 0 }
+-- past the end of a text without a line feed there is no piece
+piece-past : (s : List ℕ) (k : ℕ) → 0 < k → firstBad Line s ≡ Nothing → piecePart k (split 10 s) ≡ record { start = 0; length = 0 }
 unfolding startOf pieceOf
 piece-past s zero h e = absurd (omega arith)
 piece-past s (suc k) h e = rw (split-whole s e)
 
-pub piece-on : (s : List ℕ) (k i : ℕ) → 0 < k → firstBad Line s ≡ At i → piecePart k (split 10 s) ≡ behind (i + 1) (piecePart (k - 1) (split 10 (drop (i + 1) s)))
+-- behind its first line feed stand the others
+piece-on : (s : List ℕ) (k i : ℕ) → 0 < k → firstBad Line s ≡ At i → piecePart k (split 10 s) ≡ behind (i + 1) (piecePart (k - 1) (split 10 (drop (i + 1) s)))
 unfolding pieceOf
 piece-on s zero i h e = absurd (omega arith)
 piece-on s (suc k) i h e =
     let d = split-at s i e in
     let z : suc k - 1 ≡ k = omega arith in
     rw (d .1, start-behind s (drop (i + 1) s) i k (omega (arith, d .0)), z)
+
+-- the piece that is `left` pieces on from place `at`
+module _ (s : List ℕ) (at left : ℕ) where
+  -- a line feed: one piece fewer
+  pub piece-again :
+      (i : ℕ) → 0 < left → firstBad Line (take (length s - at) (drop at s)) ≡ At i
+      → behind at (piecePart left (split 10 (drop at s))) ≡ behind (at + (i + 1)) (piecePart (left - 1) (split 10 (drop (at + (i + 1)) s)))
+  piece-again i h e =
+      let q : at + (i + 1 + startOf (left - 1) (split 10 (drop (at + (i + 1)) s))) ≡ at + (i + 1) + startOf (left - 1) (split 10 (drop (at + (i + 1)) s)) = omega arith in
+      ap (behind at) (piece-on (drop at s) left i h (rw (to-the-end at s) at e)) ∙ rw (drop-drop (i + 1) at s, q)
+
+  -- none: it has no byte
+  pub piece-none : 0 < left → firstBad Line (take (length s - at) (drop at s)) ≡ Nothing → record { start = at; length = 0 } ≡ behind at (piecePart left (split 10 (drop at s)))
+  piece-none h e = base ∙ ap (behind at) (sym (piece-past (drop at s) left h (rw (to-the-end at s) at e)))
+    where
+      base : record { start = at; length = 0 } ≡ behind at (record { start = 0; length = 0 })
+      base = rw (add-zero at)
+
+  -- it is the first
+  pub piece-here :
+      (r : ℕ) → left ≤ 0 → r ≡ length (pieceOf 0 (split 10 (take (length s - at) (drop at s))))
+      → record { start = at; length = r } ≡ behind at (piecePart left (split 10 (drop at s)))
+  unfolding startOf
+  piece-here r h e = let z : left ≡ 0 = omega arith in rw (z, e, to-the-end at s, add-zero at)
 
 -- its bytes are the piece's, and lie within the text
 abbrev pub Stands : List ℕ → List ℕ → Part → Type 0

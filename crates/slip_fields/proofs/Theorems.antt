@@ -1,23 +1,23 @@
 -- What is promised of the fields of a slip: which bytes an accepted field has, how many, what it depends on, and one answer.
 -- Assumes nothing.
 use mathlib.Core.Path.{_≡_, refl, ap}
-use mathlib.Core.Bool.{Bool, true, false, cond}
+use mathlib.Core.Bool.{Bool, true, false, cond, _||_}
 use mathlib.Core.List.{List}
 use Prim.Native.Nat.{ℕ, _+_, _≤_}
 use native.Mathlib.Omega.{arith}
-use lib.Dec.{eqb}
+use lib.Dec.{eqb, leb}
 use lib.ListN.{length}
 use borrow.Author.Tests.{ne-eqb}
 use Rattle.refusal.specs.Only.{Only, defined-only}
 use Rattle.refusal.specs.Verdict.{Within}
 use Rattle.refusal.proofs.Verdicts.{choice-within, then-within, only-within}
-use Rattle.text.specs.Bytes.{permits, allOf, eur}
+use Rattle.text.specs.Bytes.{permits, allOf, same, eur}
 use Rattle.text.specs.declared.Class.{Class}
 use Rattle.text.specs.declared.Class.the-variants.{Digits, Account, Reference, Line, Letters}
 use Rattle.text.proofs.Laws.{bytes-within, found-within, all-passes}
-use Rattle.characters.specs.Characters.{firstWrong}
+use Rattle.characters.specs.Characters.{firstWrong, characters}
 use Rattle.characters.proofs.Laws.{wrong-below}
-use Rattle.account.proofs.Laws.{iban-within}
+use Rattle.account.proofs.Theorems.{iban-within}
 use Rattle.models.proofs.Theorems.{model-within}
 use Rattle.reference.proofs.Theorems.{reference-within}
 use Rattle.slip_fields.specs.Fields.{hrvhub30, sizedVerdict, mostOf, fieldVerdict}
@@ -127,20 +127,20 @@ total-size = refl
 pub field-within : (n : ℕ) (m s : List ℕ) → Within (length s) (fieldVerdict n m s)
 unfolding fieldVerdict
 field-within n m s =
-    choose (eqb n 1) _ _ (only-within _ _ 5 (omega arith))
-    (choose (eqb n 2) _ _ (only-within _ _ 5 (omega arith))
+    choose (eqb n 1) _ _ (only-within _ (same hrvhub30 s) 5 (omega arith))
+    (choose (eqb n 2) _ _ (only-within _ (same eur s) 5 (omega arith))
     (choose (eqb n 3) _ _ (sized Digits 15 15)
     (choose (eqb n 10) _ _ (iban-within s)
     (choose (eqb n 11) _ _ (model-within (length s) s)
     (choose (eqb n 12) _ _ (reference-within m s)
     (choose (eqb n 13) _ _ (sized Letters 0 4)
-    (then-within (length s) _ _ (found-within (length s) (firstWrong s) (wrong-below s)) (only-within _ _ 4 (omega arith)))))))))
+    (then-within (length s) _ _ (found-within (length s) (firstWrong s) (wrong-below s)) (only-within _ (leb (characters s) (mostOf n)) 4 (omega arith)))))))))
   where
     choose : (b : Bool) (v w : ℕ) → Within (length s) v → Within (length s) w → Within (length s) (cond b v w)
     choose = choice-within (length s)
 
     sized : (k : Class) (a b : ℕ) → Within (length s) (sizedVerdict k a b s)
-    sized k a b = then-within (length s) _ _ (bytes-within k s) (only-within _ _ 4 (omega arith))
+    sized k a b = then-within (length s) _ _ (bytes-within k s) (only-within (length s) (eqb (length s) a || eqb (length s) b) 4 (omega arith))
 
 -- ---------------------------------------------------------------------------
 -- Any two answers that a contract allows are equal

@@ -1,0 +1,10 @@
+-- `slip::is_accepted` meets its contract. Assumes nothing.
+use borrow.Author.Needs.{needs}
+use Rattle.slip.proofs.is_accepted.Statement.{statement}
+use Rattle.slip.proofs.is_accepted.Tie as tie
+
+returns : tie.Need-returns
+returns c = rw (c .is-accepted .ensures, c .before .read .ensures)
+
+pub is-accepted-spec : {M : Type 1} → statement M
+is-accepted-spec = tie.close (tie.spec (λ c κs. search needs) (λ c κs. search needs) returns)
