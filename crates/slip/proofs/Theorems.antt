@@ -11,9 +11,9 @@ use lib.Dec.{eqb, leb}
 use lib.ListN.{length, getD}
 use borrow.Author.Tests.{eq-eqb, eqb-true, leb-true}
 use Rattle.refusal.specs.Only.{Only, defined-only}
-use Rattle.refusal.specs.Refusal.{none, firstOf}
+use Rattle.refusal.specs.Refusal.{none}
 use Rattle.refusal.specs.Verdict.{answerAt}
-use Rattle.refusal.proofs.Verdicts.{answer-accepted}
+use Rattle.refusal.proofs.Verdicts.{answer-accepted, first-both}
 use Rattle.refusal.specs.declared.Answer.{Answer}
 use Rattle.refusal.specs.declared.Answer.the-variants.{Accepted, Refused}
 use Rattle.refusal.specs.declared.Refusal.{Refusal}
@@ -49,11 +49,6 @@ pub record Right (s : List ℕ) : Type 0 where
 chosen : (b : Bool) (x : Answer) (q : Refusal) → cond b x (Refused q) ≡ Accepted → (b ≡ true) × (x ≡ Accepted)
 chosen true x q e = (refl, e)
 chosen false x q e = let z : _≡_ {A = ℕ} 0 1 = cc in absurd (omega arith)
-
--- a field and the rest accept where both do
-first-both : (a rest : Answer) → firstOf a rest ≡ Accepted → (a ≡ Accepted) × (rest ≡ Accepted)
-first-both Accepted rest e = (refl, e)
-first-both (Refused r) rest e = let z : _≡_ {A = ℕ} 0 1 = cc in absurd (omega arith)
 
 -- the fields of an accepted slip are each accepted, up to the last line feed
 fields-each : (n start : ℕ) (m : List ℕ) (ps : List (List ℕ)) → fieldsAnswer n start m ps ≡ Accepted → (k : ℕ) → k + 1 < length ps → fieldVerdict (n + k) (getD (m ∷ ps) k []) (getD ps k []) ≡ 0

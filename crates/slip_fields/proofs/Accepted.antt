@@ -161,7 +161,10 @@ pub reference-is : (m s : List ℕ) → referenceVerdict m s ≡ 0 → (bytesVer
 reference-is m s e = by-number (modelNumber m) e
   where
     by-number : (f : Found) → referenceFrom s f ≡ 0 → (bytesVerdict Reference s ≡ 0) × (length s ≤ 22)
-    by-number f q = absurd (omega arith)
+    by-number (At n) q =
+        let h = both-pass (bytesVerdict Reference s) _ (both-pass _ _ q .1) in
+        (h .0, leb-true (length s) 22 (test-holds _ 4 refl (both-pass _ _ (h .1) .0)))
+    by-number Nothing q = absurd (omega arith)
 
 -- ---------------------------------------------------------------------------
 -- Texts
