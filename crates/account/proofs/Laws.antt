@@ -1,9 +1,9 @@
 -- An IBAN's number, taken in runs of digits as the code takes it; what an IBAN's form decides.
 -- Assumes nothing.
 use mathlib.Core.Path.{_≡_, refl, sym, ap, _∙_}
-use mathlib.Core.Bool.{Bool, true, false, _&&_, and-false}
+use mathlib.Core.Bool.{true, false, _&&_, and-false}
 use mathlib.Core.List.{List, [], _∷_, _++_}
-use Prim.Native.Nat.{ℕ, suc, _^_, _+_, _-_, _*_, _/_, _%_, _≤_, _<_}
+use Prim.Native.Nat.{ℕ, suc, _^_, _+_, _*_, _/_, _%_, _≤_, _<_}
 use native.Mathlib.Nat.{div-add-mod, add-mul-mod-self-left, add-mul, mul-assoc, mul-comm, pow-suc}
 use native.Mathlib.Omega.{arith}
 use lib.Dec.{eqb, leb}
@@ -16,7 +16,7 @@ use Rattle.text.specs.Digits.{digitsOf, valueFrom, valueOf}
 use Rattle.text.proofs.Laws.{digits-append, value-append, all-apart, all-wider, all-passes, both-true, or-first}
 use Rattle.sums.specs.Sums.{numberIn}
 use Rattle.sums.proofs.Theorems.{text-small, number-of-all}
-use Rattle.account.specs.Account.{checkDigits, inRange, rearranged, ibanFormed, ibanPasses}
+use Rattle.account.specs.Account.{checkDigits, rearranged, ibanFormed, ibanPasses}
 
 -- ---------------------------------------------------------------------------
 -- Runs of digits
