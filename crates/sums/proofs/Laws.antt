@@ -33,7 +33,7 @@ pub carried-digit : (high low d : ℕ) → (high * 10 + (low / limb * 10 + (low 
 carried-digit high low d = omega (arith, in-limbs low, in-limbs (low % limb * 10 + d))
 
 module _ (a b c d : ℕ) where
-  -- two tests of numbers agree where what they test does
+  -- two tests agree where what they test does: which number is less
   pub same-less : (a < b → c < d) → (b ≤ a → d ≤ c) → ltb a b ≡ ltb c d
   same-less f g = go (ltb a b) refl
     where
@@ -41,6 +41,7 @@ module _ (a b c d : ℕ) where
       go true e = sym (lt-ltb c d (f (ltb-true a b e)))
       go false e = sym (le-ltb c d (g (ltb-false a b e)))
 
+  -- and whether two are the same
   pub same-equal : (a ≡ b → c ≡ d) → (c ≡ d → a ≡ b) → eqb a b ≡ eqb c d
   same-equal f g = go (eqb a b) refl
     where
@@ -87,7 +88,7 @@ no-cents (suc k) = sum-small (suc k) 0 (omega arith)
 
 module _ (most : ℕ) where
   -- whatever makes no number smaller
-  pub counted-on : (f : ℕ → ℕ) → ((m : ℕ) → m ≤ f m) → (n : ℕ) → sumOf most (f (centsOf (sumOf most n))) ≡ sumOf most (f n)
+  counted-on : (f : ℕ → ℕ) → ((m : ℕ) → m ≤ f m) → (n : ℕ) → sumOf most (f (centsOf (sumOf most n))) ≡ sumOf most (f n)
   counted-on f up n = go (ltb n (most * limb)) refl
     where
       go : (t : Bool) → ltb n (most * limb) ≡ t → sumOf most (f (centsOf (sumOf most n))) ≡ sumOf most (f n)
