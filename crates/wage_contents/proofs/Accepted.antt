@@ -15,8 +15,9 @@ use Rattle.text.specs.declared.Class.{Class}
 use Rattle.text.specs.declared.Class.the-variants.{Digits, Reference, Letters, Blanks, Zeros, Place, Description}
 use Rattle.text.proofs.Laws.{both-true, all-passes, passes-all}
 use Rattle.text.proofs.Blanks.{trimmed-blanks, trimmed-some}
-use Rattle.account.specs.Account.{ibanFormed, ibanPasses, oibPasses}
+use Rattle.account.specs.Account.{oibPasses}
 use Rattle.account.specs.Answers.{isIban}
+use Rattle.account.proofs.Theorems.{iban-accepted-exactly}
 use Rattle.dates.specs.Dates.{isDate}
 use Rattle.codes.specs.Codes.{codePlace}
 use Rattle.sums.specs.Sums.{numberIn}
@@ -93,7 +94,7 @@ iban-place-accepted blank f =
     both (bytesVerdict Place f) _ (allOf Place f) ((blank && allOf Blanks f) || (allOf Blanks (drop 21 f) && isIban g)) (bytes-accepted Place f)
     (if-not (blank && allOf Blanks f) _ (allOf Blanks (drop 21 f) && isIban g)
     (both (onlyIf (allOf Blanks (drop 21 f)) 5) _ (allOf Blanks (drop 21 f)) (isIban g) (if-tested (allOf Blanks (drop 21 f)) 5 refl)
-    (both (onlyIf (ibanFormed g) 5) (onlyIf (ibanPasses g) 6) (ibanFormed g) (ibanPasses g) (if-tested (ibanFormed g) 5 refl) (if-tested (ibanPasses g) 6 refl))))
+    (iban-accepted-exactly g)))
 
 -- `EUR`, or blank where that may be
 pub currency-accepted : (blank : Bool) (f : List ℕ) → Exactly (currencyVerdict blank f) ((blank && allOf Blanks f) || same eur f)

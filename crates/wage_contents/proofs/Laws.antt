@@ -12,7 +12,7 @@ use Rattle.text.specs.declared.Class.the-variants.{Account, Blanks, Place}
 use Rattle.text.proofs.Laws.{or-first, both-true, all-joined, all-wider, all-passes, passes-all}
 use Rattle.account.specs.Account.{ibanFormed, ibanPasses}
 use Rattle.account.specs.Answers.{isIban}
-use Rattle.account.proofs.Laws.{formed-passes}
+use Rattle.account.proofs.Laws.{formed-permitted}
 use Rattle.refusal.proofs.Verdicts.{pass-both}
 use Rattle.wage_contents.specs.Contents.{ibanPlaceVerdict}
 
@@ -25,7 +25,7 @@ first-of-none (b ∷ f) e = absurd (omega arith)
 account-placed : (f : List ℕ) → allOf Blanks (drop 21 f) ≡ true → ibanFormed (take 21 f) ≡ true → allOf Place f ≡ true
 account-placed f e g =
     sym (ap (allOf Place) (take-append-drop 21 f))
-    ∙ all-joined Place (take 21 f) (drop 21 f) (all-wider Account Place (λ x d. sym (or-first _ _ d)) (take 21 f) (passes-all Account (take 21 f) (formed-passes (take 21 f) g)))
+    ∙ all-joined Place (take 21 f) (drop 21 f) (all-wider Account Place (λ x d. sym (or-first _ _ d)) (take 21 f) (passes-all Account (take 21 f) (formed-permitted (take 21 f) g)))
     (all-wider Blanks Place (λ x b. rw (eqb-true x 32 b)) (drop 21 f) e)
 
 -- so nothing is refused of it

@@ -14,7 +14,7 @@ use Rattle.text.specs.declared.Class.the-variants.{Digits, Reference, Letters, 
 use Rattle.text.proofs.Laws.{bytes-within}
 use Rattle.text.proofs.Blanks.{trimmed-shorter}
 use Rattle.account.specs.Account.{oibPasses}
-use Rattle.account.proofs.Laws.{iban-check-within}
+use Rattle.account.proofs.Theorems.{iban-check-within}
 use Rattle.models.specs.Models.{modelOf}
 use Rattle.reference.proofs.Laws.{modelled-within}
 use Rattle.wage_contents.specs.declared.Held.{Held}
