@@ -1,10 +1,10 @@
 -- An IBAN's number, taken in runs of digits as the code takes it; what an IBAN's form decides.
 -- Assumes nothing.
 use mathlib.Core.Path.{_≡_, refl, sym, ap, _∙_}
-use mathlib.Core.Bool.{Bool, true, false, _&&_, and-false}
+use mathlib.Core.Bool.{true, false, _&&_, and-false}
 use mathlib.Core.List.{List, [], _∷_, _++_}
-use Prim.Native.Nat.{ℕ, suc, _^_, _+_, _-_, _*_, _/_, _%_, _≤_, _<_}
-use native.Mathlib.Nat.{div-add-mod, add-mul-mod-self-left, add-mul, mul-assoc, mul-comm, pow-suc, pow-le-pow-right}
+use Prim.Native.Nat.{ℕ, suc, _^_, _+_, _*_, _/_, _%_, _≤_, _<_}
+use native.Mathlib.Nat.{div-add-mod, add-mul-mod-self-left, add-mul, mul-assoc, mul-comm, pow-suc}
 use native.Mathlib.Omega.{arith}
 use lib.Dec.{eqb, leb}
 use lib.ListN.{length, take, drop, getD, take-append-drop, length-take, length-drop}
@@ -14,8 +14,9 @@ use Rattle.text.specs.Bytes.{isDigit, allOf, bytesVerdict}
 use Rattle.text.specs.declared.Class.the-variants.{Digits, Account}
 use Rattle.text.specs.Digits.{digitsOf, valueFrom, valueOf}
 use Rattle.text.proofs.Laws.{digits-append, value-append, all-apart, all-wider, all-passes, both-true, or-first}
-use Rattle.text.proofs.Values.{value-below, digits-few}
-use Rattle.account.specs.Account.{checkDigits, inRange, rearranged, ibanFormed, ibanPasses}
+use Rattle.sums.specs.Sums.{numberIn}
+use Rattle.sums.proofs.Theorems.{text-small, number-of-all}
+use Rattle.account.specs.Account.{checkDigits, rearranged, ibanFormed, ibanPasses}
 
 -- ---------------------------------------------------------------------------
 -- Runs of digits
@@ -51,11 +52,11 @@ digits-count [] e = refl
 digits-count (b ∷ s) e = let t = both-true (isDigit b) (allOf Digits s) e in rw (t .0) (ap suc (digits-count s (t .1)))
 
 -- a run of at most nine bytes, read as a number: below 10^9
-pub run-read : (n v : ℕ) (s : List ℕ) → n ≤ 9 → v ≡ valueOf (digitsOf (take 18 (take n s))) → (v ≡ valueOf (digitsOf (take n s))) × (v < 1000000000)
+pub run-read : (n v : ℕ) (s : List ℕ) → n ≤ 9 → v ≡ numberIn (take n s) → (v ≡ valueOf (digitsOf (take n s))) × (v < 1000000000)
 run-read n v s h e =
-    let r = take n s in
-    let f = e ∙ ap (λ (l : List ℕ). valueOf (digitsOf l)) (take-all 18 r (omega (arith, length-take n s))) in
-    (f, omega (arith, f, value-below 0 0 r (omega arith), pow-le-pow-right {n = 10} (omega arith) {i = 0 + length (digitsOf r)} {j = 9} (omega (arith, digits-few r, length-take n s))))
+    let l : length (take n s) ≤ 9 = omega (arith, length-take n s) in
+    let f = e ∙ number-of-all (take n s) (omega arith) in
+    (f, omega (arith, f, text-small 9 (take n s) l))
 
 -- ---------------------------------------------------------------------------
 -- Texts of an IBAN's form

@@ -11,7 +11,7 @@ use lib.ListN.{length}
 use Rattle.refusal.specs.Only.{Only, defined-only}
 use Rattle.refusal.specs.Verdict.{onlyIf, andThen, Within}
 use Rattle.refusal.proofs.Verdicts.{both-pass, pass-both, test-holds, then-within, only-within}
-use Rattle.text.specs.Bytes.{allOf, bytesVerdict}
+use Rattle.text.specs.Bytes.{allOf}
 use Rattle.text.specs.declared.Class.the-variants.{Digits, Account}
 use Rattle.text.proofs.Laws.{both-true, and-second, all-passes, passes-all, bytes-within}
 use Rattle.account.specs.Account.{ibanFormed, ibanPasses, oibPasses}

@@ -51,10 +51,10 @@ pub fn check_iban(s: &[u8]) -> usize
     if iban_passes(s) {
         return 0;
     }
-    if !is_iban_formed(s) {
-        return 5;
+    if is_iban_formed(s) {
+        return 6;
     }
-    6
+    5
 }
 
 // An IBAN: 3 with its byte, 4, 5, 6. Of one that is right nothing else is asked.
@@ -93,8 +93,8 @@ pub fn oib(s: &[u8]) -> usize
     if s.len() != 11 {
         return 4;
     }
-    if !oib_passes(s) {
-        return 6;
+    if oib_passes(s) {
+        return 0;
     }
-    0
+    6
 }

@@ -7,9 +7,9 @@ use Prim.Native.Nat.{ℕ, suc, _+_, _-_, _*_, _/_, _%_, _≤_, _<_}
 use native.Mathlib.Nat.{mod-lt, mod-eq-of-lt, mod-eq-sub-mod, mul-add, add-mul, suc-mul, mul-left-comm, zero-mul, div-add-mod, add-mul-mod-self-left}
 use native.Mathlib.Numerals.{add-one}
 use native.Mathlib.Omega.{arith}
-use lib.Dec.{leb, ltb, lit<}
-use borrow.Author.Tests.{ne-eqb, lt-ltb, le-ltb, lt-leb, le-leb}
-use Rattle.text.proofs.Laws.{taken, left, and-first, and-second}
+use lib.Dec.{ltb, lit<}
+use borrow.Author.Tests.{ne-eqb, lt-ltb, le-ltb}
+use Rattle.text.proofs.Laws.{taken, left}
 use lib.ListN.{length, drop, getD}
 use lib.Seq.{drop-cons, drop-length}
 use Rattle.text.specs.Bytes.{isDigit}
@@ -18,7 +18,6 @@ use Rattle.check_digits.specs.declared.Rule.{Rule}
 use Rattle.check_digits.specs.declared.Rule.the-variants.{Ini, Mod1110}
 use Rattle.check_digits.specs.declared.Run.{Run}
 use Rattle.check_digits.specs.CheckDigit.{weighted, carry, carriedOver, checkDigit, digitFor, tenForZero}
-use Rattle.check_digits.specs.Answers.{sized}
 use Rattle.check_digits.specs.Run.{Small, startOf, stepOf, readOf, runOf, digitOf}
 
 -- ---------------------------------------------------------------------------
@@ -139,16 +138,3 @@ module _ (rule : Rule) (run : Run) (s : List ℕ) (i : ℕ) where
   pub run-ends : length s ≤ i → i ≤ length s → run ≡ runOf rule run (drop i s)
   unfolding runOf
   run-ends h g = let e : i ≡ length s = omega arith in rw (e, drop-length)
-
--- ---------------------------------------------------------------------------
--- Sizes
-
-module _ (b : ℕ) (s : List ℕ) where
-  pub none-is-unsized : length s ≡ 0 → sized 1 b s ≡ false
-  none-is-unsized e = sym (and-first (leb 1 (length s)) (leb (length s) b) (lt-leb 1 (length s) (omega arith)))
-
-  pub many-is-unsized : (length s ≡ 0 → ⊥) → b < length s → sized 1 b s ≡ false
-  many-is-unsized e h = sym (and-second (leb 1 (length s)) (leb (length s) b) false (le-leb 1 (length s) (omega arith)) (sym (lt-leb (length s) b h)))
-
-  pub some-is-sized : (length s ≡ 0 → ⊥) → length s ≤ b → sized 1 b s ≡ true
-  some-is-sized e h = sym (and-second (leb 1 (length s)) (leb (length s) b) true (le-leb 1 (length s) (omega arith)) (sym (le-leb (length s) b h)))

@@ -8,7 +8,7 @@ ghost use Prim.Native.Nat.{_<_, _+_, _%_};
 ghost use Rattle.text.specs.Digits.{digitsOf};
 ghost use Rattle.check_digits.specs.CheckDigit.{carry, digitFor, checkDigit, passes};
 ghost use Rattle.check_digits.specs.Run.{Small, startOf, stepOf, readOf, digitOf};
-ghost use Rattle.check_digits.specs.Answers.{checkAnswer, makeAnswer};
+ghost use Rattle.check_digits.specs.Answers.{sized, checkAnswer, makeAnswer};
 use refusal::Answer;
 use refusal::Refusal;
 use text::Class;
@@ -153,16 +153,23 @@ pub fn ends_right(rule: Rule, s: &[u8]) -> bool
     s[last] == 48 + d
 }
 
+// Whether a text has 1 to `most` bytes.
+fn is_sized(most: usize, s: &[u8]) -> bool
+    ensures { λ r. ⌜ r ≡ sized 1 most (now (s .entry)) ⌝ }
+{
+    let n = s.len();
+    if n == 0 {
+        return false;
+    }
+    n <= most
+}
+
 // Checks digits that end in their check digit: 1 for a length that is not 1 to 22, then 3 for a byte that is no
 // digit, then 9.
 pub fn checked(rule: Rule, s: &[u8]) -> Answer
     ensures { λ r. ⌜ r ≡ checkAnswer rule (now (s .entry)) ⌝ }
 {
-    let n = s.len();
-    if n == 0 {
-        return Answer::Refused(Refusal::Size(refusal::nowhere()));
-    }
-    if 22 < n {
+    if !is_sized(22, s) {
         return Answer::Refused(Refusal::Size(refusal::nowhere()));
     }
     if !text::all_of(Class::Digits, s) {
@@ -178,11 +185,7 @@ pub fn checked(rule: Rule, s: &[u8]) -> Answer
 pub fn make(rule: Rule, s: &[u8]) -> Made
     ensures { λ r. ⌜ r ≡ makeAnswer rule (now (s .entry)) ⌝ }
 {
-    let n = s.len();
-    if n == 0 {
-        return Made::Refused(Refusal::Size(refusal::nowhere()));
-    }
-    if 19 < n {
+    if !is_sized(19, s) {
         return Made::Refused(Refusal::Size(refusal::nowhere()));
     }
     if !text::all_of(Class::Digits, s) {

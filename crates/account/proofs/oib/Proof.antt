@@ -1,7 +1,7 @@
 -- `account::oib` meets its contract: each return is the chain's answer by the tests that led there. Assumes nothing.
 use mathlib.Core.Path.{_≡_, refl, sym, _∙_}
 use Prim.Native.Nat.{ℕ}
-use borrow.Author.Tests.{ne-eqb, eq-eqb, not-true, not-false}
+use borrow.Author.Tests.{ne-eqb, eq-eqb}
 use Rattle.refusal.specs.Verdict.{onlyIf}
 use Rattle.refusal.proofs.Verdicts.{refused, passed, failed, met}
 use Rattle.text.proofs.Laws.{taken, left}
@@ -23,10 +23,10 @@ checked c r e =
     passed _ _ _ (sym (c .before .before .before .judge .ensures) ∙ c .before .before .if1 .left) (met _ 4 _ _ (eq-eqb _ 11 (c .before .if2 .left)) e)
 
 returns-3 : tie.Need-returns-3
-returns-3 c = checked (c .before) 6 (left _ _ _ _ (sym (c .before .oib-passes .ensures) ∙ not-true _ (c .if3 .taken)) refl)
+returns-3 c = checked (c .before) 0 (taken _ _ _ (sym (c .before .oib-passes .ensures) ∙ c .if3 .taken))
 
 returns-4 : tie.Need-returns-4
-returns-4 c = checked (c .before) 0 (taken _ _ _ (sym (c .before .oib-passes .ensures) ∙ not-false _ (c .if3 .left)))
+returns-4 c = checked (c .before) 6 (left _ _ _ _ (sym (c .before .oib-passes .ensures) ∙ c .if3 .left) refl)
 
 pub oib-spec : {M : Type 1} → statement M
 oib-spec =
