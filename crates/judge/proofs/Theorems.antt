@@ -77,11 +77,10 @@ module _ (j : Judge) (unrefused : isRefused (j .condition) ≡ false) where
   unfolding stepped
   line-limit e f s = rw (unrefused, e, f)
 
-  module _ (sound : isSound j ≡ true) where
-    -- "The end gives 14, at the next line number, unless the 399 was read"
-    pub unfinished-is-14 : (j .condition ≡ Closed → ⊥) → ended j ≡ ending.Refused (Unfinished (record { line = nextLine j; field = 0; byte = 0 }))
-    unfolding ended
-    unfinished-is-14 unclosed = rw (unrefused, sound, not-closed (j .condition) unclosed)
+  -- "The end gives 14, at the next line number, unless the 399 was read"
+  pub unfinished-is-14 : isSound j ≡ true → (j .condition ≡ Closed → ⊥) → ended j ≡ ending.Refused (Unfinished (record { line = nextLine j; field = 0; byte = 0 }))
+  unfolding ended
+  unfinished-is-14 sound unclosed = rw (unrefused, sound, not-closed (j .condition) unclosed)
 
 -- "Acceptance tells lines, groups and orders"
 pub closed-accepts : (j : Judge) → isSound j ≡ true → j .condition ≡ Closed → ended j ≡ ending.Accepted (j .read)
