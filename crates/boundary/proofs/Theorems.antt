@@ -26,10 +26,11 @@ use Rattle.wage_line.specs.Line.{typedOf, queried, placeOf}
 use Rattle.judge.specs.declared.Condition.{Condition}
 use Rattle.judge.specs.declared.Condition.the-variants as condition
 use Rattle.judge.specs.declared.Judge.{Judge}
+use Rattle.judge.specs.Judge.{stageOf}
 use Rattle.boundary.specs.declared.Told.{Told}
 use Rattle.boundary.specs.declared.Part.{Part}
 use Rattle.boundary.specs.Told.{refusal, toldOf}
-use Rattle.boundary.specs.Record.{placeIn, conditionOf, conditionNumber, conditionTold, judgeOf, recordOf}
+use Rattle.boundary.specs.Record.{placeIn, conditionOf, conditionTold, judgeOf, recordOf}
 use Rattle.boundary.specs.Parts.{noPart, startOf, fieldPart, partIn, placePart}
 use Rattle.boundary.proofs.Laws.{start-first, start-behind}
 
@@ -76,7 +77,7 @@ told-apart (Refused r) (Refused q) e = ap Refused (sym (refusal-told-back r) ∙
 -- The judge's record
 
 -- a condition told as numbers loses nothing
-condition-told-back : (c : Condition) → conditionOf (conditionNumber c) (conditionTold c) ≡ c
+condition-told-back : (c : Condition) → conditionOf (stageOf c) (conditionTold c) ≡ c
 condition-told-back condition.Fresh = refl
 condition-told-back condition.Labelled = refl
 condition-told-back condition.Grouped = refl

@@ -8,13 +8,15 @@ ghost use Rattle.refusal.specs.Refusal.{refusalOf, isAccepted};
 ghost use Rattle.text.specs.Split.{split};
 ghost use Rattle.slip.specs.Slip.{slipAnswer};
 ghost use Rattle.boundary.specs.Told.{accepted, refusal, toldOf, madeOf, listedOf, centsTold, writtenOf, endedOf, valued};
-ghost use Rattle.boundary.specs.Record.{conditionOf, judgeOf, recordOf, conditionNumber, conditionTold};
+ghost use Rattle.boundary.specs.Record.{conditionOf, judgeOf, recordOf, conditionTold};
 ghost use Rattle.boundary.specs.Parts.{startOf, fieldPart, placePart, givenOf};
 use check_digits::Made;
 use fillings::Listed;
 use judge::Condition;
+use judge::Counts;
 use judge::Ending;
 use judge::Judge;
+use judge::Open;
 use refusal::Answer;
 use refusal::Place;
 use refusal::Refusal;
@@ -243,39 +245,29 @@ pub fn judge_from(r: Record) -> Judge
     let t = r.told;
     let a = r.promised;
     let b = r.total;
-    let promised = Sum {
-        high: a.high,
-        low: a.low,
-    };
-    let total = Sum {
-        high: b.high,
-        low: b.low,
-    };
-    let condition = condition_from(n, t);
-    Judge {
-        condition,
-        day: r.day,
-        kind: r.kind,
+    let read = Counts {
         lines: r.lines,
         groups: r.groups,
         orders: r.orders,
+    };
+    let group = Open {
         declared: r.declared,
-        promised,
+        promised: Sum {
+            high: a.high,
+            low: a.low,
+        },
         counted: r.counted,
-        total,
-    }
-}
-
-// The number of a condition.
-fn condition_number(c: Condition) -> usize
-    ensures { λ r. ⌜ r ≡ conditionNumber c ⌝ }
-{
-    match c {
-        Condition::Fresh => 0,
-        Condition::Labelled => 1,
-        Condition::Grouped => 2,
-        Condition::Closed => 3,
-        Condition::Refused(_) => 4,
+        total: Sum {
+            high: b.high,
+            low: b.low,
+        },
+    };
+    Judge {
+        condition: condition_from(n, t),
+        day: r.day,
+        kind: r.kind,
+        read,
+        group,
     }
 }
 
@@ -283,13 +275,10 @@ fn condition_number(c: Condition) -> usize
 fn condition_told(c: Condition) -> Told
     ensures { λ r. ⌜ r ≡ conditionTold c ⌝ }
 {
-    match c {
-        Condition::Fresh => accept(),
-        Condition::Labelled => accept(),
-        Condition::Grouped => accept(),
-        Condition::Closed => accept(),
-        Condition::Refused(r) => refuse(r),
+    if judge::is_refused(c) {
+        return refuse(judge::refusal_in(c));
     }
+    accept()
 }
 
 // The record of a judge.
@@ -297,8 +286,10 @@ pub fn record_from(j: Judge) -> Record
     ensures { λ r. ⌜ r ≡ recordOf j ⌝ }
 {
     let c = j.condition;
-    let a = j.promised;
-    let b = j.total;
+    let n = j.read;
+    let g = j.group;
+    let a = g.promised;
+    let b = g.total;
     let promised = Cents {
         high: a.high,
         low: a.low,
@@ -307,19 +298,17 @@ pub fn record_from(j: Judge) -> Record
         high: b.high,
         low: b.low,
     };
-    let condition = condition_number(c);
-    let told = condition_told(c);
     Record {
-        condition,
-        told,
+        condition: judge::stage(c),
+        told: condition_told(c),
         day: j.day,
         kind: j.kind,
-        lines: j.lines,
-        groups: j.groups,
-        orders: j.orders,
-        declared: j.declared,
+        lines: n.lines,
+        groups: n.groups,
+        orders: n.orders,
+        declared: g.declared,
         promised,
-        counted: j.counted,
+        counted: g.counted,
         total,
     }
 }
