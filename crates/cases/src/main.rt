@@ -12,12 +12,14 @@ use check::same;
 use check_digits::Made;
 use check_digits::Rule;
 use fillings::Listed;
-use libc::STDOUT_FILENO;
 use refusal::Answer;
 use refusal::Refusal;
 use slip_writer::Written;
 use text::Class;
 use text::Found;
+use words::front;
+use words::say;
+use words::say_number;
 
 fn main() {
     let mut input = [0u8; 262144];
@@ -39,14 +41,6 @@ fn find(s: &[u8], b: u8) -> usize
     i
 }
 
-// What stands before a place.
-fn front(s: &[u8], i: usize) -> &[u8] {
-    if i < s.len() {
-        return &s[..i];
-    }
-    s
-}
-
 // What stands after a place.
 fn beyond(s: &[u8], i: usize) -> &[u8] {
     if i < s.len() {
@@ -64,14 +58,6 @@ fn answer_all(s: &[u8]) {
         answer(&s[at..end]);
         at = end + 1;
     }
-}
-
-fn say(s: &[u8]) {
-    io::write_all(STDOUT_FILENO, s);
-}
-
-fn say_number(n: usize) {
-    io::print_decimal(STDOUT_FILENO, n as u64);
 }
 
 // Writes a line back with its answer.
