@@ -71,16 +71,17 @@ fn answer(line: &[u8]) {
 
 fn answer_verb(verb: &[u8], rest: &[u8]) {
     if same(verb, b"iban") {
-        judged(account::iban(rest));
+        judged(refusal::answer_in(account::iban(rest), 0));
         return;
     }
     if same(verb, b"oib") {
-        judged(account::oib(rest));
+        judged(refusal::answer_in(account::oib(rest), 0));
         return;
     }
     if same(verb, b"ref") {
         let m = find(rest, 32);
-        judged(reference::reference(front(rest, m), beyond(rest, m)));
+        let verdict = reference::reference(front(rest, m), beyond(rest, m));
+        judged(refusal::answer_in(verdict, 0));
         return;
     }
     answer_digits(verb, rest);
