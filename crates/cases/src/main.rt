@@ -225,12 +225,12 @@ fn list_in(line: &[u8], room: usize, out: &mut [u16]) {
     if room <= out.len() {
         if d == line.len() {
             let r = fillings::list_iban(line, &mut out[..room]);
-            listed(r, text::count_marks(line), out);
+            listed(r, text::count(63, line), out);
             return;
         }
         let tail = beyond(line, d);
         let r = fillings::list_reference(front(line, d), tail, &mut out[..room]);
-        listed(r, text::count_marks(tail), out);
+        listed(r, text::count(63, tail), out);
     }
 }
 

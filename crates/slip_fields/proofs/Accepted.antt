@@ -8,6 +8,7 @@ use native.Mathlib.Omega.{arith}
 use lib.Dec.{eqb, leb}
 use lib.ListN.{length, getD}
 use borrow.Author.Tests.{eqb-true, eq-eqb, ne-eqb, leb-true}
+use Rattle.refusal.specs.Verdict.{onlyIf}
 use Rattle.refusal.proofs.Verdicts.{both-pass, test-holds}
 use Rattle.text.specs.Bytes.{isDigit, permits, allOf, bytesVerdict, same}
 use Rattle.text.specs.Digits.{twoDigits}
@@ -21,7 +22,7 @@ use Rattle.characters.proofs.Theorems as texts
 use Rattle.account.specs.Answers.{ibanVerdict}
 use Rattle.models.specs.Models.{modelNumber, modelOf, modelFrom, modelVerdict}
 use Rattle.models.specs.declared.Model.{Model}
-use Rattle.reference.specs.Answers.{referenceFrom, referenceVerdict}
+use Rattle.reference.specs.Answers.{textVerdict, numberVerdict, referenceVerdict}
 use Rattle.slip_fields.specs.Fields.{wordVerdict, sizedVerdict}
 use Rattle.text.proofs.Same.{same-equal}
 
@@ -160,9 +161,9 @@ model-free s e = free-by-places s (go (model-is s e))
 pub reference-is : (m s : List ℕ) → referenceVerdict m s ≡ 0 → (bytesVerdict Reference s ≡ 0) × (length s ≤ 22)
 reference-is m s e = by-number (modelNumber m) e
   where
-    by-number : (f : Found) → referenceFrom s f ≡ 0 → (bytesVerdict Reference s ≡ 0) × (length s ≤ 22)
+    by-number : (f : Found) → numberVerdict s f ≡ 0 → (bytesVerdict Reference s ≡ 0) × (length s ≤ 22)
     by-number (At n) q =
-        let h = both-pass (bytesVerdict Reference s) _ (both-pass _ _ q .1) in
+        let h = both-pass (bytesVerdict Reference s) _ (both-pass (onlyIf (modelOf n .handled) 7) (textVerdict (modelOf n) s) q .1) in
         (h .0, leb-true (length s) 22 (test-holds _ 4 refl (both-pass _ _ (h .1) .0)))
     by-number Nothing q = absurd (omega arith)
 
