@@ -1,6 +1,6 @@
 -- What is promised of a line of the wage file: its places, its type exactly when, its parts, and one answer.
 -- Assumes nothing.
-use mathlib.Core.Path.{_≡_, refl, sym, ap, _∙_}
+use mathlib.Core.Path.{_≡_, refl, sym, _∙_}
 use mathlib.Core.Logic.{_↔_}
 use mathlib.Core.Bool.{Bool, true, false, cond, _&&_}
 use mathlib.Core.List.{List, [], _∷_}
@@ -95,14 +95,7 @@ places-within t k h = let w = sizes-small t k h .within in omega arith
 -- ---------------------------------------------------------------------------
 -- Found by its number
 
--- places with the same three numbers are the same
-spot-equal : (p q : Spot) → p .field ≡ q .field → p .start ≡ q .start → p .size ≡ q .size → p ≡ q
-spot-equal p q x y z =
-    ap (λ (n : ℕ). let r : Spot = record { field = n; start = p .start; size = p .size } in r) x ∙
-    (ap (λ (n : ℕ). let r : Spot = record { field = q .field; start = n; size = p .size } in r) y ∙
-    ap (λ (n : ℕ). let r : Spot = record { field = q .field; start = q .start; size = n } in r) z)
-
--- the same as a test
+-- two places have the same three numbers: a test
 same : Spot → Spot → Bool
 same p q = eqb (p .field) (q .field) && (eqb (p .start) (q .start) && eqb (p .size) (q .size))
 
@@ -111,7 +104,7 @@ unfolding same
 is-same p q e =
     let a = both-true (eqb (p .field) (q .field)) (eqb (p .start) (q .start) && eqb (p .size) (q .size)) e in
     let b = both-true (eqb (p .start) (q .start)) (eqb (p .size) (q .size)) (a .1) in
-    spot-equal p q (eqb-true (p .field) (q .field) (a .0)) (eqb-true (p .start) (q .start) (b .0)) (eqb-true (p .size) (q .size) (b .1))
+    rw (← (eqb-true (p .field) (q .field) (a .0)), ← (eqb-true (p .start) (q .start) (b .0)), ← (eqb-true (p .size) (q .size) (b .1)))
 
 -- a place is the one that its number finds: a test, which each table passes
 found : LineType → Spot → Bool
