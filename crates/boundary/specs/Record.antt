@@ -4,7 +4,7 @@ use mathlib.Core.Bool.{cond}
 use lib.Dec.{eqb}
 use Rattle.refusal.specs.Refusal.{refusalOf}
 use Rattle.refusal.specs.declared.Place.{Place}
-use Rattle.judge.specs.Judge.{beyond}
+use Rattle.judge.specs.Judge.{stageOf, isRefused, refusalIn, beyond}
 use Rattle.judge.specs.declared.Condition.{Condition}
 use Rattle.judge.specs.declared.Condition.the-variants.{Fresh, Labelled, Grouped, Closed, Refused}
 use Rattle.judge.specs.declared.Judge.{Judge}
@@ -33,41 +33,31 @@ judgeOf r = record {
   condition = conditionOf (r .condition) (r .told);
   day = r .day;
   kind = r .kind;
-  lines = r .lines;
-  groups = r .groups;
-  orders = r .orders;
-  declared = r .declared;
-  promised = record { high = r .promised .high; low = r .promised .low };
-  counted = r .counted;
-  total = record { high = r .total .high; low = r .total .low };
+  read = record { lines = r .lines; groups = r .groups; orders = r .orders };
+  group = record {
+    declared = r .declared;
+    promised = record { high = r .promised .high; low = r .promised .low };
+    counted = r .counted;
+    total = record { high = r .total .high; low = r .total .low };
+  };
 }
 
-abbrev pub conditionNumber : Condition → ℕ
-conditionNumber Fresh = 0
-conditionNumber Labelled = 1
-conditionNumber Grouped = 2
-conditionNumber Closed = 3
-conditionNumber (Refused r) = 4
-
+-- the refusal of a condition, if it has one
 abbrev pub conditionTold : Condition → Told
-conditionTold Fresh = accepted
-conditionTold Labelled = accepted
-conditionTold Grouped = accepted
-conditionTold Closed = accepted
-conditionTold (Refused r) = refusal r
+conditionTold c = cond (isRefused c) (refusal (refusalIn c)) accepted
 
 -- the record of a judge
 unfoldable pub recordOf : Judge → Record
 recordOf j = record {
-  condition = conditionNumber (j .condition);
+  condition = stageOf (j .condition);
   told = conditionTold (j .condition);
   day = j .day;
   kind = j .kind;
-  lines = j .lines;
-  groups = j .groups;
-  orders = j .orders;
-  declared = j .declared;
-  promised = record { high = j .promised .high; low = j .promised .low };
-  counted = j .counted;
-  total = record { high = j .total .high; low = j .total .low };
+  lines = j .read .lines;
+  groups = j .read .groups;
+  orders = j .read .orders;
+  declared = j .group .declared;
+  promised = record { high = j .group .promised .high; low = j .group .promised .low };
+  counted = j .group .counted;
+  total = record { high = j .group .total .high; low = j .group .total .low };
 }

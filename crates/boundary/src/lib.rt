@@ -3,26 +3,25 @@
 // Number 0 is acceptance, 1 to 17 are document 01's refusals. Nothing is lost: `numbers-tell-all` of the crate refusal.
 // A record of any numbers stands for a judge: one that the judge did not make gets an answer too.
 ghost use mathlib.Core.Path.{_≡_};
-ghost use lib.ListN.{getD, take};
-ghost use Rattle.refusal.specs.Refusal.{refusalOf, isAccepted};
-ghost use Rattle.text.specs.Split.{split};
-ghost use Rattle.slip.specs.Slip.{slipAnswer};
-ghost use Rattle.boundary.specs.Told.{accepted, refusal, toldOf, madeOf, listedOf, centsTold, writtenOf, endedOf, valued};
-ghost use Rattle.boundary.specs.Record.{conditionOf, judgeOf, recordOf, conditionNumber, conditionTold};
-ghost use Rattle.boundary.specs.Parts.{startOf, fieldPart, placePart, givenOf};
+ghost use lib.ListN.{take};
+ghost use Rattle.refusal.specs.Refusal.{refusalOf};
+ghost use Rattle.boundary.specs.Told.{accepted, refusal, toldOf, verdictTold, madeOf, listedOf, centsTold, writtenOf, endedOf, valued};
+ghost use Rattle.boundary.specs.Record.{conditionOf, judgeOf, recordOf, conditionTold};
+ghost use Rattle.boundary.specs.Parts.{placePart, givenOf};
 use check_digits::Made;
 use fillings::Listed;
 use judge::Condition;
+use judge::Counts;
 use judge::Ending;
 use judge::Judge;
+use judge::Open;
 use refusal::Answer;
 use refusal::Place;
 use refusal::Refusal;
 use slip::Amount;
 use slip_writer::Written;
 use sums::Sum;
-use text::Class;
-use text::Found;
+use text::Part;
 use wage_line::Typed;
 
 // ---------------------------------------------------------------------------
@@ -93,6 +92,13 @@ pub fn tell(a: Answer) -> Told
         Answer::Accepted => accept(),
         Answer::Refused(r) => refuse(r),
     }
+}
+
+// A verdict, told of no place: a 3 tells its byte.
+pub fn tell_verdict(verdict: usize) -> Told
+    ensures { λ r. ⌜ r ≡ verdictTold verdict ⌝ }
+{
+    tell(refusal::answer_in(verdict, 0))
 }
 
 // Acceptance with a value.
@@ -243,39 +249,29 @@ pub fn judge_from(r: Record) -> Judge
     let t = r.told;
     let a = r.promised;
     let b = r.total;
-    let promised = Sum {
-        high: a.high,
-        low: a.low,
-    };
-    let total = Sum {
-        high: b.high,
-        low: b.low,
-    };
-    let condition = condition_from(n, t);
-    Judge {
-        condition,
-        day: r.day,
-        kind: r.kind,
+    let read = Counts {
         lines: r.lines,
         groups: r.groups,
         orders: r.orders,
+    };
+    let group = Open {
         declared: r.declared,
-        promised,
+        promised: Sum {
+            high: a.high,
+            low: a.low,
+        },
         counted: r.counted,
-        total,
-    }
-}
-
-// The number of a condition.
-fn condition_number(c: Condition) -> usize
-    ensures { λ r. ⌜ r ≡ conditionNumber c ⌝ }
-{
-    match c {
-        Condition::Fresh => 0,
-        Condition::Labelled => 1,
-        Condition::Grouped => 2,
-        Condition::Closed => 3,
-        Condition::Refused(_) => 4,
+        total: Sum {
+            high: b.high,
+            low: b.low,
+        },
+    };
+    Judge {
+        condition: condition_from(n, t),
+        day: r.day,
+        kind: r.kind,
+        read,
+        group,
     }
 }
 
@@ -283,13 +279,10 @@ fn condition_number(c: Condition) -> usize
 fn condition_told(c: Condition) -> Told
     ensures { λ r. ⌜ r ≡ conditionTold c ⌝ }
 {
-    match c {
-        Condition::Fresh => accept(),
-        Condition::Labelled => accept(),
-        Condition::Grouped => accept(),
-        Condition::Closed => accept(),
-        Condition::Refused(r) => refuse(r),
+    if judge::is_refused(c) {
+        return refuse(judge::refusal_in(c));
     }
+    accept()
 }
 
 // The record of a judge.
@@ -297,8 +290,10 @@ pub fn record_from(j: Judge) -> Record
     ensures { λ r. ⌜ r ≡ recordOf j ⌝ }
 {
     let c = j.condition;
-    let a = j.promised;
-    let b = j.total;
+    let n = j.read;
+    let g = j.group;
+    let a = g.promised;
+    let b = g.total;
     let promised = Cents {
         high: a.high,
         low: a.low,
@@ -307,92 +302,23 @@ pub fn record_from(j: Judge) -> Record
         high: b.high,
         low: b.low,
     };
-    let condition = condition_number(c);
-    let told = condition_told(c);
     Record {
-        condition,
-        told,
+        condition: judge::stage(c),
+        told: condition_told(c),
         day: j.day,
         kind: j.kind,
-        lines: j.lines,
-        groups: j.groups,
-        orders: j.orders,
-        declared: j.declared,
+        lines: n.lines,
+        groups: n.groups,
+        orders: n.orders,
+        declared: g.declared,
         promised,
-        counted: j.counted,
+        counted: g.counted,
         total,
     }
 }
 
 // ---------------------------------------------------------------------------
 // Parts
-
-// A part of lent bytes.
-#[repr(C)]
-pub struct Part {
-    pub start: usize,
-    pub length: usize,
-}
-
-// Where the piece at a place begins, counted from 0.
-fn piece_start(s: &[u8], k: usize) -> usize
-    ensures { λ r. ⌜ r ≡ startOf k (split 10 (now (s .entry))) ⌝ }
-{
-    let mut left = k;
-    let mut at: usize = 0;
-    while 0 < left {
-        match text::first_bad(Class::Line, &s[at..]) {
-            Found::At(i) => {
-                left -= 1;
-                at += i + 1;
-            }
-            Found::Nothing => {
-                return at;
-            }
-        }
-    }
-    at
-}
-
-// Whether a slip is accepted.
-fn is_accepted(s: &[u8]) -> bool
-    ensures { λ r. ⌜ r ≡ isAccepted (slipAnswer (now (s .entry))) ⌝ }
-{
-    match slip::read(s) {
-        Answer::Accepted => true,
-        Answer::Refused(_) => false,
-    }
-}
-
-// Where a field of an accepted slip stands, 4 to 14; else no part.
-pub fn field_part(s: &[u8], number: usize) -> Part
-    ensures { λ r. ⌜ r ≡ fieldPart (now (s .entry)) number ⌝ }
-{
-    if number < 4 {
-        return Part {
-            start: 0,
-            length: 0,
-        };
-    }
-    if 14 < number {
-        return Part {
-            start: 0,
-            length: 0,
-        };
-    }
-    if !is_accepted(s) {
-        return Part {
-            start: 0,
-            length: 0,
-        };
-    }
-    let start = piece_start(s, number - 1);
-    let field = slip::field(s, number);
-    Part {
-        start,
-        length: field.len(),
-    }
-}
 
 // Where a place of a wage line stands; else no part.
 pub fn place_part(line: &[u8], field: usize) -> Part
@@ -412,16 +338,6 @@ pub fn place_part(line: &[u8], field: usize) -> Part
     }
 }
 
-// How many bytes a field has; 0 past the last.
-fn size_at(sizes: &[usize], k: usize) -> usize
-    ensures { λ r. ⌜ r ≡ getD (now (sizes .entry)) k 0 ⌝ }
-{
-    if sizes.len() <= k {
-        return 0;
-    }
-    sizes[k]
-}
-
 // The front of a text, as far as it goes.
 fn front(s: &[u8], n: usize) -> &[u8]
     ensures { λ r. ⌜ now r ≡ take n (now (s .entry)) ⌝ }
@@ -436,5 +352,8 @@ fn front(s: &[u8], n: usize) -> &[u8]
 pub fn given<'a>(text: &'a [u8], sizes: &[usize], k: usize) -> &'a [u8]
     ensures { λ r. ⌜ now r ≡ givenOf (now (sizes .entry)) (now (text .entry)) k ⌝ }
 {
-    front(wage_draft::text_behind(text, sizes, k), size_at(sizes, k))
+    front(
+        wage_draft::text_behind(text, sizes, k),
+        wage_draft::size_at(sizes, k),
+    )
 }

@@ -4,12 +4,10 @@ use Prim.Native.Nat.{ℕ, _+_}
 use mathlib.Core.Bool.{Bool, true, false, cond, _&&_}
 use mathlib.Core.List.{List, [], _∷_}
 use lib.Dec.{eqb, leb, ltb}
-use Rattle.refusal.specs.Refusal.{none, placeOf, moved}
-use Rattle.refusal.specs.declared.Place.{Place}
+use Rattle.refusal.specs.Refusal.{placeOf, moved, refusalOf}
 use Rattle.refusal.specs.declared.Answer.{Answer}
 use Rattle.refusal.specs.declared.Answer.the-variants as answer
 use Rattle.refusal.specs.declared.Refusal.{Refusal}
-use Rattle.refusal.specs.declared.Refusal.the-variants.{Misplaced, Date, Orders, Sum as WrongSum, Unfinished, Beyond}
 use Rattle.dates.specs.Dates.{isDate}
 use Rattle.sums.specs.Sums.{fits, added, sameSum, sumOf, numberOf}
 use Rattle.wage_line.specs.declared.LineType.{LineType}
@@ -24,220 +22,127 @@ use Rattle.judge.specs.declared.Condition.the-variants.{Fresh, Labelled,
 use Rattle.judge.specs.declared.Counts.{Counts}
 use Rattle.judge.specs.declared.Ending.{Ending}
 use Rattle.judge.specs.declared.Ending.the-variants as ending
+use Rattle.judge.specs.declared.Open.{Open}
 use Rattle.judge.specs.declared.Judge.{Judge}
 
 -- ---------------------------------------------------------------------------
 -- Conditions
 
-abbrev pub isFresh : Condition → Bool
-isFresh Fresh = true
-isFresh Labelled = false
-isFresh Grouped = false
-isFresh Closed = false
-isFresh (Refused r) = false
-
-abbrev pub isLabelled : Condition → Bool
-isLabelled Fresh = false
-isLabelled Labelled = true
-isLabelled Grouped = false
-isLabelled Closed = false
-isLabelled (Refused r) = false
-
-abbrev pub isGrouped : Condition → Bool
-isGrouped Fresh = false
-isGrouped Labelled = false
-isGrouped Grouped = true
-isGrouped Closed = false
-isGrouped (Refused r) = false
+-- "one condition: fresh, after the label, inside a group, closed, or refused", numbered in this order
+abbrev pub stageOf : Condition → ℕ
+stageOf Fresh = 0
+stageOf Labelled = 1
+stageOf Grouped = 2
+stageOf Closed = 3
+stageOf (Refused r) = 4
 
 abbrev pub isRefused : Condition → Bool
-isRefused Fresh = false
-isRefused Labelled = false
-isRefused Grouped = false
-isRefused Closed = false
-isRefused (Refused r) = true
+isRefused c = eqb (stageOf c) 4
 
--- the record with another condition, all else as it stood
-abbrev pub standing : Condition → Judge → Judge
-standing c j = record {
-  condition = c;
-  day = j .day;
-  kind = j .kind;
-  lines = j .lines;
-  groups = j .groups;
-  orders = j .orders;
-  declared = j .declared;
-  promised = j .promised;
-  counted = j .counted;
-  total = j .total;
-}
-
--- "refused with its first refusal inside"
+-- "refused with its first refusal inside", all else as it stood
 abbrev pub refusedWith : Refusal → Judge → Judge
-refusedWith r j = standing (Refused r) j
+refusedWith r j = record { condition = Refused r; day = j .day; kind = j .kind; read = j .read; group = j .group }
 
 -- ---------------------------------------------------------------------------
 -- Places
 
--- a line alone: field 0 and byte 0
-abbrev pub lineAlone : ℕ → Place
-lineAlone n = record { line = n; field = 0; byte = 0 }
+-- "Refusals 1, 2, 10, 12, 13, 14, 17 and 15 have field 0 and byte 0": a number told of a line alone
+abbrev pub atLine : ℕ → ℕ → Refusal
+atLine number line = refusalOf number (record { line = line; field = 0; byte = 0 }) 0
 
--- the line that comes next
-abbrev pub nextLine : Judge → ℕ
-nextLine j = j .lines + 1
-
--- a refusal of the next line, its field and byte kept
-abbrev pub ofLine : Judge → Refusal → Refusal
-ofLine j r = moved (record { line = nextLine j; field = placeOf r .field; byte = placeOf r .byte }) r
+-- a refusal of line n, its field and byte kept
+abbrev pub inLine : ℕ → Refusal → Refusal
+inLine n r = moved (record { line = n; field = placeOf r .field; byte = placeOf r .byte }) r
 
 -- "17 names line 1,000,001"
 abbrev pub beyond : Refusal
-beyond = Beyond (lineAlone 1000001)
+beyond = atLine 17 1000001
+
+-- the refusal inside a condition; where there is none, 17
+abbrev pub refusalIn : Condition → Refusal
+refusalIn Fresh = beyond
+refusalIn Labelled = beyond
+refusalIn Grouped = beyond
+refusalIn Closed = beyond
+refusalIn (Refused r) = r
+
+-- the line that comes next
+abbrev pub nextLine : Judge → ℕ
+nextLine j = j .read .lines + 1
 
 -- "an unrefused record with a count above 1,000,000 or a sum of 10^20 or more gets it too"
 unfoldable pub isSound : Judge → Bool
 isSound j =
-    leb (j .lines) 1000000 && (leb (j .groups) 1000000 && (leb (j .orders) 1000000 && (leb (j .declared) 1000000 && (leb (j .counted) 1000000 &&
-    (fits (j .promised) && fits (j .total))))))
+    leb (j .read .lines) 1000000 && leb (j .read .groups) 1000000 && leb (j .read .orders) 1000000 && leb (j .group .declared) 1000000 &&
+    leb (j .group .counted) 1000000 && fits (j .group .promised) && fits (j .group .total)
 
 -- ---------------------------------------------------------------------------
 -- The beginning
 
-abbrev pub begunAs : ℕ → Condition → Judge
-begunAs day c = record {
-  condition = c;
+-- nothing read yet
+abbrev pub fresh : ℕ → Judge
+fresh day = record {
+  condition = Fresh;
   day = day;
   kind = 0;
-  lines = 0;
-  groups = 0;
-  orders = 0;
-  declared = 0;
-  promised = sumOf 0;
-  counted = 0;
-  total = sumOf 0;
+  read = record { lines = 0; groups = 0; orders = 0 };
+  group = record { declared = 0; promised = sumOf 0; counted = 0; total = sumOf 0 };
 }
 
 -- "The day of submission is given at the start; if not a date, 11 with line, field and byte 0 comes before all else"
 unfoldable pub begun : ℕ → Judge
-begun day = begunAs day (cond (isDate day) Fresh (Refused (Date none)))
+begun day = cond (isDate day) (fresh day) (refusedWith (atLine 11 0) (fresh day))
 
 -- ---------------------------------------------------------------------------
--- A line of each type, where it may stand
+-- A right line
 
--- the record after a line's places, where they are right
-abbrev pub afterPlaces : Judge → Judge → Answer → Judge
-afterPlaces j next answer.Accepted = next
-afterPlaces j next (answer.Refused r) = refusedWith (ofLine j r) j
+-- one line more
+abbrev pub oneMore : ℕ → ℕ → Counts → Counts
+oneMore groups orders n = record { lines = n .lines + 1; groups = groups; orders = orders }
 
-abbrev pub misplaced : Judge → Judge
-misplaced j = refusedWith (Misplaced (lineAlone (nextLine j))) j
-
--- the label: its kind is kept
-abbrev pub labelled : Judge → List ℕ → Judge
-labelled j s = record {
-  condition = Labelled;
-  day = j .day;
-  kind = numberIn (partOf Label 2 s);
-  lines = nextLine j;
-  groups = j .groups;
-  orders = j .orders;
-  declared = j .declared;
-  promised = j .promised;
-  counted = j .counted;
-  total = j .total;
-}
-
--- a group's first line: the number and the sum that it declares are kept
-abbrev pub opened : Judge → List ℕ → Judge
-opened j s = record {
-  condition = Grouped;
-  day = j .day;
-  kind = j .kind;
-  lines = nextLine j;
-  groups = j .groups + 1;
-  orders = j .orders;
-  declared = numberIn (partOf Group 5 s);
-  promised = sumOf (numberOf (partOf Group 6 s));
-  counted = 0;
-  total = sumOf 0;
-}
+-- a group's first line: the number and the sum that it declares
+abbrev pub opened : List ℕ → Open
+opened s = record { declared = numberIn (partOf Group 5 s); promised = sumOf (numberOf (partOf Group 6 s)); counted = 0; total = sumOf 0 }
 
 -- an order: counted, and its amount added
-abbrev pub ordered : Judge → List ℕ → Judge
-ordered j s = record {
-  condition = Grouped;
-  day = j .day;
-  kind = j .kind;
-  lines = nextLine j;
-  groups = j .groups;
-  orders = j .orders + 1;
-  declared = j .declared;
-  promised = j .promised;
-  counted = j .counted + 1;
-  total = added (j .total) (numberIn (partOf Order 10 s));
-}
+abbrev pub ordered : List ℕ → Open → Open
+ordered s g = record { declared = g .declared; promised = g .promised; counted = g .counted + 1; total = added (g .total) (numberIn (partOf Order 10 s)) }
 
--- the end
-abbrev pub closed : Judge → Judge
-closed j = record {
-  condition = Closed;
-  day = j .day;
-  kind = j .kind;
-  lines = nextLine j;
-  groups = j .groups;
-  orders = j .orders;
-  declared = j .declared;
-  promised = j .promised;
-  counted = j .counted;
-  total = j .total;
-}
-
--- "too few give 12 at the following 301 or 399; the sum is judged there too": 12, 13, else what follows
-abbrev pub settled : Judge → Judge → Judge
-settled j next =
-    cond (eqb (j .counted) (j .declared))
-    (cond (sameSum (j .total) (j .promised)) next (refusedWith (WrongSum (lineAlone (nextLine j))) j))
-    (refusedWith (Orders (lineAlone (nextLine j))) j)
-
--- a group of at least one order: "A 301 or 399 straight after a 301 is 10"
-abbrev pub mayEnd : Judge → Bool
-mayEnd j = isGrouped (j .condition) && ltb 0 (j .counted)
+-- the record after a right line: a label's kind is kept, a 301 opens a group, a 309 goes into it, and a 399 closes the file
+abbrev pub after : Judge → List ℕ → LineType → Judge
+after j s Label = record { condition = Labelled; day = j .day; kind = numberIn (partOf Label 2 s); read = oneMore (j .read .groups) (j .read .orders) (j .read); group = j .group }
+after j s Group = record { condition = Grouped; day = j .day; kind = j .kind; read = oneMore (j .read .groups + 1) (j .read .orders) (j .read); group = opened s }
+after j s Order = record { condition = Grouped; day = j .day; kind = j .kind; read = oneMore (j .read .groups) (j .read .orders + 1) (j .read); group = ordered s (j .group) }
+after j s Closing = record { condition = Closed; day = j .day; kind = j .kind; read = oneMore (j .read .groups) (j .read .orders) (j .read); group = j .group }
 
 -- ---------------------------------------------------------------------------
--- 10, 12, 13, then the fields in order, for each type of line
+-- 10, 12, 13, then the fields in order: a number tells the first three, 0 none of them
 
-unfoldable pub labelStep : Judge → List ℕ → Judge
-labelStep j s =
-    cond (isFresh (j .condition))
-    (afterPlaces j (labelled j s) (placesAnswer (j .day) (j .kind) Label s))
-    (misplaced j)
+-- the end of a group, which has at least one order, "A 301 or 399 straight after a 301 is 10"; "too few give 12 at the following 301 or 399;
+-- the sum is judged there too"
+abbrev pub wholeVerdict : ℕ → Open → ℕ
+wholeVerdict at g =
+    cond (eqb at 2 && ltb 0 (g .counted))
+    (cond (eqb (g .counted) (g .declared)) (cond (sameSum (g .total) (g .promised)) 0 13) 12)
+    10
 
-abbrev pub openStep : Judge → List ℕ → Judge
-openStep j s = afterPlaces j (opened j s) (placesAnswer (j .day) (j .kind) Group s)
+-- "One 300; then one or more groups, each one 301 and one or more 309; then one 399"; "A 309 beyond the declared number gives 12 at once"
+unfoldable pub standVerdict : ℕ → Open → LineType → ℕ
+standVerdict at g Label = cond (eqb at 0) 0 10
+standVerdict at g Group = cond (eqb at 1) 0 (wholeVerdict at g)
+standVerdict at g Order = cond (eqb at 2) (cond (ltb (g .counted) (g .declared)) 0 12) 10
+standVerdict at g Closing = wholeVerdict at g
 
-unfoldable pub groupStep : Judge → List ℕ → Judge
-groupStep j s =
-    cond (isLabelled (j .condition)) (openStep j s)
-    (cond (mayEnd j) (settled j (openStep j s)) (misplaced j))
+-- the record after a line's places
+abbrev pub afterPlaces : Judge → List ℕ → LineType → Answer → Judge
+afterPlaces j s t answer.Accepted = after j s t
+afterPlaces j s t (answer.Refused r) = refusedWith (inLine (nextLine j) r) j
 
--- "A 309 beyond the declared number gives 12 at once"
-unfoldable pub orderStep : Judge → List ℕ → Judge
-orderStep j s =
-    cond (isGrouped (j .condition))
-    (cond (ltb (j .counted) (j .declared))
-    (afterPlaces j (ordered j s) (placesAnswer (j .day) (j .kind) Order s))
-    (refusedWith (Orders (lineAlone (nextLine j))) j))
-    (misplaced j)
+abbrev pub afterVerdict : Judge → List ℕ → LineType → ℕ → Judge
+afterVerdict j s t v = cond (eqb v 0) (afterPlaces j s t (placesAnswer (j .day) (j .kind) t s)) (refusedWith (atLine v (nextLine j)) j)
 
-unfoldable pub closingStep : Judge → Judge
-closingStep j = cond (mayEnd j) (settled j (closed j)) (misplaced j)
-
-abbrev pub typeStep : Judge → List ℕ → LineType → Judge
-typeStep j s Label = labelStep j s
-typeStep j s Group = groupStep j s
-typeStep j s Order = orderStep j s
-typeStep j s Closing = closingStep j
+unfoldable pub typeStep : Judge → List ℕ → LineType → Judge
+typeStep j s t = afterVerdict j s t (standVerdict (stageOf (j .condition)) (j .group) t)
 
 -- ---------------------------------------------------------------------------
 -- A step
@@ -245,13 +150,13 @@ typeStep j s Closing = closingStep j
 -- 1, 2, 5 (type), then the rest
 abbrev pub typedStep : Judge → List ℕ → Typed → Judge
 typedStep j s (typed.Line t) = typeStep j s t
-typedStep j s (typed.Refused r) = refusedWith (ofLine j r) j
+typedStep j s (typed.Refused r) = refusedWith (inLine (nextLine j) r) j
 
 -- "Each step reads one line. After a refusal each step .. give that refusal again"; 17 before all else
 unfoldable pub stepped : Judge → List ℕ → Judge
 stepped j s =
     cond (isRefused (j .condition)) j
-    (cond (isSound j && ltb (j .lines) 1000000) (typedStep j s (typedOf s)) (refusedWith beyond j))
+    (cond (isSound j && ltb (j .read .lines) 1000000) (typedStep j s (typedOf s)) (refusedWith beyond j))
 
 -- the steps of several lines
 unfoldable pub steps : Judge → List (List ℕ) → Judge
@@ -261,24 +166,10 @@ steps j (s ∷ ss) = steps (stepped j s) ss
 -- ---------------------------------------------------------------------------
 -- The end
 
--- "Acceptance tells lines, groups and orders"
-abbrev pub countsOf : Judge → Counts
-countsOf j = record { lines = j .lines; groups = j .groups; orders = j .orders }
-
--- 17, or what follows
-abbrev pub ifSound : Judge → Ending → Ending
-ifSound j e = cond (isSound j) e (ending.Refused beyond)
-
-abbrev pub unfinished : Judge → Ending
-unfinished j = ending.Refused (Unfinished (lineAlone (nextLine j)))
-
--- "The end gives 14, at the next line number, unless the 399 was read", and a refusal again
-abbrev pub endedIn : Condition → Judge → Ending
-endedIn Fresh j = ifSound j (unfinished j)
-endedIn Labelled j = ifSound j (unfinished j)
-endedIn Grouped j = ifSound j (unfinished j)
-endedIn Closed j = ifSound j (ending.Accepted (countsOf j))
-endedIn (Refused r) j = ending.Refused r
-
+-- a refusal again; 17; "The end gives 14, at the next line number, unless the 399 was read"; "Acceptance tells lines, groups and orders"
 unfoldable pub ended : Judge → Ending
-ended j = endedIn (j .condition) j
+ended j =
+    cond (isRefused (j .condition)) (ending.Refused (refusalIn (j .condition)))
+    (cond (isSound j)
+    (cond (eqb (stageOf (j .condition)) 3) (ending.Accepted (j .read)) (ending.Refused (atLine 14 (nextLine j))))
+    (ending.Refused beyond))

@@ -1,15 +1,13 @@
 // The judge of a wage file: one line at a step, with a record that goes in and comes back.
 //
 // Document 01, "The wage file". The record stands in one condition, and a refusal stays in it. A record that the judge did
-// not make gets an answer too: no call has a `requires`. W5's running total goes beside `total`, in `ordered`.
+// not make gets an answer too: no call has a `requires`. W5's running total goes into `Counts`, and is changed in `after`.
 ghost use mathlib.Core.Path.{_≡_};
-ghost use mathlib.Core.Bool.{true, cond};
+ghost use mathlib.Core.Bool.{true};
 ghost use Prim.Native.Nat.{_≤_};
-ghost use Rattle.refusal.specs.Refusal.{none};
-ghost use Rattle.dates.specs.Dates.{isDate};
 ghost use Rattle.wage_line.specs.Line.{partOf};
 ghost use Rattle.wage_contents.specs.Contents.{numberIn};
-ghost use Rattle.judge.specs.Judge.{isFresh, isLabelled, isGrouped, isRefused, refusedWith, lineAlone, nextLine, ofLine, isSound, begun, afterPlaces, misplaced, labelled, opened, ordered, closed, settled, mayEnd, labelStep, openStep, groupStep, orderStep, closingStep, typeStep, stepped, ifSound, unfinished, ended};
+ghost use Rattle.judge.specs.Judge.{stageOf, isRefused, refusalIn, refusedWith, atLine, inLine, isSound, begun, opened, ordered, after as afterLine, wholeVerdict, standVerdict, typeStep, stepped, ended};
 use refusal::Answer;
 use refusal::Place;
 use refusal::Refusal;
@@ -29,29 +27,28 @@ pub enum Condition {
     Refused(Refusal),
 }
 
-// The judge's record: plain data.
-pub struct Judge {
-    pub condition: Condition,
-    // The day of submission, YYYYMMDD, and the kind that the label told, 4 or 5.
-    pub day: u64,
-    pub kind: u64,
-    // Read so far.
-    pub lines: usize,
-    pub groups: usize,
-    pub orders: usize,
-    // What the group's first line declares.
-    pub declared: u64,
-    pub promised: Sum,
-    // What its orders come to so far.
-    pub counted: u64,
-    pub total: Sum,
-}
-
-// What acceptance tells.
+// What was read so far, and what acceptance tells.
 pub struct Counts {
     pub lines: usize,
     pub groups: usize,
     pub orders: usize,
+}
+
+// The group that is open: what its first line declares, and what its orders come to so far.
+pub struct Open {
+    pub declared: u64,
+    pub promised: Sum,
+    pub counted: u64,
+    pub total: Sum,
+}
+
+// The judge's record: plain data. The day of submission is YYYYMMDD, the kind is the one that the label told, 4 or 5.
+pub struct Judge {
+    pub condition: Condition,
+    pub day: u64,
+    pub kind: u64,
+    pub read: Counts,
+    pub group: Open,
 }
 
 // What the end answers.
@@ -61,41 +58,18 @@ pub enum Ending {
 }
 
 // ---------------------------------------------------------------------------
-// Conditions
+// Conditions and refusals
 
-fn is_fresh(c: Condition) -> bool
-    ensures { λ r. ⌜ r ≡ isFresh c ⌝ }
+// The number of a condition.
+pub fn stage(c: Condition) -> usize
+    ensures { λ r. ⌜ r ≡ stageOf c ⌝ }
 {
     match c {
-        Condition::Fresh => true,
-        Condition::Labelled => false,
-        Condition::Grouped => false,
-        Condition::Closed => false,
-        Condition::Refused(_) => false,
-    }
-}
-
-fn is_labelled(c: Condition) -> bool
-    ensures { λ r. ⌜ r ≡ isLabelled c ⌝ }
-{
-    match c {
-        Condition::Fresh => false,
-        Condition::Labelled => true,
-        Condition::Grouped => false,
-        Condition::Closed => false,
-        Condition::Refused(_) => false,
-    }
-}
-
-fn is_grouped(c: Condition) -> bool
-    ensures { λ r. ⌜ r ≡ isGrouped c ⌝ }
-{
-    match c {
-        Condition::Fresh => false,
-        Condition::Labelled => false,
-        Condition::Grouped => true,
-        Condition::Closed => false,
-        Condition::Refused(_) => false,
+        Condition::Fresh => 0,
+        Condition::Labelled => 1,
+        Condition::Grouped => 2,
+        Condition::Closed => 3,
+        Condition::Refused(_) => 4,
     }
 }
 
@@ -103,12 +77,62 @@ fn is_grouped(c: Condition) -> bool
 pub fn is_refused(c: Condition) -> bool
     ensures { λ r. ⌜ r ≡ isRefused c ⌝ }
 {
+    stage(c) == 4
+}
+
+// The refusal inside a condition; where there is none, 17.
+pub fn refusal_in(c: Condition) -> Refusal
+    ensures { λ r. ⌜ r ≡ refusalIn c ⌝ }
+{
+    let beyond = Refusal::Beyond(Place {
+        line: 1000001,
+        field: 0,
+        byte: 0,
+    });
     match c {
-        Condition::Fresh => false,
-        Condition::Labelled => false,
-        Condition::Grouped => false,
-        Condition::Closed => false,
-        Condition::Refused(_) => true,
+        Condition::Fresh => beyond,
+        Condition::Labelled => beyond,
+        Condition::Grouped => beyond,
+        Condition::Closed => beyond,
+        Condition::Refused(r) => r,
+    }
+}
+
+// A refusal of a line alone: field 0 and byte 0.
+fn at_line(number: usize, line: usize) -> Refusal
+    ensures { λ r. ⌜ r ≡ atLine number line ⌝ }
+{
+    let place = Place {
+        line,
+        field: 0,
+        byte: 0,
+    };
+    refusal::made(number, place, 0)
+}
+
+// A refusal of a line, its field and byte kept.
+fn in_line(n: usize, r: Refusal) -> Refusal
+    ensures { λ q. ⌜ q ≡ inLine n r ⌝ }
+{
+    let p = refusal::told(r);
+    let place = Place {
+        line: n,
+        field: p.field,
+        byte: p.byte,
+    };
+    refusal::put(r, place)
+}
+
+// A record of these parts.
+fn made(day: u64, condition: Condition, kind: u64, read: Counts, group: Open) -> Judge
+    ensures { λ j. ⌜ j ≡ record { condition = condition; day = day; kind = kind; read = read; group = group } ⌝ }
+{
+    Judge {
+        condition,
+        day,
+        kind,
+        read,
+        group,
     }
 }
 
@@ -116,149 +140,60 @@ pub fn is_refused(c: Condition) -> bool
 fn refused(j: Judge, r: Refusal) -> Judge
     ensures { λ q. ⌜ q ≡ refusedWith r j ⌝ }
 {
-    let promised = j.promised;
-    let total = j.total;
-    Judge {
-        condition: Condition::Refused(r),
-        day: j.day,
-        kind: j.kind,
-        lines: j.lines,
-        groups: j.groups,
-        orders: j.orders,
-        declared: j.declared,
-        promised,
-        counted: j.counted,
-        total,
-    }
-}
-
-// A line alone: field 0 and byte 0.
-fn line_alone(n: usize) -> Place
-    ensures { λ r. ⌜ r ≡ lineAlone n ⌝ }
-{
-    Place {
-        line: n,
-        field: 0,
-        byte: 0,
-    }
-}
-
-// A refusal of the next line, its field and byte kept.
-fn refused_line(j: Judge, r: Refusal) -> Judge
-    requires { ⌜ j .lines ≤ 1000000 ⌝ }
-    ensures { λ q. ⌜ q ≡ refusedWith (ofLine j r) j ⌝ }
-{
-    let p = refusal::told(r);
-    let field = p.field;
-    let byte = p.byte;
-    let lines = j.lines;
-    let at = Place {
-        line: lines + 1,
-        field,
-        byte,
-    };
-    refused(j, refusal::put(r, at))
+    let read = j.read;
+    let group = j.group;
+    made(j.day, Condition::Refused(r), j.kind, read, group)
 }
 
 // Whether no count is above 1,000,000 and no sum is 10^20 or more.
 fn is_sound(j: Judge) -> bool
     ensures { λ r. ⌜ r ≡ isSound j ⌝ }
 {
-    let lines = j.lines;
-    let groups = j.groups;
-    let orders = j.orders;
-    let declared = j.declared;
-    let counted = j.counted;
-    let promised = j.promised;
-    let total = j.total;
-    if 1000000 < lines {
-        return false;
-    }
-    if 1000000 < groups {
-        return false;
-    }
-    if 1000000 < orders {
-        return false;
-    }
-    if 1000000 < declared {
-        return false;
-    }
-    if 1000000 < counted {
-        return false;
-    }
-    if !sums::is_exact(promised) {
-        return false;
-    }
-    sums::is_exact(total)
+    let n = j.read;
+    let g = j.group;
+    let promised = g.promised;
+    let total = g.total;
+    (n.lines <= 1000000)
+        & (n.groups <= 1000000)
+        & (n.orders <= 1000000)
+        & (g.declared <= 1000000)
+        & (g.counted <= 1000000)
+        & sums::is_exact(promised)
+        & sums::is_exact(total)
 }
 
 // ---------------------------------------------------------------------------
 // The beginning
 
-fn first_condition(day: u64) -> Condition
-    ensures { λ r. ⌜ r ≡ cond (isDate day) Condition.Fresh (Condition.Refused (Refusal.Date none)) ⌝ }
-{
-    if dates::is_date(day) {
-        return Condition::Fresh;
-    }
-    Condition::Refused(Refusal::Date(refusal::nowhere()))
-}
-
 // A fresh judge for a day, YYYYMMDD; one that has refused, where that is not a date.
 pub fn begin(day: u64) -> Judge
     ensures { λ r. ⌜ r ≡ begun day ⌝ }
 {
-    Judge {
-        condition: first_condition(day),
+    let zero = sums::nothing();
+    let fresh = Judge {
+        condition: Condition::Fresh,
         day,
         kind: 0,
-        lines: 0,
-        groups: 0,
-        orders: 0,
-        declared: 0,
-        promised: sums::nothing(),
-        counted: 0,
-        total: sums::nothing(),
+        read: Counts {
+            lines: 0,
+            groups: 0,
+            orders: 0,
+        },
+        group: Open {
+            declared: 0,
+            promised: zero,
+            counted: 0,
+            total: zero,
+        },
+    };
+    if dates::is_date(day) {
+        return fresh;
     }
+    refused(fresh, at_line(11, 0))
 }
 
 // ---------------------------------------------------------------------------
-// A line of each type, where it may stand
-
-// The record after a line's places, where they are right.
-fn after_places(j: Judge, next: Judge, answer: Answer) -> Judge
-    requires { ⌜ j .lines ≤ 1000000 ⌝ }
-    ensures { λ r. ⌜ r ≡ afterPlaces j next answer ⌝ }
-{
-    match answer {
-        Answer::Accepted => next,
-        Answer::Refused(r) => refused_line(j, r),
-    }
-}
-
-fn out_of_place(j: Judge) -> Judge
-    requires { ⌜ j .lines ≤ 1000000 ⌝ }
-    ensures { λ r. ⌜ r ≡ misplaced j ⌝ }
-{
-    let lines = j.lines;
-    refused(j, Refusal::Misplaced(line_alone(lines + 1)))
-}
-
-fn wrong_number(j: Judge) -> Judge
-    requires { ⌜ j .lines ≤ 1000000 ⌝ }
-    ensures { λ r. ⌜ r ≡ refusedWith (Refusal.Orders (lineAlone (nextLine j))) j ⌝ }
-{
-    let lines = j.lines;
-    refused(j, Refusal::Orders(line_alone(lines + 1)))
-}
-
-fn wrong_sum(j: Judge) -> Judge
-    requires { ⌜ j .lines ≤ 1000000 ⌝ }
-    ensures { λ r. ⌜ r ≡ refusedWith (Refusal.Sum (lineAlone (nextLine j))) j ⌝ }
-{
-    let lines = j.lines;
-    refused(j, Refusal::Sum(line_alone(lines + 1)))
-}
+// A right line
 
 // The number in a place of a line.
 fn number_at(t: LineType, field: usize, s: &[u8]) -> u64
@@ -267,204 +202,117 @@ fn number_at(t: LineType, field: usize, s: &[u8]) -> u64
     sums::number(wage_line::part(wage_line::find(t, field), s))
 }
 
-// The amount of an order: its place, the eighth, is not looked for.
-fn amount(s: &[u8]) -> u64
-    ensures { λ r. ⌜ r ≡ numberIn (partOf LineType.Order 10 (now (s .entry))) ⌝ }
+// The group that a first line opens.
+fn opening(s: &[u8]) -> Open
+    ensures { λ r. ⌜ r ≡ opened (now (s .entry)) ⌝ }
 {
-    sums::number(wage_line::part(wage_line::spot_at(LineType::Order, 7), s))
-}
-
-// The record after a right label.
-fn after_label(j: Judge, s: &[u8]) -> Judge
-    requires { ⌜ j .lines ≤ 1000000 ⌝ }
-    ensures { λ r. ⌜ r ≡ labelled j (now (s .entry)) ⌝ }
-{
-    let lines = j.lines;
-    let promised = j.promised;
-    let total = j.total;
-    let told = number_at(LineType::Label, 2, s);
-    Judge {
-        condition: Condition::Labelled,
-        day: j.day,
-        kind: told,
-        lines: lines + 1,
-        groups: j.groups,
-        orders: j.orders,
-        declared: j.declared,
-        promised,
-        counted: j.counted,
-        total,
-    }
-}
-
-// The record after a right first line of a group.
-fn after_opening(j: Judge, s: &[u8]) -> Judge
-    requires { ⌜ (j .lines ≤ 1000000) × (j .groups ≤ 1000000) ⌝ }
-    ensures { λ r. ⌜ r ≡ opened j (now (s .entry)) ⌝ }
-{
-    let lines = j.lines;
-    let groups = j.groups;
-    let next = lines + 1;
-    let group = groups + 1;
-    let zero = sums::nothing();
-    Judge {
-        condition: Condition::Grouped,
-        day: j.day,
-        kind: j.kind,
-        lines: next,
-        groups: group,
-        orders: j.orders,
+    Open {
         declared: number_at(LineType::Group, 5, s),
         promised: sums::written(wage_line::part(wage_line::find(LineType::Group, 6), s)),
         counted: 0,
-        total: zero,
+        total: sums::nothing(),
     }
 }
 
-// The record after a right order.
-fn after_order(j: Judge, s: &[u8]) -> Judge
-    requires { ⌜ (j .lines ≤ 1000000) × (j .orders ≤ 1000000) × (j .counted ≤ 1000000) ⌝ }
-    ensures { λ r. ⌜ r ≡ ordered j (now (s .entry)) ⌝ }
+// The group with an order more.
+fn with_order(g: Open, s: &[u8]) -> Open
+    requires { ⌜ g .counted ≤ 1000000 ⌝ }
+    ensures { λ r. ⌜ r ≡ ordered (now (s .entry)) g ⌝ }
 {
-    let lines = j.lines;
-    let orders = j.orders;
-    let counted = j.counted;
-    let total = j.total;
-    let promised = j.promised;
-    Judge {
-        condition: Condition::Grouped,
-        day: j.day,
-        kind: j.kind,
-        lines: lines + 1,
-        groups: j.groups,
-        orders: orders + 1,
-        declared: j.declared,
+    let promised = g.promised;
+    let counted = g.counted;
+    let total = g.total;
+    Open {
+        declared: g.declared,
         promised,
         counted: counted + 1,
-        total: sums::add(total, amount(s)),
+        total: sums::add(total, number_at(LineType::Order, 10, s)),
     }
 }
 
-// The record after the last line.
-fn after_closing(j: Judge) -> Judge
-    requires { ⌜ j .lines ≤ 1000000 ⌝ }
-    ensures { λ r. ⌜ r ≡ closed j ⌝ }
+// The record after a right line.
+fn after(j: Judge, t: LineType, s: &[u8]) -> Judge
+    requires { ⌜ isSound j ≡ true ⌝ }
+    ensures { λ r. ⌜ r ≡ afterLine j (now (s .entry)) t ⌝ }
 {
-    let lines = j.lines;
-    let promised = j.promised;
-    let total = j.total;
-    Judge {
-        condition: Condition::Closed,
-        day: j.day,
-        kind: j.kind,
-        lines: lines + 1,
-        groups: j.groups,
-        orders: j.orders,
-        declared: j.declared,
-        promised,
-        counted: j.counted,
-        total,
+    let day = j.day;
+    let kind = j.kind;
+    let group = j.group;
+    let mut read = j.read;
+    let lines = read.lines + 1;
+    read.lines = lines;
+    match t {
+        LineType::Label => {
+            let told = number_at(LineType::Label, 2, s);
+            made(day, Condition::Labelled, told, read, group)
+        }
+        LineType::Group => {
+            let groups = read.groups + 1;
+            read.groups = groups;
+            made(day, Condition::Grouped, kind, read, opening(s))
+        }
+        LineType::Order => {
+            let orders = read.orders + 1;
+            read.orders = orders;
+            made(day, Condition::Grouped, kind, read, with_order(group, s))
+        }
+        LineType::Closing => made(day, Condition::Closed, kind, read, group),
     }
-}
-
-// A group's number and sum judged at its end: 12, 13, else what follows.
-fn settle(j: Judge, next: Judge) -> Judge
-    requires { ⌜ j .lines ≤ 1000000 ⌝ }
-    ensures { λ r. ⌜ r ≡ settled j next ⌝ }
-{
-    let counted = j.counted;
-    let declared = j.declared;
-    let total = j.total;
-    let promised = j.promised;
-    if counted != declared {
-        return wrong_number(j);
-    }
-    if sums::is_same(total, promised) {
-        return next;
-    }
-    wrong_sum(j)
-}
-
-// Whether a group may end here.
-fn may_end(j: Judge) -> bool
-    ensures { λ r. ⌜ r ≡ mayEnd j ⌝ }
-{
-    let condition = j.condition;
-    let counted = j.counted;
-    if is_grouped(condition) {
-        return 0 < counted;
-    }
-    false
 }
 
 // ---------------------------------------------------------------------------
 // A step
 
-fn label_step(j: Judge, s: &[u8]) -> Judge
-    requires { ⌜ j .lines ≤ 1000000 ⌝ }
-    ensures { λ r. ⌜ r ≡ labelStep j (now (s .entry)) ⌝ }
+// The end of the group that is open: 10, 12, 13, or 0 where it may end.
+fn judge_whole(at: usize, g: Open) -> usize
+    ensures { λ r. ⌜ r ≡ wholeVerdict at g ⌝ }
 {
-    let condition = j.condition;
-    let day = j.day;
-    let kind = j.kind;
-    if is_fresh(condition) {
-        let answer = wage_fields::judge_places(day, kind, LineType::Label, s);
-        return after_places(j, after_label(j, s), answer);
+    let counted = g.counted;
+    let declared = g.declared;
+    let total = g.total;
+    let promised = g.promised;
+    if (at == 2) & (0 < counted) {
+        if counted != declared {
+            return 12;
+        }
+        if sums::is_same(total, promised) {
+            return 0;
+        }
+        return 13;
     }
-    out_of_place(j)
+    10
 }
 
-fn open_step(j: Judge, s: &[u8]) -> Judge
-    requires { ⌜ (j .lines ≤ 1000000) × (j .groups ≤ 1000000) ⌝ }
-    ensures { λ r. ⌜ r ≡ openStep j (now (s .entry)) ⌝ }
+// A line of a type, where the judge stands: 10, 12, 13, or 0 where it may come.
+fn judge_standing(at: usize, g: Open, t: LineType) -> usize
+    ensures { λ r. ⌜ r ≡ standVerdict at g t ⌝ }
 {
-    let day = j.day;
-    let kind = j.kind;
-    let answer = wage_fields::judge_places(day, kind, LineType::Group, s);
-    after_places(j, after_opening(j, s), answer)
-}
-
-fn group_step(j: Judge, s: &[u8]) -> Judge
-    requires { ⌜ (j .lines ≤ 1000000) × (j .groups ≤ 1000000) ⌝ }
-    ensures { λ r. ⌜ r ≡ groupStep j (now (s .entry)) ⌝ }
-{
-    let condition = j.condition;
-    if is_labelled(condition) {
-        return open_step(j, s);
+    let counted = g.counted;
+    let declared = g.declared;
+    match t {
+        LineType::Label => {
+            if at == 0 {
+                return 0;
+            }
+            10
+        }
+        LineType::Group => {
+            if at == 1 {
+                return 0;
+            }
+            judge_whole(at, g)
+        }
+        LineType::Order => {
+            if at != 2 {
+                return 10;
+            }
+            if counted < declared {
+                return 0;
+            }
+            12
+        }
+        LineType::Closing => judge_whole(at, g),
     }
-    if may_end(j) {
-        return settle(j, open_step(j, s));
-    }
-    out_of_place(j)
-}
-
-fn order_step(j: Judge, s: &[u8]) -> Judge
-    requires { ⌜ (j .lines ≤ 1000000) × (j .orders ≤ 1000000) × (j .counted ≤ 1000000) ⌝ }
-    ensures { λ r. ⌜ r ≡ orderStep j (now (s .entry)) ⌝ }
-{
-    let condition = j.condition;
-    let day = j.day;
-    let kind = j.kind;
-    let counted = j.counted;
-    let declared = j.declared;
-    if !is_grouped(condition) {
-        return out_of_place(j);
-    }
-    if counted < declared {
-        let answer = wage_fields::judge_places(day, kind, LineType::Order, s);
-        return after_places(j, after_order(j, s), answer);
-    }
-    wrong_number(j)
-}
-
-fn closing_step(j: Judge) -> Judge
-    requires { ⌜ j .lines ≤ 1000000 ⌝ }
-    ensures { λ r. ⌜ r ≡ closingStep j ⌝ }
-{
-    if may_end(j) {
-        return settle(j, after_closing(j));
-    }
-    out_of_place(j)
 }
 
 // A line of a type, from a sound record.
@@ -472,11 +320,18 @@ fn type_step(j: Judge, t: LineType, s: &[u8]) -> Judge
     requires { ⌜ isSound j ≡ true ⌝ }
     ensures { λ r. ⌜ r ≡ typeStep j (now (s .entry)) t ⌝ }
 {
-    match t {
-        LineType::Label => label_step(j, s),
-        LineType::Group => group_step(j, s),
-        LineType::Order => order_step(j, s),
-        LineType::Closing => closing_step(j),
+    let condition = j.condition;
+    let day = j.day;
+    let kind = j.kind;
+    let group = j.group;
+    let next = j.read.lines + 1;
+    let verdict = judge_standing(stage(condition), group, t);
+    if verdict != 0 {
+        return refused(j, at_line(verdict, next));
+    }
+    match wage_fields::judge_places(day, kind, t, s) {
+        Answer::Accepted => after(j, t, s),
+        Answer::Refused(r) => refused(j, in_line(next, r)),
     }
 }
 
@@ -485,65 +340,38 @@ pub fn step(j: Judge, s: &[u8]) -> Judge
     ensures { λ r. ⌜ r ≡ stepped j (now (s .entry)) ⌝ }
 {
     let condition = j.condition;
-    let lines = j.lines;
-    let stays = is_refused(condition);
-    if stays {
+    let lines = j.read.lines;
+    if is_refused(condition) {
         return j;
     }
-    if !is_sound(j) {
-        return refused(j, Refusal::Beyond(line_alone(1000001)));
-    }
-    if 1000000 <= lines {
-        return refused(j, Refusal::Beyond(line_alone(1000001)));
-    }
-    match wage_line::read_type(s) {
-        Typed::Line(t) => type_step(j, t, s),
-        Typed::Refused(r) => refused_line(j, r),
+    if is_sound(j) & (lines < 1000000) {
+        match wage_line::read_type(s) {
+            Typed::Line(t) => type_step(j, t, s),
+            Typed::Refused(r) => refused(j, in_line(lines + 1, r)),
+        }
+    } else {
+        refused(j, at_line(17, 1000001))
     }
 }
 
 // ---------------------------------------------------------------------------
 // The end
 
-// 17, or what follows.
-fn if_sound(j: Judge, e: Ending) -> Ending
-    ensures { λ r. ⌜ r ≡ ifSound j e ⌝ }
-{
-    if is_sound(j) {
-        return e;
-    }
-    Ending::Refused(Refusal::Beyond(line_alone(1000001)))
-}
-
-// The file ended before its last line.
-fn ended_early(j: Judge) -> Ending
-    ensures { λ r. ⌜ r ≡ ifSound j (unfinished j) ⌝ }
-{
-    let lines = j.lines;
-    if is_sound(j) {
-        let place = line_alone(lines + 1);
-        return Ending::Refused(Refusal::Unfinished(place));
-    }
-    Ending::Refused(Refusal::Beyond(line_alone(1000001)))
-}
-
 // What the file comes to.
 pub fn end(j: Judge) -> Ending
     ensures { λ r. ⌜ r ≡ ended j ⌝ }
 {
     let condition = j.condition;
-    match condition {
-        Condition::Fresh => ended_early(j),
-        Condition::Labelled => ended_early(j),
-        Condition::Grouped => ended_early(j),
-        Condition::Closed => if_sound(
-            j,
-            Ending::Accepted(Counts {
-                lines: j.lines,
-                groups: j.groups,
-                orders: j.orders,
-            }),
-        ),
-        Condition::Refused(r) => Ending::Refused(r),
+    let read = j.read;
+    let lines = read.lines;
+    if is_refused(condition) {
+        return Ending::Refused(refusal_in(condition));
     }
+    if is_sound(j) {
+        if stage(condition) == 3 {
+            return Ending::Accepted(read);
+        }
+        return Ending::Refused(at_line(14, lines + 1));
+    }
+    Ending::Refused(at_line(17, 1000001))
 }

@@ -2,95 +2,87 @@
 -- Assumes nothing.
 use mathlib.Core.Path.{_≡_, refl, sym, ap, _∙_}
 use mathlib.Core.Logic.{_↔_}
-use mathlib.Core.Bool.{Bool, true, false, cond}
+use mathlib.Core.Bool.{true}
 use mathlib.Core.List.{List, [], _∷_, _++_, append-assoc}
-use Prim.Native.Nat.{ℕ, suc, _≤_}
+use Prim.Native.Nat.{ℕ, suc}
 use native.Mathlib.Omega.{arith}
 use lib.ListN.{length}
 use Rattle.refusal.specs.Refusal.{none}
+use Rattle.refusal.specs.declared.Answer.the-variants.{Accepted}
 use Rattle.refusal.specs.declared.Refusal.the-variants.{Date}
 use Rattle.dates.specs.Dates.{isDate}
 use Rattle.sums.specs.Sums.{sumOf}
-use Rattle.sums.proofs.Theorems.{sum-fits}
 use Rattle.wage_line.specs.declared.LineType.{LineType}
 use Rattle.wage_line.specs.declared.LineType.the-variants.{Label, Group, Order, Closing}
 use Rattle.wage_line.specs.declared.Typed.{Typed}
 use Rattle.wage_line.specs.declared.Typed.the-variants as typed
 use Rattle.wage_line.specs.Line.{typedOf}
 use Rattle.wage_fields.specs.Rules.{placesAnswer}
-use Rattle.judge.specs.declared.Condition.{Condition}
-use Rattle.judge.specs.declared.Condition.the-variants.{Fresh, Labelled, Refused}
 use Rattle.judge.specs.declared.Counts.{Counts}
 use Rattle.judge.specs.declared.Ending.the-variants as ending
 use Rattle.judge.specs.declared.Judge.{Judge}
-use Rattle.judge.specs.Judge.{isSound, begunAs, begun, labelled, opened, labelStep, groupStep, orderStep, closingStep, typeStep, stepped, steps, ended}
+use Rattle.judge.specs.Judge.{isSound, fresh, begun, after, standVerdict, stepped, steps, ended}
 use Rattle.wage_file.specs.Right.{Payments, File, groupLines, linesOf, ordersIn, tally, RightLine, kindOf, RightGroup, RightFile}
-use Rattle.wage_file.proofs.RunLaws.{Each, each-more, Ends, never, no-place, placed, went, told, sound, goes, same-counts, noGroup, inGroup, Rest, right-group, rest-run, run-rest}
+use Rattle.wage_file.proofs.RunLaws.{Each, each-more, Ends, chosen, came, told, goes, same-counts, noGroup, inGroup, Rest, right-group, rest-run, run-rest}
 
 -- ---------------------------------------------------------------------------
 -- The first two lines
 
-module _ (day : ℕ) where
-  -- the record before the first line
-  abbrev fresh : Judge
-  fresh = begunAs day Fresh
+-- the counts after a label and a group's first line
+abbrev two : Counts
+two = record { lines = 2; groups = 1; orders = 0 }
 
+module _ (day : ℕ) where
   -- the record after the label
   abbrev afterLabel : List ℕ → Judge
-  afterLabel label = labelled fresh label
-
-  -- a record before a group is sound
-  begun-sound : (c : Condition) (kind lines : ℕ) → lines ≤ 1000000 → isSound (record { condition = c; day = day; kind = kind; lines = lines; groups = 0; orders = 0; declared = 0; promised = sumOf 0; counted = 0; total = sumOf 0 }) ≡ true
-  begun-sound c kind lines h =
-      sound (record { condition = c; day = day; kind = kind; lines = lines; groups = 0; orders = 0; declared = 0; promised = sumOf 0; counted = 0; total = sumOf 0 })
-      h (omega arith) (omega arith) (omega arith) (omega arith) (sum-fits 0 (omega arith)) (sum-fits 0 (omega arith))
+  afterLabel label = after (fresh day) label Label
 
   -- a day that is a date begins fresh
-  begun-made : isDate day ≡ true → begun day ≡ fresh
+  begun-made : isDate day ≡ true → begun day ≡ fresh day
   unfolding begun
   begun-made e = rw e
 
   -- a right label is taken
-  label-made : (label : List ℕ) → RightLine day 0 Label label → stepped fresh label ≡ afterLabel label
-  unfolding labelStep
-  label-made label w = goes fresh label Label refl (begun-sound Fresh 0 0 (omega arith)) (omega arith) (w .typed) ∙ rw (w .fields)
+  label-made : (label : List ℕ) → RightLine day 0 Label label → stepped (fresh day) label ≡ afterLabel label
+  unfolding standVerdict isSound sumOf
+  label-made label w = goes (fresh day) label Label refl refl (omega arith) w refl
 
   -- and a right 301 after it
-  head-made : (label head : List ℕ) → RightLine day (kindOf label) Group head → stepped (afterLabel label) head ≡ inGroup day (kindOf label) head 2 1 0 0 0
-  unfolding groupStep
-  head-made label head w = goes (afterLabel label) head Group refl (begun-sound Labelled (kindOf label) 1 (omega arith)) (omega arith) (w .typed) ∙ rw (w .fields)
+  head-made : (label head : List ℕ) → RightLine day (kindOf label) Group head → stepped (afterLabel label) head ≡ inGroup day (kindOf label) head two 0 0
+  unfolding standVerdict isSound sumOf
+  head-made label head w = goes (afterLabel label) head Group refl refl (omega arith) w refl
 
   module _ (n : Counts) where
     -- only a date begins what ends accepted
-    begun-told : (ls : List (List ℕ)) → Ends n ls (begun day) → (isDate day ≡ true) × Ends n ls fresh
+    begun-told : (ls : List (List ℕ)) → Ends n ls (begun day) → (isDate day ≡ true) × Ends n ls (fresh day)
     unfolding begun
-    begun-told ls e = go (isDate day) refl e
-      where
-        go : (b : Bool) → isDate day ≡ b → Ends n ls (begunAs day (cond b Fresh (Refused (Date none)))) → (isDate day ≡ true) × Ends n ls fresh
-        go true f g = (f, g)
-        go false f g = absurd (never n ls (Date none) fresh g)
+    begun-told ls e = chosen n ls (isDate day) (fresh day) (Date none) (fresh day) e
 
     -- only a right label is taken first
-    label-told : (s : List ℕ) (ss : List (List ℕ)) → Ends n (s ∷ ss) fresh → RightLine day 0 Label s × Ends n ss (afterLabel s)
-    unfolding labelStep groupStep orderStep closingStep
-    label-told s ss e = let w = went n ss fresh s refl e in go (w .0) (w .1) (w .2)
+    label-told : (s : List ℕ) (ss : List (List ℕ)) → Ends n (s ∷ ss) (fresh day) → RightLine day 0 Label s × Ends n ss (afterLabel s)
+    unfolding standVerdict
+    label-told s ss e = let w = came n ss (fresh day) s refl e in go (w .line) (w .typed) (w .stands) (w .fields) (w .goes)
       where
-        go : (t : LineType) → typedOf s ≡ typed.Line t → Ends n ss (typeStep fresh s t) → RightLine day 0 Label s × Ends n ss (afterLabel s)
-        go Label f g = let p = placed n ss fresh (afterLabel s) (placesAnswer day 0 Label s) g in (record { typed = f; fields = p .0 }, p .1)
-        go Group f g = absurd (no-place n ss fresh g)
-        go Order f g = absurd (no-place n ss fresh g)
-        go Closing f g = absurd (no-place n ss fresh g)
+        go :
+            (t : LineType) → typedOf s ≡ typed.Line t → standVerdict 0 (fresh day .group) t ≡ 0 → placesAnswer day 0 t s ≡ Accepted → Ends n ss (after (fresh day) s t) →
+            RightLine day 0 Label s × Ends n ss (afterLabel s)
+        go Label f v p g = (record { typed = f; fields = p }, g)
+        go Group f v p g = absurd (omega arith)
+        go Order f v p g = absurd (omega arith)
+        go Closing f v p g = absurd (omega arith)
 
     -- and only a right 301 after it
-    head-told : (label s : List ℕ) (ss : List (List ℕ)) → Ends n (s ∷ ss) (afterLabel label) → RightLine day (kindOf label) Group s × Ends n ss (inGroup day (kindOf label) s 2 1 0 0 0)
-    unfolding labelStep groupStep orderStep closingStep
-    head-told label s ss e = let w = went n ss (afterLabel label) s refl e in go (w .0) (w .1) (w .2)
+    head-told : (label s : List ℕ) (ss : List (List ℕ)) → Ends n (s ∷ ss) (afterLabel label) → RightLine day (kindOf label) Group s × Ends n ss (inGroup day (kindOf label) s two 0 0)
+    unfolding standVerdict
+    head-told label s ss e = let w = came n ss (afterLabel label) s refl e in go (w .line) (w .typed) (w .stands) (w .fields) (w .goes)
       where
-        go : (t : LineType) → typedOf s ≡ typed.Line t → Ends n ss (typeStep (afterLabel label) s t) → RightLine day (kindOf label) Group s × Ends n ss (inGroup day (kindOf label) s 2 1 0 0 0)
-        go Label f g = absurd (no-place n ss (afterLabel label) g)
-        go Group f g = let p = placed n ss (afterLabel label) (opened (afterLabel label) s) (placesAnswer day (kindOf label) Group s) g in (record { typed = f; fields = p .0 }, p .1)
-        go Order f g = absurd (no-place n ss (afterLabel label) g)
-        go Closing f g = absurd (no-place n ss (afterLabel label) g)
+        go :
+            (t : LineType) → typedOf s ≡ typed.Line t → standVerdict 1 (fresh day .group) t ≡ 0 → placesAnswer day (kindOf label) t s ≡ Accepted → Ends n ss (after (afterLabel label) s t) →
+            RightLine day (kindOf label) Group s × Ends n ss (inGroup day (kindOf label) s two 0 0)
+        go Label f v p g = absurd (omega arith)
+        go Group f v p g = (record { typed = f; fields = p }, g)
+        go Order f v p g = absurd (omega arith)
+        go Closing f v p g = absurd (omega arith)
 
 -- ---------------------------------------------------------------------------
 -- Accepted exactly when
@@ -106,7 +98,7 @@ module _ (day : ℕ) where
   -- a right label, a right 301 and what must follow are a right file
   file-made :
       (label head : List ℕ) (ss : List (List ℕ)) (n : Counts) → isDate day ≡ true → RightLine day 0 Label label → RightLine day (kindOf label) Group head →
-      Rest day (kindOf label) head 2 1 0 0 0 ss n → RightLines day (label ∷ (head ∷ ss)) n
+      Rest day (kindOf label) head two 0 0 ss n → RightLines day (label ∷ (head ∷ ss)) n
   unfolding groupLines ordersIn
   file-made label head ss n a b c r =
       let g : Payments = record { head = head; orders = r .payments } in
@@ -120,7 +112,7 @@ module _ (day : ℕ) where
           dated = a;
           label = b;
           some = omega arith;
-          each = each-more (RightGroup day (kindOf label)) noGroup g (r .following) (right-group day (kindOf label) head 2 1 0 ss n c r) (r .eachGroup);
+          each = each-more (RightGroup day (kindOf label)) noGroup g (r .following) (right-group day (kindOf label) head two ss n c r) (r .eachGroup);
           closing = r .last;
           limit = omega (arith, ap length e, r .limit);
         };
@@ -142,7 +134,7 @@ module _ (day : ℕ) where
       let a = begun-told day n (s ∷ (t ∷ ss)) e in
       let b = label-told day n s (t ∷ ss) (a .1) in
       let c = head-told day n s t ss (b .1) in
-      file-made s t ss n (a .0) (b .0) (c .0) (run-rest day (kindOf s) n ss t 2 1 0 0 0 (c .1))
+      file-made s t ss n (a .0) (b .0) (c .0) (run-rest day (kindOf s) n ss t two 0 0 (c .1))
 
   -- the lines of a right file end accepted, with its counts
   right-run : (label : List ℕ) (gs : List Payments) (closing : List ℕ) → let f : File = record { label = label; groups = gs; closing = closing } in RightFile day f → Ends (tally f) (linesOf f) (begun day)
@@ -153,7 +145,7 @@ module _ (day : ℕ) where
       let x : RightGroup day (kindOf label) g = w .each 0 (omega arith) in
       let ss = (g .orders ++ groupLines gs) ++ (closing ∷ []) in
       let limit = w .limit in
-      let r : Rest day (kindOf label) (g .head) 2 1 0 0 0 ss (tally f) =
+      let r : Rest day (kindOf label) (g .head) two 0 0 ss (tally f) =
       record {
         payments = g .orders;
         following = gs;
@@ -173,7 +165,7 @@ module _ (day : ℕ) where
       ap (λ (j : Judge). ended (steps j (linesOf f))) (begun-made day (w .dated)) ∙
       (ap (λ (j : Judge). ended (steps j (g .head ∷ ss))) (label-made day label (w .label)) ∙
       (ap (λ (j : Judge). ended (steps j ss)) (head-made day label (g .head) (x .head)) ∙
-      rest-run day (kindOf label) (g .head) 2 1 0 0 0 ss (tally f) (omega arith) (omega arith) r))
+      rest-run day (kindOf label) (g .head) two 0 0 ss (tally f) (omega arith) (omega arith) r))
 
   -- what is right is accepted
   right-accepted : (ls : List (List ℕ)) (n : Counts) → RightLines day ls n → ended (steps (begun day) ls) ≡ ending.Accepted n

@@ -8,12 +8,10 @@ use native.Mathlib.Nat.{add-zero}
 use native.Mathlib.Omega.{arith}
 use lib.Dec.{eqb, ltb}
 use lib.ListN.{length, take, getD, length-take, length-append}
-use borrow.Author.Tests.{lt-ltb, le-leb, eq-eqb, ltb-true, ltb-false, leb-true, eqb-true}
+use borrow.Author.Tests.{lt-ltb, le-leb, eq-eqb, ltb-true, ltb-false, eqb-true}
 use Rattle.refusal.specs.declared.Answer.{Answer}
 use Rattle.refusal.specs.declared.Answer.the-variants as answer
 use Rattle.refusal.specs.declared.Refusal.{Refusal}
-use Rattle.refusal.specs.declared.Refusal.the-variants.{Orders, Sum as WrongSum, Misplaced}
-use Rattle.text.proofs.Laws.{both-true}
 use Rattle.sums.specs.Sums.{tooMuch, fits, sameSum, sumOf, numberOf}
 use Rattle.sums.proofs.Laws.{added-on}
 use Rattle.sums.proofs.Theorems.{sum-fits, sums-told-apart, beyond-never-same, text-small}
@@ -24,13 +22,14 @@ use Rattle.wage_line.specs.declared.Typed.the-variants as typed
 use Rattle.wage_line.specs.Places.{spots, spotIn}
 use Rattle.wage_line.specs.Line.{typedOf, partOf}
 use Rattle.wage_contents.specs.Contents.{numberIn}
-use Rattle.wage_fields.specs.Rules.{placesAnswer}
-use Rattle.judge.specs.declared.Condition.{Condition}
-use Rattle.judge.specs.declared.Condition.the-variants.{Fresh, Labelled, Grouped, Closed, Refused}
+use Rattle.wage_fields.specs.Rules.{placesFrom, placesAnswer}
+use Rattle.judge.specs.declared.Condition.the-variants.{Grouped}
 use Rattle.judge.specs.declared.Counts.{Counts}
 use Rattle.judge.specs.declared.Ending.the-variants as ending
 use Rattle.judge.specs.declared.Judge.{Judge}
-use Rattle.judge.specs.Judge.{isRefused, refusedWith, lineAlone, nextLine, ofLine, beyond, isSound, afterPlaces, misplaced, opened, ordered, closed, settled, mayEnd, labelStep, openStep, groupStep, orderStep, closingStep, typeStep, typedStep, stepped, steps, countsOf, endedIn, ended}
+use Rattle.judge.specs.Judge.{stageOf, isRefused, refusalIn, refusedWith, atLine, inLine, nextLine, beyond, isSound, oneMore, after, wholeVerdict, standVerdict, afterPlaces, typeStep, typedStep, stepped, steps, ended}
+use Rattle.judge.proofs.Laws.{sound-within}
+use Rattle.judge.proofs.Theorems.{refusal-stays-on, refusal-ends, closed-accepts}
 use Rattle.wage_file.specs.Right.{Payments, groupLines, ordersIn, RightLine, RightGroup, amounts}
 
 -- ---------------------------------------------------------------------------
@@ -53,101 +52,98 @@ module _ {A : Type 0} (P : A → Type 0) (d : A) where
 abbrev pub Ends : Counts → List (List ℕ) → Judge → Type 0
 Ends n ss j = ended (steps j ss) ≡ ending.Accepted n
 
--- a refused record stays as it is
-refused-stays : (r : Refusal) (j : Judge) (ss : List (List ℕ)) → steps (refusedWith r j) ss ≡ refusedWith r j
-unfolding steps stepped
-refused-stays r j [] = refl
-refused-stays r j (s ∷ ss) = refused-stays r j ss
-
 module _ (n : Counts) (ss : List (List ℕ)) where
-  -- so it never ends accepted
+  -- a refused record never ends accepted
   pub never : (r : Refusal) (j : Judge) → Ends n ss (refusedWith r j) → ⊥
-  unfolding ended
   never r j e =
-      let f : ending.Refused r ≡ ending.Accepted n = ap ended (sym (refused-stays r j ss)) ∙ e in
+      let k = refusedWith r j in
+      let f : ending.Refused r ≡ ending.Accepted n = sym (refusal-ends k r refl) ∙ (ap ended (sym (refusal-stays-on k refl ss)) ∙ e) in
       let z : _≡_ {A = ℕ} 0 1 = cc in
       omega arith
 
-  -- nor does one with a line out of place
-  pub no-place : (j : Judge) → Ends n ss (misplaced j) → ⊥
-  no-place j e = never (Misplaced (lineAlone (nextLine j))) j e
-
   -- a choice between going on and a refusal goes on
-  chosen : (b : Bool) (next : Judge) (r : Refusal) (j : Judge) → Ends n ss (cond b next (refusedWith r j)) → (b ≡ true) × Ends n ss next
+  pub chosen : (b : Bool) (next : Judge) (r : Refusal) (j : Judge) → Ends n ss (cond b next (refusedWith r j)) → (b ≡ true) × Ends n ss next
   chosen true next r j e = (refl, e)
   chosen false next r j e = absurd (never r j e)
 
-  -- a line's places are right
-  pub placed : (j next : Judge) (a : Answer) → Ends n ss (afterPlaces j next a) → (a ≡ answer.Accepted) × Ends n ss next
-  placed j next answer.Accepted e = (refl, e)
-  placed j next (answer.Refused r) e = absurd (never (ofLine j r) j e)
+  -- what is known of a line after which a file ends accepted: its type may come, its fields are right, and it was taken
+  pub record Came (j : Judge) (s : List ℕ) : Type 0 where
+    pub line : LineType
+    pub typed : typedOf s ≡ typed.Line line
+    pub stands : standVerdict (stageOf (j .condition)) (j .group) line ≡ 0
+    pub fields : placesAnswer (j .day) (j .kind) line s ≡ answer.Accepted
+    pub goes : Ends n ss (after j s line)
 
-  -- a line has a type, and a step of that type is made
-  pub went : (j : Judge) (s : List ℕ) → isRefused (j .condition) ≡ false → Ends n (s ∷ ss) j → (t : LineType) × (typedOf s ≡ typed.Line t) × Ends n ss (typeStep j s t)
-  unfolding steps stepped
-  went j s e w =
-      go (typedOf s) refl (chosen (isSound j && ltb (j .lines) 1000000) (typedStep j s (typedOf s)) beyond j (rw e at w) .1)
+  pub came : (j : Judge) (s : List ℕ) → isRefused (j .condition) ≡ false → Ends n (s ∷ ss) j → Came j s
+  unfolding steps stepped typeStep
+  came j s e w = go (typedOf s) refl (chosen (isSound j && ltb (j .read .lines) 1000000) (typedStep j s (typedOf s)) beyond j (rw e at w) .1)
     where
-      go : (t : Typed) → typedOf s ≡ t → Ends n ss (typedStep j s t) → (t : LineType) × (typedOf s ≡ typed.Line t) × Ends n ss (typeStep j s t)
-      go (typed.Line t) f g = (t, f, g)
-      go (typed.Refused r) f g = absurd (never (ofLine j r) j g)
+      placed : (t : LineType) (a : Answer) → Ends n ss (afterPlaces j s t a) → (a ≡ answer.Accepted) × Ends n ss (after j s t)
+      placed t answer.Accepted g = (refl, g)
+      placed t (answer.Refused r) g = absurd (never (inLine (nextLine j) r) j g)
 
--- a refusal on either side of a test is no acceptance
-no-end : (n : Counts) (b : Bool) (q r : Refusal) → cond b (ending.Refused q) (ending.Refused r) ≡ ending.Accepted n → ⊥
-no-end n true q r e = let z : _≡_ {A = ℕ} 0 1 = cc in omega arith
-no-end n false q r e = let z : _≡_ {A = ℕ} 0 1 = cc in omega arith
+      go : (t : Typed) → typedOf s ≡ t → Ends n ss (typedStep j s t) → Came j s
+      go (typed.Line t) f g =
+          let v = standVerdict (stageOf (j .condition)) (j .group) t in
+          let fields = placesAnswer (j .day) (j .kind) t s in
+          let a = chosen (eqb v 0) (afterPlaces j s t fields) (atLine v (nextLine j)) j g in
+          let b = placed t fields (a .1) in
+          record { line = t; typed = f; stands = eqb-true v 0 (a .0); fields = b .0; goes = b .1 }
+      go (typed.Refused r) f g = absurd (never (inLine (nextLine j) r) j g)
 
 -- what an accepted end says of its record: the 399 was read, it is sound, and its counts are told
 pub record Told (n : Counts) (j : Judge) : Type 0 where
-  pub last : j .condition ≡ Closed
+  pub last : eqb (stageOf (j .condition)) 3 ≡ true
   pub sound : isSound j ≡ true
-  pub counts : countsOf j ≡ n
+  pub counts : j .read ≡ n
 
 -- an accepted end says so
 pub told : (n : Counts) (j : Judge) → Ends n [] j → Told n j
 unfolding steps ended
-told n j e = go (j .condition) refl e
+told n j e = go (isRefused (j .condition)) (isSound j) (eqb (stageOf (j .condition)) 3) refl refl e
   where
-    sure : (b : Bool) → isSound j ≡ b → cond b (ending.Accepted (countsOf j)) (ending.Refused beyond) ≡ ending.Accepted n → (isSound j ≡ true) × (countsOf j ≡ n)
-    sure true f g = (f, cc)
-    sure false f g = let z : _≡_ {A = ℕ} 0 1 = cc in absurd (omega arith)
-
-    go : (c : Condition) → j .condition ≡ c → endedIn c j ≡ ending.Accepted n → Told n j
-    go Fresh f g = absurd (no-end n (isSound j) _ _ g)
-    go Labelled f g = absurd (no-end n (isSound j) _ _ g)
-    go Grouped f g = absurd (no-end n (isSound j) _ _ g)
-    go Closed f g = let h = sure (isSound j) refl g in record { last = f; sound = h .0; counts = h .1 }
-    go (Refused r) f g = let z : _≡_ {A = ℕ} 0 1 = cc in absurd (omega arith)
+    go :
+        (a b c : Bool) → isSound j ≡ b → eqb (stageOf (j .condition)) 3 ≡ c →
+        cond a (ending.Refused (refusalIn (j .condition))) (cond b (cond c (ending.Accepted (j .read)) (ending.Refused (atLine 14 (nextLine j)))) (ending.Refused beyond)) ≡ ending.Accepted n →
+        Told n j
+    go true b c f g h = let z : _≡_ {A = ℕ} 0 1 = cc in absurd (omega arith)
+    go false false c f g h = let z : _≡_ {A = ℕ} 0 1 = cc in absurd (omega arith)
+    go false true false f g h = let z : _≡_ {A = ℕ} 0 1 = cc in absurd (omega arith)
+    go false true true f g h = record { last = g; sound = f; counts = cc }
 
 -- "then one 399 and nothing after"
-nothing-after : (n : Counts) (ss : List (List ℕ)) (j : Judge) → Ends n ss (closed j) → ss ≡ []
-unfolding labelStep groupStep orderStep closingStep
-nothing-after n [] j e = refl
-nothing-after n (s ∷ ss) j e = let w = went n ss (closed j) s refl e in go (w .0) (w .2)
+nothing-after : (n : Counts) (ss : List (List ℕ)) (j : Judge) → stageOf (j .condition) ≡ 3 → Ends n ss j → ss ≡ []
+unfolding standVerdict
+nothing-after n [] j f e = refl
+nothing-after n (s ∷ ss) j f e = let w = came n ss j s (rw f) e in go (w .line) (rw f at (w .stands))
   where
-    go : (t : LineType) → Ends n ss (typeStep (closed j) s t) → s ∷ ss ≡ []
-    go Label f = absurd (no-place n ss (closed j) f)
-    go Group f = absurd (no-place n ss (closed j) f)
-    go Order f = absurd (no-place n ss (closed j) f)
-    go Closing f = absurd (no-place n ss (closed j) f)
-
--- a sound record has read at most 1,000,000 lines
-sound-lines : (j : Judge) → isSound j ≡ true → j .lines ≤ 1000000
-unfolding isSound
-sound-lines j e = leb-true (j .lines) 1000000 (both-true _ _ e .0)
+    go : (t : LineType) → standVerdict 3 (j .group) t ≡ 0 → s ∷ ss ≡ []
+    go Label g = absurd (omega arith)
+    go Group g = absurd (omega arith)
+    go Order g = absurd (omega arith)
+    go Closing g = absurd (omega arith)
 
 -- ---------------------------------------------------------------------------
 -- A step that is made
 
 -- numbers and sums that are small enough make a sound record
-pub sound : (j : Judge) → j .lines ≤ 1000000 → j .groups ≤ 1000000 → j .orders ≤ 1000000 → j .declared ≤ 1000000 → j .counted ≤ 1000000 → fits (j .promised) ≡ true → fits (j .total) ≡ true → isSound j ≡ true
+pub sound :
+    (j : Judge) → j .read .lines ≤ 1000000 → j .read .groups ≤ 1000000 → j .read .orders ≤ 1000000 → j .group .declared ≤ 1000000 → j .group .counted ≤ 1000000 →
+    fits (j .group .promised) ≡ true → fits (j .group .total) ≡ true → isSound j ≡ true
 unfolding isSound
 sound j a b c d e f g = rw (le-leb _ _ a, le-leb _ _ b, le-leb _ _ c, le-leb _ _ d, le-leb _ _ e, f, g)
 
--- a sound record that is not refused makes the step of a line's type
-pub goes : (j : Judge) (s : List ℕ) (t : LineType) → isRefused (j .condition) ≡ false → isSound j ≡ true → j .lines < 1000000 → typedOf s ≡ typed.Line t → stepped j s ≡ typeStep j s t
-unfolding stepped
-goes j s t a b c e = rw (a, b, lt-ltb _ _ c, e)
+-- a sound record that is not refused takes a right line where it may come
+pub goes :
+    (j : Judge) (s : List ℕ) (t : LineType) → isRefused (j .condition) ≡ false → isSound j ≡ true → j .read .lines < 1000000 → RightLine (j .day) (j .kind) t s →
+    standVerdict (stageOf (j .condition)) (j .group) t ≡ 0 → stepped j s ≡ after j s t
+unfolding stepped typeStep
+goes j s t a b c w e = rw (a, b, lt-ltb _ _ c, w .typed, e, w .fields)
+
+-- a 399 has no places
+pub right-closing : (day kind : ℕ) (s : List ℕ) → typedOf s ≡ typed.Line Closing → RightLine day kind Closing s
+unfolding placesAnswer placesFrom spots
+right-closing day kind s e = record { typed = e; fields = refl }
 
 -- ---------------------------------------------------------------------------
 -- What a group's first line declares
@@ -189,6 +185,11 @@ same-number m p h e = go (ltb m tooMuch) refl
 pub same-counts : (m n : Counts) → m .lines ≡ n .lines → m .groups ≡ n .groups → m .orders ≡ n .orders → m ≡ n
 same-counts m n a b c = λ i. record { lines = a i; groups = b i; orders = c i }
 
+-- a test whose other answer is a refusal's number passed
+passed : (b : Bool) (v w : ℕ) → cond b v (suc w) ≡ 0 → (b ≡ true) × (v ≡ 0)
+passed true v w e = (refl, e)
+passed false v w e = absurd (omega arith)
+
 -- ---------------------------------------------------------------------------
 -- Inside a group
 
@@ -198,22 +199,17 @@ noGroup = record { head = []; orders = [] }
 
 module _ (day kind : ℕ) where
   -- the record inside a group with this first line, after so many lines, groups and orders, so many orders of the group, and their sum
-  abbrev pub inGroup : List ℕ → ℕ → ℕ → ℕ → ℕ → ℕ → Judge
-  inGroup head lines groups orders counted total = record {
+  abbrev pub inGroup : List ℕ → Counts → ℕ → ℕ → Judge
+  inGroup head m counted total = record {
     condition = Grouped;
     day = day;
     kind = kind;
-    lines = lines;
-    groups = groups;
-    orders = orders;
-    declared = declaredIn head;
-    promised = sumOf (promisedIn head);
-    counted = counted;
-    total = sumOf total;
+    read = m;
+    group = record { declared = declaredIn head; promised = sumOf (promisedIn head); counted = counted; total = sumOf total };
   }
 
   -- what must follow there: orders to the declared number and sum, right groups, and the 399; and which counts they come to
-  pub record Rest (head : List ℕ) (lines groups orders counted total : ℕ) (ss : List (List ℕ)) (n : Counts) : Type 0 where
+  pub record Rest (head : List ℕ) (m : Counts) (counted total : ℕ) (ss : List (List ℕ)) (n : Counts) : Type 0 where
     pub payments : List (List ℕ)
     pub following : List Payments
     pub closing : List ℕ
@@ -224,30 +220,39 @@ module _ (day kind : ℕ) where
     pub sum : total + amounts payments ≡ promisedIn head
     pub eachGroup : Each (RightGroup day kind) noGroup following
     pub last : typedOf closing ≡ typed.Line Closing
-    pub limit : lines + length ss ≤ 1000000
-    pub linesTold : n .lines ≡ lines + length ss
-    pub groupsTold : n .groups ≡ groups + length following
-    pub ordersTold : n .orders ≡ orders + (length payments + ordersIn following)
+    pub limit : m .lines + length ss ≤ 1000000
+    pub linesTold : n .lines ≡ m .lines + length ss
+    pub groupsTold : n .groups ≡ m .groups + length following
+    pub ordersTold : n .orders ≡ m .orders + (length payments + ordersIn following)
+
+  -- within the limit the record is sound
+  group-sound :
+      (head : List ℕ) (m : Counts) (counted total : ℕ) → m .lines ≤ 1000000 → m .groups ≤ m .lines → m .orders ≤ m .lines → counted ≤ declaredIn head → total ≤ promisedIn head →
+      isSound (inGroup head m counted total) ≡ true
+  group-sound head m counted total a b c d e =
+      let small = declared-small head in
+      let less = promised-small head in
+      sound (inGroup head m counted total) a (omega arith) (omega arith) (omega arith) (omega arith) (sum-fits (promisedIn head) less) (sum-fits total (omega arith))
 
   -- the orders that end a group make it right
-  pub right-group : (head : List ℕ) (lines groups orders : ℕ) (ss : List (List ℕ)) (n : Counts) → RightLine day kind Group head → (r : Rest head lines groups orders 0 0 ss n) → RightGroup day kind (record { head = head; orders = r .payments })
-  right-group head lines groups orders ss n w r = record { head = w; some = omega (arith, r .some); each = r .each; number = omega (arith, r .number); sum = omega (arith, r .sum) }
+  pub right-group : (head : List ℕ) (m : Counts) (ss : List (List ℕ)) (n : Counts) → RightLine day kind Group head → (r : Rest head m 0 0 ss n) → RightGroup day kind (record { head = head; orders = r .payments })
+  right-group head m ss n w r = record { head = w; some = omega (arith, r .some); each = r .each; number = omega (arith, r .number); sum = omega (arith, r .sum) }
 
   -- -------------------------------------------------------------------------
   -- One line
 
-  module _ (head : List ℕ) (lines groups orders counted total : ℕ) where
+  module _ (head : List ℕ) (m : Counts) (counted total : ℕ) where
     -- the record before the line
     abbrev here : Judge
-    here = inGroup head lines groups orders counted total
+    here = inGroup head m counted total
 
     -- the record after an order
     abbrev withOrder : List ℕ → Judge
-    withOrder s = inGroup head (lines + 1) groups (orders + 1) (counted + 1) (total + amountIn s)
+    withOrder s = inGroup head (oneMore (m .groups) (m .orders + 1) m) (counted + 1) (total + amountIn s)
 
     -- the record after another group's first line
     abbrev withGroup : List ℕ → Judge
-    withGroup s = inGroup s (lines + 1) (groups + 1) orders 0 0
+    withGroup s = inGroup s (oneMore (m .groups + 1) (m .orders) m) 0 0
 
     -- the group is as its first line declares
     record Whole : Type 0 where
@@ -256,95 +261,69 @@ module _ (day kind : ℕ) where
       sum : total ≡ promisedIn head
 
     -- an order read is one more order
-    ordered-as : (s : List ℕ) → ordered here s ≡ withOrder s
+    ordered-as : (s : List ℕ) → after here s Order ≡ withOrder s
     ordered-as s = rw (added-on total (amountIn s))
 
     -- a whole group may end
-    settled-made : (next : Judge) → Whole → cond (mayEnd here) (settled here next) (misplaced here) ≡ next
-    settled-made next w =
+    whole-made : Whole → wholeVerdict 2 (here .group) ≡ 0
+    whole-made w =
         let less = promised-small head in
         rw (lt-ltb 0 counted (w .some), eq-eqb counted (declaredIn head) (w .number), sums-told-apart total (promisedIn head) (omega arith) less .1 (w .sum))
 
     -- and only a whole group
-    settled-told : (n : Counts) (ss : List (List ℕ)) (next : Judge) → Ends n ss (cond (mayEnd here) (settled here next) (misplaced here)) → Whole × Ends n ss next
-    settled-told n ss next e =
-        let wrongNumber = Orders (lineAlone (nextLine here)) in
-        let wrongSum = WrongSum (lineAlone (nextLine here)) in
+    whole-told : wholeVerdict 2 (here .group) ≡ 0 → Whole
+    whole-told e =
         let same = sameSum (sumOf total) (sumOf (promisedIn head)) in
-        let a = chosen n ss (mayEnd here) (settled here next) (Misplaced (lineAlone (nextLine here))) here e in
-        let b = chosen n ss (eqb counted (declaredIn head)) (cond same next (refusedWith wrongSum here)) wrongNumber here (a .1) in
-        let c = chosen n ss same next wrongSum here (b .1) in
-        (record { some = ltb-true 0 counted (a .0); number = eqb-true counted (declaredIn head) (b .0); sum = same-number total (promisedIn head) (promised-small head) (c .0) }, c .1)
+        let a = passed (ltb 0 counted) (cond (eqb counted (declaredIn head)) (cond same 0 13) 12) 9 e in
+        let b = passed (eqb counted (declaredIn head)) (cond same 0 13) 11 (a .1) in
+        let c = passed same 0 12 (b .1) in
+        record { some = ltb-true 0 counted (a .0); number = eqb-true counted (declaredIn head) (b .0); sum = same-number total (promisedIn head) (promised-small head) (c .0) }
 
-    module _ (a : lines < 1000000) (b : groups ≤ lines) (c : orders ≤ lines) where
-      -- before the limit the record is sound
-      here-sound : counted ≤ declaredIn head → total ≤ promisedIn head → isSound here ≡ true
-      here-sound d e =
-          let small = declared-small head in
-          let less = promised-small head in
-          sound here (omega arith) (omega arith) (omega arith) (omega arith) (omega arith) (sum-fits (promisedIn head) less) (sum-fits total (omega arith))
-
+    module _ (a : m .lines < 1000000) (b : m .groups ≤ m .lines) (c : m .orders ≤ m .lines) where
       -- a right order is taken
       order-made : (s : List ℕ) → RightLine day kind Order s → counted < declaredIn head → total ≤ promisedIn head → stepped here s ≡ withOrder s
-      unfolding orderStep
-      order-made s w d e = goes here s Order refl (here-sound (omega arith) e) a (w .typed) ∙ rw (lt-ltb counted (declaredIn head) d, w .fields) (ordered-as s)
+      unfolding standVerdict
+      order-made s w d e = goes here s Order refl (group-sound head m counted total (omega arith) b c (omega arith) e) a w (rw (lt-ltb counted (declaredIn head) d)) ∙ ordered-as s
 
       -- a right 301 is taken after a whole group
       group-made : (s : List ℕ) → RightLine day kind Group s → Whole → stepped here s ≡ withGroup s
-      unfolding groupStep
-      group-made s w d = goes here s Group refl (here-sound (omega arith) (omega arith)) a (w .typed) ∙ (settled-made (openStep here s) d ∙ rw (w .fields))
+      unfolding standVerdict
+      group-made s w d = goes here s Group refl (group-sound head m counted total (omega arith) b c (omega arith) (omega arith)) a w (whole-made d)
 
-      -- and so is a 399
-      closing-made : (s : List ℕ) → typedOf s ≡ typed.Line Closing → Whole → Ends (record { lines = lines + 1; groups = groups; orders = orders }) (s ∷ []) here
-      unfolding steps closingStep ended
+      -- and a 399, after which the file ends accepted
+      closing-made : (s : List ℕ) → typedOf s ≡ typed.Line Closing → Whole → Ends (oneMore (m .groups) (m .orders) m) (s ∷ []) here
+      unfolding steps standVerdict isSound
       closing-made s w d =
-          let small = declared-small head in
-          let less = promised-small head in
-          let g : stepped here s ≡ closed here = goes here s Closing refl (here-sound (omega arith) (omega arith)) a w ∙ settled-made (closed here) d in
-          let h : isSound (closed here) ≡ true = sound (closed here) (omega arith) (omega arith) (omega arith) (omega arith) (omega arith) (sum-fits (promisedIn head) less) (sum-fits total (omega arith)) in
-          ap ended g ∙ rw h
+          ap ended (goes here s Closing refl (group-sound head m counted total (omega arith) b c (omega arith) (omega arith)) a (right-closing day kind s w) (whole-made d)) ∙
+          closed-accepts (after here s Closing)
+          (group-sound head (oneMore (m .groups) (m .orders) m) counted total (omega arith) (omega arith) (omega arith) (omega arith) (omega arith)) refl
 
     module _ (s : List ℕ) (ss : List (List ℕ)) (n : Counts) where
-      -- no label is taken inside a group
-      rest-label : Ends n ss (labelStep here s) → ⊥
-      unfolding labelStep
-      rest-label e = no-place n ss here e
-
       -- an order that was taken, and what follows it
       rest-order :
-          typedOf s ≡ typed.Line Order → Ends n ss (orderStep here s) → (Ends n ss (withOrder s) → Rest head (lines + 1) groups (orders + 1) (counted + 1) (total + amountIn s) ss n) →
-          Rest head lines groups orders counted total (s ∷ ss) n
-      unfolding orderStep amounts
-      rest-order w e f =
-          let a = chosen n ss (ltb counted (declaredIn head)) (afterPlaces here (ordered here s) (placesAnswer day kind Order s)) (Orders (lineAlone (nextLine here))) here e in
-          let b = placed n ss here (ordered here s) (placesAnswer day kind Order s) (a .1) in
-          let r = f (ap (λ (j : Judge). ended (steps j ss)) (sym (ordered-as s)) ∙ b .1) in
-          record {
-            payments = s ∷ r .payments;
-            following = r .following;
-            closing = r .closing;
-            inOrder = ap (λ (ls : List (List ℕ)). s ∷ ls) (r .inOrder);
-            each = each-more (RightLine day kind Order) [] s (r .payments) (record { typed = w; fields = b .0 }) (r .each);
-            some = omega arith;
-            number = omega (arith, r .number);
-            sum = omega (arith, r .sum);
-            eachGroup = r .eachGroup;
-            last = r .last;
-            limit = omega (arith, r .limit);
-            linesTold = omega (arith, r .linesTold);
-            groupsTold = r .groupsTold;
-            ordersTold = omega (arith, r .ordersTold);
-          }
+          RightLine day kind Order s → Rest head (oneMore (m .groups) (m .orders + 1) m) (counted + 1) (total + amountIn s) ss n → Rest head m counted total (s ∷ ss) n
+      unfolding amounts
+      rest-order w r = record {
+        payments = s ∷ r .payments;
+        following = r .following;
+        closing = r .closing;
+        inOrder = ap (λ (ls : List (List ℕ)). s ∷ ls) (r .inOrder);
+        each = each-more (RightLine day kind Order) [] s (r .payments) w (r .each);
+        some = omega arith;
+        number = omega (arith, r .number);
+        sum = omega (arith, r .sum);
+        eachGroup = r .eachGroup;
+        last = r .last;
+        limit = omega (arith, r .limit);
+        linesTold = omega (arith, r .linesTold);
+        groupsTold = r .groupsTold;
+        ordersTold = omega (arith, r .ordersTold);
+      }
 
       -- a group's first line that was taken, and what follows it
-      rest-group :
-          typedOf s ≡ typed.Line Group → Ends n ss (groupStep here s) → (Ends n ss (withGroup s) → Rest s (lines + 1) (groups + 1) orders 0 0 ss n) →
-          Rest head lines groups orders counted total (s ∷ ss) n
-      unfolding groupStep groupLines ordersIn amounts
-      rest-group w e f =
-          let a = settled-told n ss (openStep here s) e in
-          let b = placed n ss here (opened here s) (placesAnswer day kind Group s) (a .1) in
-          let r = f (b .1) in
+      rest-group : RightLine day kind Group s → Whole → Rest s (oneMore (m .groups + 1) (m .orders) m) 0 0 ss n → Rest head m counted total (s ∷ ss) n
+      unfolding groupLines ordersIn amounts
+      rest-group w v r =
           let g : Payments = record { head = s; orders = r .payments } in
           record {
             payments = [];
@@ -352,10 +331,10 @@ module _ (day kind : ℕ) where
             closing = r .closing;
             inOrder = ap (λ (ls : List (List ℕ)). s ∷ ls) (append-assoc (r .payments) (groupLines (r .following)) (r .closing ∷ []) ∙ r .inOrder);
             each = λ k h. absurd (omega arith);
-            some = omega (arith, a .0 .some);
-            number = omega (arith, a .0 .number);
-            sum = omega (arith, a .0 .sum);
-            eachGroup = each-more (RightGroup day kind) noGroup g (r .following) (right-group s (lines + 1) (groups + 1) orders ss n (record { typed = w; fields = b .0 }) r) (r .eachGroup);
+            some = omega (arith, v .some);
+            number = omega (arith, v .number);
+            sum = omega (arith, v .sum);
+            eachGroup = each-more (RightGroup day kind) noGroup g (r .following) (right-group s (oneMore (m .groups + 1) (m .orders) m) ss n w r) (r .eachGroup);
             last = r .last;
             limit = omega (arith, r .limit);
             linesTold = omega (arith, r .linesTold);
@@ -364,27 +343,26 @@ module _ (day kind : ℕ) where
           }
 
       -- a 399 that was taken, and nothing after it
-      rest-closing : typedOf s ≡ typed.Line Closing → Ends n ss (closingStep here) → Rest head lines groups orders counted total (s ∷ ss) n
-      unfolding closingStep groupLines ordersIn amounts
-      rest-closing w e =
-          let a = settled-told n ss (closed here) e in
-          let none = nothing-after n ss here (a .1) in
-          let t = told n (closed here) (rw none at (a .1)) in
+      rest-closing : typedOf s ≡ typed.Line Closing → Whole → Ends n ss (after here s Closing) → Rest head m counted total (s ∷ ss) n
+      unfolding groupLines ordersIn amounts
+      rest-closing w v e =
+          let none = nothing-after n ss (after here s Closing) refl e in
+          let t = told n (after here s Closing) (rw none at e) in
           record {
             payments = [];
             following = [];
             closing = s;
             inOrder = ap (λ (ls : List (List ℕ)). s ∷ ls) (sym none);
             each = λ k h. absurd (omega arith);
-            some = omega (arith, a .0 .some);
-            number = omega (arith, a .0 .number);
-            sum = omega (arith, a .0 .sum);
+            some = omega (arith, v .some);
+            number = omega (arith, v .number);
+            sum = omega (arith, v .sum);
             eachGroup = λ k h. absurd (omega arith);
             last = w;
-            limit = omega (arith, sound-lines (closed here) (t .sound), ap length none);
-            linesTold = omega (arith, ap (λ (m : Counts). m .lines) (t .counts), ap length none);
-            groupsTold = omega (arith, ap (λ (m : Counts). m .groups) (t .counts));
-            ordersTold = omega (arith, ap (λ (m : Counts). m .orders) (t .counts));
+            limit = omega (arith, sound-within (after here s Closing) (t .sound) .lines, ap length none);
+            linesTold = omega (arith, ap (λ (k : Counts). k .lines) (t .counts), ap length none);
+            groupsTold = omega (arith, ap (λ (k : Counts). k .groups) (t .counts));
+            ordersTold = omega (arith, ap (λ (k : Counts). k .orders) (t .counts));
           }
 
   -- -------------------------------------------------------------------------
@@ -392,74 +370,80 @@ module _ (day kind : ℕ) where
 
   -- right orders one after another make the group whole
   orders-run :
-      (head : List ℕ) (groups : ℕ) (ss os : List (List ℕ)) (lines orders counted total : ℕ) → Each (RightLine day kind Order) [] os →
-      counted + length os ≡ declaredIn head → total + amounts os ≡ promisedIn head → lines + length os ≤ 1000000 → groups ≤ lines → orders ≤ lines →
-      steps (inGroup head lines groups orders counted total) (os ++ ss) ≡ steps (inGroup head (lines + length os) groups (orders + length os) (declaredIn head) (promisedIn head)) ss
+      (head : List ℕ) (ss os : List (List ℕ)) (m : Counts) (counted total : ℕ) → Each (RightLine day kind Order) [] os →
+      counted + length os ≡ declaredIn head → total + amounts os ≡ promisedIn head → m .lines + length os ≤ 1000000 → m .groups ≤ m .lines → m .orders ≤ m .lines →
+      steps (inGroup head m counted total) (os ++ ss) ≡
+      steps (inGroup head (record { lines = m .lines + length os; groups = m .groups; orders = m .orders + length os }) (declaredIn head) (promisedIn head)) ss
   unfolding steps amounts
-  orders-run head groups ss [] lines orders counted total f a b c d e =
+  orders-run head ss [] m counted total f a b c d e =
       let p : counted ≡ declaredIn head = omega arith in
       let q : total ≡ promisedIn head = omega arith in
-      rw (p, q, add-zero lines, add-zero orders)
-  orders-run head groups ss (s ∷ os) lines orders counted total f a b c d e =
-      let p : lines + 1 + length os ≡ lines + length (s ∷ os) = omega arith in
-      let q : orders + 1 + length os ≡ orders + length (s ∷ os) = omega arith in
-      ap (λ (j : Judge). steps j (os ++ ss)) (order-made head lines groups orders counted total (omega arith) d e s (f 0 (omega arith)) (omega arith) (omega arith)) ∙
-      rw (p, q) at (orders-run head groups ss os (lines + 1) (orders + 1) (counted + 1) (total + amountIn s) (λ k h. f (suc k) (omega arith))
+      rw (p, q, add-zero (m .lines), add-zero (m .orders))
+  orders-run head ss (s ∷ os) m counted total f a b c d e =
+      let p : m .lines + 1 + length os ≡ m .lines + length (s ∷ os) = omega arith in
+      let q : m .orders + 1 + length os ≡ m .orders + length (s ∷ os) = omega arith in
+      ap (λ (j : Judge). steps j (os ++ ss)) (order-made head m counted total (omega arith) d e s (f 0 (omega arith)) (omega arith) (omega arith)) ∙
+      rw (p, q) at (orders-run head ss os (oneMore (m .groups) (m .orders + 1) m) (counted + 1) (total + amountIn s) (λ k h. f (suc k) (omega arith))
       (omega arith) (omega arith) (omega arith) (omega arith) (omega arith))
 
   -- a whole group, right groups behind it, and the 399 end accepted
   groups-run :
-      (closing : List ℕ) (n : Counts) → typedOf closing ≡ typed.Line Closing → n .lines ≤ 1000000 → (gs : List Payments) (head : List ℕ) (lines groups orders : ℕ) →
-      Each (RightGroup day kind) noGroup gs → 0 < declaredIn head → groups ≤ lines → orders ≤ lines →
-      n .lines ≡ lines + length (groupLines gs ++ (closing ∷ [])) → n .groups ≡ groups + length gs → n .orders ≡ orders + ordersIn gs →
-      Ends n (groupLines gs ++ (closing ∷ [])) (inGroup head lines groups orders (declaredIn head) (promisedIn head))
+      (closing : List ℕ) (n : Counts) → typedOf closing ≡ typed.Line Closing → n .lines ≤ 1000000 → (gs : List Payments) (head : List ℕ) (m : Counts) →
+      Each (RightGroup day kind) noGroup gs → 0 < declaredIn head → m .groups ≤ m .lines → m .orders ≤ m .lines →
+      n .lines ≡ m .lines + length (groupLines gs ++ (closing ∷ [])) → n .groups ≡ m .groups + length gs → n .orders ≡ m .orders + ordersIn gs →
+      Ends n (groupLines gs ++ (closing ∷ [])) (inGroup head m (declaredIn head) (promisedIn head))
   unfolding groupLines ordersIn steps
-  groups-run closing n w limit [] head lines groups orders f some a b c d e =
-      closing-made head lines groups orders (declaredIn head) (promisedIn head) (omega arith) a b closing w (record { some = some; number = refl; sum = refl }) ∙
-      ap ending.Accepted (same-counts (record { lines = lines + 1; groups = groups; orders = orders }) n (omega arith) (omega arith) (omega arith))
-  groups-run closing n w limit (g ∷ gs) head lines groups orders f some a b c d e =
+  groups-run closing n w limit [] head m f some a b c d e =
+      closing-made head m (declaredIn head) (promisedIn head) (omega arith) a b closing w (record { some = some; number = refl; sum = refl }) ∙
+      ap ending.Accepted (same-counts (oneMore (m .groups) (m .orders) m) n (omega arith) (omega arith) (omega arith))
+  groups-run closing n w limit (g ∷ gs) head m f some a b c d e =
       let r : RightGroup day kind g = f 0 (omega arith) in
       let os = g .orders in
       let more = groupLines gs ++ (closing ∷ []) in
       let p : (os ++ groupLines gs) ++ (closing ∷ []) ≡ os ++ more = append-assoc os (groupLines gs) (closing ∷ []) in
       let size : length ((os ++ groupLines gs) ++ (closing ∷ [])) ≡ length os + length more = ap length p ∙ length-append os more in
+      let k = oneMore (m .groups + 1) (m .orders) m in
       ap (λ (j : Judge). ended (steps j ((os ++ groupLines gs) ++ (closing ∷ []))))
-      (group-made head lines groups orders (declaredIn head) (promisedIn head) (omega arith) a b (g .head) (r .head) (record { some = some; number = refl; sum = refl })) ∙
-      (ap (λ (ls : List (List ℕ)). ended (steps (inGroup (g .head) (lines + 1) (groups + 1) orders 0 0) ls)) p ∙
-      (ap ended (orders-run (g .head) (groups + 1) more os (lines + 1) orders 0 0 (r .each) (omega arith) (omega arith) (omega arith) (omega arith) (omega arith)) ∙
-      groups-run closing n w limit gs (g .head) (lines + 1 + length os) (groups + 1) (orders + length os) (λ k h. f (suc k) (omega arith))
+      (group-made head m (declaredIn head) (promisedIn head) (omega arith) a b (g .head) (r .head) (record { some = some; number = refl; sum = refl })) ∙
+      (ap (λ (ls : List (List ℕ)). ended (steps (inGroup (g .head) k 0 0) ls)) p ∙
+      (ap ended (orders-run (g .head) more os k 0 0 (r .each) (omega arith) (omega arith) (omega arith) (omega arith) (omega arith)) ∙
+      groups-run closing n w limit gs (g .head) (record { lines = m .lines + 1 + length os; groups = m .groups + 1; orders = m .orders + length os }) (λ i h. f (suc i) (omega arith))
       (omega arith) (omega arith) (omega arith) (omega arith) (omega arith) (omega arith)))
 
   -- what must follow does end accepted
   pub rest-run :
-      (head : List ℕ) (lines groups orders counted total : ℕ) (ss : List (List ℕ)) (n : Counts) → groups ≤ lines → orders ≤ lines →
-      Rest head lines groups orders counted total ss n → Ends n ss (inGroup head lines groups orders counted total)
-  rest-run head lines groups orders counted total ss n a b r =
+      (head : List ℕ) (m : Counts) (counted total : ℕ) (ss : List (List ℕ)) (n : Counts) → m .groups ≤ m .lines → m .orders ≤ m .lines →
+      Rest head m counted total ss n → Ends n ss (inGroup head m counted total)
+  rest-run head m counted total ss n a b r =
       let os = r .payments in
       let more = groupLines (r .following) ++ (r .closing ∷ []) in
       let size : length ss ≡ length os + length more = ap length (sym (r .inOrder)) ∙ length-append os more in
-      ap (λ (ls : List (List ℕ)). ended (steps (inGroup head lines groups orders counted total) ls)) (sym (r .inOrder)) ∙
-      (ap ended (orders-run head groups more os lines orders counted total (r .each) (r .number) (r .sum) (omega arith) a b) ∙
-      groups-run (r .closing) n (r .last) (omega arith) (r .following) head (lines + length os) groups (orders + length os) (r .eachGroup)
+      ap (λ (ls : List (List ℕ)). ended (steps (inGroup head m counted total) ls)) (sym (r .inOrder)) ∙
+      (ap ended (orders-run head more os m counted total (r .each) (r .number) (r .sum) (omega arith) a b) ∙
+      groups-run (r .closing) n (r .last) (omega arith) (r .following) head (record { lines = m .lines + length os; groups = m .groups; orders = m .orders + length os }) (r .eachGroup)
       (omega arith) (omega arith) (omega arith) (omega arith) (r .groupsTold) (omega arith))
 
   -- and nothing else does
   pub run-rest :
-      (n : Counts) (ss : List (List ℕ)) (head : List ℕ) (lines groups orders counted total : ℕ) →
-      Ends n ss (inGroup head lines groups orders counted total) → Rest head lines groups orders counted total ss n
-  run-rest n [] head lines groups orders counted total e =
-      let t = told n (inGroup head lines groups orders counted total) e .last in
+      (n : Counts) (ss : List (List ℕ)) (head : List ℕ) (m : Counts) (counted total : ℕ) → Ends n ss (inGroup head m counted total) → Rest head m counted total ss n
+  unfolding standVerdict
+  run-rest n [] head m counted total e =
+      let t = told n (inGroup head m counted total) e .last in
       let z : _≡_ {A = ℕ} 0 1 = cc in
       absurd (omega arith)
-  run-rest n (s ∷ ss) head lines groups orders counted total e =
-      let w = went n ss (inGroup head lines groups orders counted total) s refl e in
-      go (w .0) (w .1) (w .2) (run-rest n ss)
+  run-rest n (s ∷ ss) head m counted total e =
+      let w = came n ss (inGroup head m counted total) s refl e in
+      go (w .line) (w .typed) (w .stands) (w .fields) (w .goes) (run-rest n ss)
     where
       go :
-          (t : LineType) → typedOf s ≡ typed.Line t → Ends n ss (typeStep (inGroup head lines groups orders counted total) s t) →
-          ((head : List ℕ) (lines groups orders counted total : ℕ) → Ends n ss (inGroup head lines groups orders counted total) → Rest head lines groups orders counted total ss n) →
-          Rest head lines groups orders counted total (s ∷ ss) n
-      go Label w e f = absurd (rest-label head lines groups orders counted total s ss n e)
-      go Group w e f = rest-group head lines groups orders counted total s ss n w e (f s (lines + 1) (groups + 1) orders 0 0)
-      go Order w e f = rest-order head lines groups orders counted total s ss n w e (f head (lines + 1) groups (orders + 1) (counted + 1) (total + amountIn s))
-      go Closing w e f = rest-closing head lines groups orders counted total s ss n w e
+          (t : LineType) → typedOf s ≡ typed.Line t → standVerdict 2 (inGroup head m counted total .group) t ≡ 0 → placesAnswer day kind t s ≡ answer.Accepted →
+          Ends n ss (after (inGroup head m counted total) s t) →
+          ((head : List ℕ) (m : Counts) (counted total : ℕ) → Ends n ss (inGroup head m counted total) → Rest head m counted total ss n) →
+          Rest head m counted total (s ∷ ss) n
+      go Label w v p e f = absurd (omega arith)
+      go Group w v p e f =
+          rest-group head m counted total s ss n (record { typed = w; fields = p }) (whole-told head m counted total v) (f s (oneMore (m .groups + 1) (m .orders) m) 0 0 e)
+      go Order w v p e f =
+          rest-order head m counted total s ss n (record { typed = w; fields = p })
+          (f head (oneMore (m .groups) (m .orders + 1) m) (counted + 1) (total + amountIn s) (ap (λ (j : Judge). ended (steps j ss)) (sym (ordered-as head m counted total s)) ∙ e))
+      go Closing w v p e f = rest-closing head m counted total s ss n w (whole-told head m counted total v) e

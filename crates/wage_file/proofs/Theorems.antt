@@ -17,7 +17,7 @@ use Rattle.judge.specs.declared.Counts.{Counts}
 use Rattle.judge.specs.declared.Ending.{Ending}
 use Rattle.judge.specs.declared.Ending.the-variants.{Accepted, Refused}
 use Rattle.judge.specs.declared.Judge.{Judge}
-use Rattle.judge.specs.Judge.{lineAlone, isSound, begun, steps, ended}
+use Rattle.judge.specs.Judge.{isSound, begun, steps, ended}
 use Rattle.judge.proofs.Theorems.{steps-append}
 use Rattle.wage_file.proofs.Exactly.{RightLines, accepted-exactly}
 use Rattle.wage_file.specs.File.{fileAnswer}
@@ -40,7 +40,7 @@ unfolding fileAnswer
 of-lines day ls f = ap (λ (ss : List (List ℕ)). ended (steps (begun day) ss)) (pieces-of-lines ls f)
 
 -- an empty file is not finished: 14 at line 1
-pub empty-file : (day : ℕ) → isDate day ≡ true → fileAnswer day [] ≡ Refused (Unfinished (lineAlone 1))
+pub empty-file : (day : ℕ) → isDate day ≡ true → fileAnswer day [] ≡ Refused (Unfinished (record { line = 1; field = 0; byte = 0 }))
 unfolding fileAnswer piecesOf begun steps ended isSound sumOf
 empty-file day e = rw e
 

@@ -1,27 +1,13 @@
--- `boundary::condition_told` meets its contract: each arm says the condition. Assumes nothing.
+-- `boundary::condition_told` meets its contract: each return is the definition's choice on the test. Assumes nothing.
 use borrow.Author.Needs.{needs}
 use Rattle.boundary.proofs.condition_told.Statement.{statement}
 use Rattle.boundary.proofs.condition_told.Tie as tie
 
-returns-5 : tie.Need-returns-5
-returns-5 c = rw (c .before .before .c .given .1) (c .refuse .ensures)
+returns : tie.Need-returns
+returns c = rw (← (c .before .before .before .is-refused .ensures), c .before .before .if1 .taken, c .refuse .ensures, c .before .refusal-in .ensures)
+
+returns-2 : tie.Need-returns-2
+returns-2 c = rw (← (c .before .before .is-refused .ensures), c .before .if1 .left, c .accept .ensures)
 
 pub condition-told-spec : {M : Type 1} → statement M
-condition-told-spec =
-    tie.close
-    (tie.spec
-    (λ c. search needs)
-    (λ c κs. search needs)
-    (λ c. search needs)
-    (λ c κs. search needs)
-    (λ c. search needs)
-    (λ c κs. search needs)
-    (λ c. search needs)
-    (λ c κs. search needs)
-    (λ c. search needs)
-    (λ c κs. search needs)
-    (λ c. search needs)
-    (λ c. search needs)
-    (λ c. search needs)
-    (λ c. search needs)
-    returns-5)
+condition-told-spec = tie.close (tie.spec (λ c κs. search needs) (λ c κs. search needs) (λ c κs. search needs) returns (λ c κs. search needs) returns-2)

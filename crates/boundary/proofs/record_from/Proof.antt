@@ -6,7 +6,7 @@ use Rattle.boundary.proofs.record_from.Tie as tie
 
 returns : tie.Need-returns
 unfolding recordOf
-returns c = rw (c .before .condition-number .ensures, c .condition-told .ensures)
+returns c = rw (c .before .stage .ensures, c .condition-told .ensures)
 
 pub record-from-spec : {M : Type 1} → statement M
 record-from-spec = tie.close (tie.spec (λ c κs. search needs) (λ c κs. search needs) returns)

@@ -1,4 +1,4 @@
--- `judge::begin` meets its contract: the first condition, and nothing read yet. Assumes nothing.
+-- `judge::begin` meets its contract: the definition's choice on the test. Assumes nothing.
 use Rattle.judge.specs.Judge.{begun}
 use borrow.Author.Needs.{needs}
 use Rattle.judge.proofs.begin.Statement.{statement}
@@ -6,8 +6,19 @@ use Rattle.judge.proofs.begin.Tie as tie
 
 returns : tie.Need-returns
 unfolding begun
-returns c = rw (c .nothing2 .ensures, c .before .nothing .ensures, c .before .before .first-condition .ensures)
+returns c = rw (c .before .before .nothing .ensures, ← (c .before .is-date .ensures), c .if1 .taken)
+
+returns-2 : tie.Need-returns-2
+unfolding begun
+returns-2 c = rw (c .refused .ensures, c .before .at-line .ensures, c .before .before .before .before .nothing .ensures, ← (c .before .before .before .is-date .ensures), c .before .before .if1 .left)
 
 pub begin-spec : {M : Type 1} → statement M
 begin-spec =
-    tie.close (tie.spec (λ c κs. search needs) (λ c κs. search needs) (λ c κs. search needs) returns)
+    tie.close
+    (tie.spec
+    (λ c κs. search needs)
+    (λ c κs. search needs)
+    returns
+    (λ c κs. search needs)
+    (λ c κs. search needs)
+    returns-2)

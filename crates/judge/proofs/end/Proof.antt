@@ -1,43 +1,44 @@
--- `judge::end` meets its contract: the arm says the condition. Assumes nothing.
-use mathlib.Core.Path.{_∙_}
-use Rattle.judge.specs.declared.Condition.the-variants.{Fresh, Labelled, Grouped, Closed}
+-- `judge::end` meets its contract: each return is the definition's choice on the tests that led there. Assumes nothing.
+use mathlib.Core.Path.{sym, _∙_}
+use native.Mathlib.Omega.{arith}
+use borrow.Author.Tests.{eq-eqb, ne-eqb}
 use Rattle.judge.specs.Judge.{ended}
-use Rattle.judge.proofs.Laws.{ended-in}
+use Rattle.judge.proofs.Laws.{sound-within}
 use borrow.Author.Needs.{needs}
 use Rattle.judge.proofs.end.Statement.{statement}
 use Rattle.judge.proofs.end.Tie as tie
 
 returns : tie.Need-returns
-returns c = c .ended-early .ensures ∙ ended-in (c .before .before .before .args .j) Fresh (c .before .enum-told .given .1)
+unfolding ended
+returns c = rw (← (c .before .before .is-refused .ensures), c .before .if1 .taken, c .refusal-in .ensures)
 
 returns-2 : tie.Need-returns-2
-returns-2 c = c .ended-early2 .ensures ∙ ended-in (c .before .before .before .args .j) Labelled (c .before .enum-told2 .given .1)
+unfolding ended
+returns-2 c = rw (← (c .before .before .before .before .before .is-refused .ensures), c .before .before .before .before .if1 .left, ← (c .before .before .before .is-sound .ensures), c .before .before .if2 .taken, ← (c .before .stage .ensures), eq-eqb _ _ (c .if3 .taken))
+
+add-at-line : tie.Need-add-at-line
+add-at-line c = omega (arith, sound-within (c .before .before .before .before .before .before .before .args .j) (sym (c .before .before .before .is-sound .ensures) ∙ c .before .before .if2 .taken) .lines)
 
 returns-3 : tie.Need-returns-3
-returns-3 c = c .ended-early3 .ensures ∙ ended-in (c .before .before .before .args .j) Grouped (c .before .enum-told3 .given .1)
+unfolding ended
+returns-3 c = rw (← (c .before .before .before .before .before .before .is-refused .ensures), c .before .before .before .before .before .if1 .left, ← (c .before .before .before .before .is-sound .ensures), c .before .before .before .if2 .taken, ← (c .before .before .stage .ensures), ne-eqb _ _ (c .before .if3 .left), c .at-line .ensures)
 
 returns-4 : tie.Need-returns-4
-returns-4 c = c .if-sound .ensures ∙ ended-in (c .before .before .before .args .j) Closed (c .before .enum-told4 .given .1)
-
-returns-5 : tie.Need-returns-5
 unfolding ended
-returns-5 c = rw (c .before .condition .given .1)
+returns-4 c = rw (← (c .before .before .before .before .is-refused .ensures), c .before .before .before .if1 .left, ← (c .before .before .is-sound .ensures), c .before .if2 .left, c .at-line2 .ensures)
 
 pub end-spec : {M : Type 1} → statement M
 end-spec =
     tie.close
     (tie.spec
-    (λ c. search needs)
     (λ c κs. search needs)
-    (λ c. search needs)
     (λ c κs. search needs)
-    (λ c. search needs)
-    (λ c κs. search needs)
-    (λ c. search needs)
-    (λ c κs. search needs)
-    (λ c. search needs)
     returns
+    (λ c κs. search needs)
+    (λ c κs. search needs)
     returns-2
+    add-at-line
+    (λ c κs. search needs)
     returns-3
-    returns-4
-    returns-5)
+    (λ c κs. search needs)
+    returns-4)

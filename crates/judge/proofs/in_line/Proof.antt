@@ -1,0 +1,10 @@
+-- `judge::in_line` meets its contract: the field and byte are kept. Assumes nothing.
+use borrow.Author.Needs.{needs}
+use Rattle.judge.proofs.in_line.Statement.{statement}
+use Rattle.judge.proofs.in_line.Tie as tie
+
+returns : tie.Need-returns
+returns c = rw (c .put .ensures, c .before .told .ensures)
+
+pub in-line-spec : {M : Type 1} → statement M
+in-line-spec = tie.close (tie.spec (λ c κs. search needs) (λ c κs. search needs) returns)
