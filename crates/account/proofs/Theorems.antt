@@ -1,75 +1,79 @@
--- What is promised of accounts: accepted exactly when, and one answer.
+-- What is promised of accounts: nothing is refused exactly when, where a 3's byte lies, and one answer.
 -- Assumes nothing.
-use mathlib.Core.Path.{_≡_, refl}
+use mathlib.Core.Path.{_≡_, refl, sym}
 use mathlib.Core.Logic.{_↔_}
-use mathlib.Core.Bool.{Bool, true, false, cond, _&&_}
+use mathlib.Core.Bool.{Bool, true, false, _&&_}
 use mathlib.Core.List.{List}
 use Prim.Native.Nat.{ℕ}
 use native.Mathlib.Omega.{arith}
 use lib.Dec.{eqb}
 use lib.ListN.{length}
 use Rattle.refusal.specs.Only.{Only, defined-only}
-use Rattle.refusal.specs.Refusal.{Tells}
-use Rattle.refusal.proofs.Tells.{tells-only}
-use Rattle.refusal.specs.declared.Answer.{Answer}
-use Rattle.refusal.specs.declared.Answer.the-variants.{Accepted, Refused}
-use Rattle.refusal.specs.declared.Refusal.{Refusal}
-use Rattle.text.specs.Bytes.{firstBad, allOf}
-use Rattle.text.specs.declared.Class.the-variants.{Digits}
-use Rattle.text.specs.declared.Found.{Found}
-use Rattle.text.specs.declared.Found.the-variants.{At, Nothing}
-use Rattle.text.proofs.Laws.{isNothing, all-of-nothing}
-use Rattle.check_digits.specs.declared.Verdict.{Verdict}
+use Rattle.refusal.specs.Verdict.{onlyIf, andThen, Within}
+use Rattle.refusal.proofs.Verdicts.{both-pass, pass-both, test-holds, then-within, only-within}
+use Rattle.text.specs.Bytes.{allOf}
+use Rattle.text.specs.declared.Class.the-variants.{Digits, Account}
+use Rattle.text.proofs.Laws.{both-true, and-second, all-passes, passes-all, bytes-within}
 use Rattle.account.specs.Account.{ibanFormed, ibanPasses, oibPasses}
-use Rattle.account.specs.Answers.{isIban, ibanCheckAnswer, ibanAnswer, oibTold, oibFrom, oibAnswer}
+use Rattle.account.specs.Answers.{isIban, ibanCheckVerdict, ibanVerdict, oibVerdict}
 
 -- ---------------------------------------------------------------------------
--- Accepted exactly when
+-- Nothing is refused exactly when
 
--- a choice accepts where its tests hold, and only there
-accepts : (r q : Refusal) (f p : Bool) → (f && p) ≡ true → cond f (cond p Accepted (Refused r)) (Refused q) ≡ Accepted
-accepts r q true true e = refl
-accepts r q true false e = let z : _≡_ {A = ℕ} 0 1 = cc in absurd (omega arith)
-accepts r q false p e = let z : _≡_ {A = ℕ} 0 1 = cc in absurd (omega arith)
+-- a test's rule, where it holds
+test-exactly : (b : Bool) (n : ℕ) → eqb n 0 ≡ false → (onlyIf b n ≡ 0) ↔ (b ≡ true)
+test-exactly b n z = (test-holds b n z, λ e. rw e)
 
-accepted : (r q : Refusal) (f p : Bool) → cond f (cond p Accepted (Refused r)) (Refused q) ≡ Accepted → (f && p) ≡ true
-accepted r q true true e = refl
-accepted r q true false e = let z : _≡_ {A = ℕ} 0 1 = cc in absurd (omega arith)
-accepted r q false p e = let z : _≡_ {A = ℕ} 0 1 = cc in absurd (omega arith)
+-- two rules, where both refuse nothing
+both-exactly : (v w : ℕ) (a b : Bool) → (v ≡ 0) ↔ (a ≡ true) → (w ≡ 0) ↔ (b ≡ true) → (andThen v w ≡ 0) ↔ ((a && b) ≡ true)
+both-exactly v w a b p q = (
+  λ e. let h = both-pass v w e in sym (and-second a b true (p .0 (h .0)) (sym (q .0 (h .1)))),
+  λ e. let h = both-true a b e in pass-both v w (p .1 (h .0)) (q .1 (h .1)),
+)
 
--- an IBAN is accepted exactly when it is `HR` and nineteen digits, and its check holds
-pub iban-accepted-exactly : (s : List ℕ) → (ibanCheckAnswer s ≡ Accepted) ↔ (isIban s ≡ true)
-iban-accepted-exactly s = (accepted _ _ (ibanFormed s) (ibanPasses s), accepts _ _ (ibanFormed s) (ibanPasses s))
+-- form and check refuse nothing exactly when a text is `HR` and nineteen digits, and its check holds
+pub iban-accepted-exactly : (s : List ℕ) → (ibanCheckVerdict s ≡ 0) ↔ (isIban s ≡ true)
+iban-accepted-exactly s = both-exactly _ _ (ibanFormed s) (ibanPasses s) (test-exactly (ibanFormed s) 5 refl) (test-exactly (ibanPasses s) 6 refl)
 
 -- an OIB is accepted exactly when it is eleven digits that pass
-pub oib-accepted-exactly : (s : List ℕ) → (oibAnswer s ≡ Accepted) ↔ ((allOf Digits s && (eqb (length s) 11 && oibPasses s)) ≡ true)
-unfolding isNothing
-oib-accepted-exactly s = rw (← all-of-nothing Digits s) (go (firstBad Digits s))
-  where
-    go : (f : Found) → (oibFrom s f ≡ Accepted) ↔ ((isNothing f && (eqb (length s) 11 && oibPasses s)) ≡ true)
-    go (At i) = (λ e. let z : _≡_ {A = ℕ} 0 1 = cc in absurd (omega arith), λ e. let z : _≡_ {A = ℕ} 0 1 = cc in absurd (omega arith))
-    go Nothing = (accepted _ _ (eqb (length s) 11) (oibPasses s), accepts _ _ (eqb (length s) 11) (oibPasses s))
+pub oib-accepted-exactly : (s : List ℕ) → (oibVerdict s ≡ 0) ↔ ((allOf Digits s && (eqb (length s) 11 && oibPasses s)) ≡ true)
+oib-accepted-exactly s =
+    both-exactly _ _ (allOf Digits s) _ (passes-all Digits s, all-passes Digits s)
+    (both-exactly _ _ (eqb (length s) 11) (oibPasses s) (test-exactly (eqb (length s) 11) 4 refl) (test-exactly (oibPasses s) 6 refl))
+
+-- ---------------------------------------------------------------------------
+-- A 3's byte lies within the text
+
+pub iban-check-within : (n : ℕ) (s : List ℕ) → Within n (ibanCheckVerdict s)
+iban-check-within n s = then-within n _ _ (only-within n (ibanFormed s) 5 (omega arith)) (only-within n (ibanPasses s) 6 (omega arith))
+
+pub iban-within : (s : List ℕ) → Within (length s) (ibanVerdict s)
+iban-within s =
+    let n = length s in
+    then-within n _ _ (bytes-within Account s) (then-within n _ _ (only-within n (eqb n 21) 4 (omega arith)) (iban-check-within n s))
+
+pub oib-within : (s : List ℕ) → Within (length s) (oibVerdict s)
+oib-within s =
+    let n = length s in
+    then-within n _ _ (bytes-within Digits s) (then-within n _ _ (only-within n (eqb n 11) 4 (omega arith)) (only-within n (oibPasses s) 6 (omega arith)))
 
 -- ---------------------------------------------------------------------------
 -- Any two answers that a contract allows are equal
 
-pub iban-only : (s : List ℕ) → Only (λ (r : Answer). r ≡ ibanAnswer s)
-iban-only s = defined-only (ibanAnswer s)
-
-pub tell-iban-only : (s : List ℕ) → Only (λ (r : ℕ). Tells r (ibanCheckAnswer s))
-tell-iban-only s = tells-only (ibanCheckAnswer s)
-
-pub iban-passes-only : (s : List ℕ) → Only (λ (r : Bool). r ≡ ibanPasses s)
-iban-passes-only s = defined-only (ibanPasses s)
-
-pub oib-only : (s : List ℕ) → Only (λ (r : Answer). r ≡ oibAnswer s)
-oib-only s = defined-only (oibAnswer s)
-
 pub iban-formed-only : (s : List ℕ) → Only (λ (r : Bool). r ≡ ibanFormed s)
 iban-formed-only s = defined-only (ibanFormed s)
+
+pub iban-passes-only : (s : List ℕ) → Only (λ (r : Bool). r ≡ isIban s)
+iban-passes-only s = defined-only (isIban s)
+
+pub check-iban-only : (s : List ℕ) → Only (λ (r : ℕ). r ≡ ibanCheckVerdict s)
+check-iban-only s = defined-only (ibanCheckVerdict s)
+
+pub iban-only : (s : List ℕ) → Only (λ (r : ℕ). r ≡ ibanVerdict s)
+iban-only s = defined-only (ibanVerdict s)
 
 pub oib-passes-only : (s : List ℕ) → Only (λ (r : Bool). r ≡ oibPasses s)
 oib-passes-only s = defined-only (oibPasses s)
 
-pub read-oib-only : (s : List ℕ) → Only (λ (r : Verdict). r ≡ oibTold s)
-read-oib-only s = defined-only (oibTold s)
+pub oib-only : (s : List ℕ) → Only (λ (r : ℕ). r ≡ oibVerdict s)
+oib-only s = defined-only (oibVerdict s)

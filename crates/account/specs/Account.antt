@@ -1,14 +1,12 @@
 -- Document 01, "Check digits": an IBAN's form and check, and an OIB's.
 use Prim.Native.Nat.{ℕ, _%_}
-use mathlib.Core.Bool.{Bool, false, _&&_}
+use mathlib.Core.Bool.{Bool, _&&_}
 use mathlib.Core.List.{List, _∷_, _++_}
 use lib.Dec.{eqb, leb}
 use lib.ListN.{length, take, drop, getD}
 use Rattle.text.specs.Bytes.{allOf}
-use Rattle.text.specs.Digits.{digitsOf, valueOf, twoDigits}
+use Rattle.text.specs.Digits.{digitsOf, valueOf}
 use Rattle.text.specs.declared.Class.the-variants.{Digits}
-use Rattle.text.specs.declared.Found.{Found}
-use Rattle.text.specs.declared.Found.the-variants.{At, Nothing}
 use Rattle.check_digits.specs.CheckDigit.{passes}
 use Rattle.check_digits.specs.declared.Rule.the-variants.{Mod1110}
 
@@ -20,18 +18,21 @@ abbrev pub ibanFormed : List ℕ → Bool
 ibanFormed s =
     eqb (length s) 21 && (eqb (getD s 0 0) 72 && (eqb (getD s 1 0) 82 && allOf Digits (drop 2 s)))
 
--- "the two check digits lie in 02 to 98"
-abbrev pub inRange : Found → Bool
-inRange (At k) = leb 2 k && leb k 98
-inRange Nothing = false
+-- "the two check digits", behind `HR`
+abbrev pub checkDigits : List ℕ → List ℕ
+checkDigits s = digitsOf (take 2 (drop 2 s))
+
+-- they "lie in 02 to 98"
+abbrev pub inRange : ℕ → Bool
+inRange k = leb 2 k && leb k 98
 
 -- "move the first four characters to the end, H = 17, R = 27"
 abbrev pub rearranged : List ℕ → List ℕ
-rearranged s = digitsOf (drop 4 s) ++ (1 ∷ (7 ∷ (2 ∷ (7 ∷ digitsOf (take 2 (drop 2 s))))))
+rearranged s = digitsOf (drop 4 s) ++ (1 ∷ (7 ∷ (2 ∷ (7 ∷ checkDigits s))))
 
--- "the number leaves 1 on division by 97"
+-- "the number leaves 1 on division by 97, and the two check digits lie in 02 to 98"
 unfoldable pub ibanPasses : List ℕ → Bool
-ibanPasses s = inRange (twoDigits (getD s 2 0) (getD s 3 0)) && eqb (valueOf (rearranged s) % 97) 1
+ibanPasses s = inRange (valueOf (checkDigits s)) && eqb (valueOf (rearranged s) % 97) 1
 
 -- ---------------------------------------------------------------------------
 -- OIB

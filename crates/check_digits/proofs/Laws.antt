@@ -1,29 +1,24 @@
--- From how the code reads digits (specs/Run.antt) to what a check digit is (specs/CheckDigit.antt), and the same for remainders over 97.
+-- From how the code reads digits (specs/Run.antt) to what a check digit is (specs/CheckDigit.antt).
 -- Assumes nothing.
 use mathlib.Core.Path.{_≡_, refl, sym, ap, _∙_}
-use mathlib.Core.Bool.{Bool, true, false, cond, _&&_}
-use mathlib.Core.List.{List, [], _∷_, _++_}
+use mathlib.Core.Bool.{Bool, true, false, cond}
+use mathlib.Core.List.{List, [], _∷_}
 use Prim.Native.Nat.{ℕ, suc, _+_, _-_, _*_, _/_, _%_, _≤_, _<_}
 use native.Mathlib.Nat.{mod-lt, mod-eq-of-lt, mod-eq-sub-mod, mul-add, add-mul, suc-mul, mul-left-comm, zero-mul, div-add-mod, add-mul-mod-self-left}
 use native.Mathlib.Numerals.{add-one}
 use native.Mathlib.Omega.{arith}
-use lib.Dec.{eqb, leb, ltb, lit<}
-use borrow.Author.Tests.{ne-eqb, lt-ltb, le-ltb, lt-leb, le-leb}
-use Rattle.text.proofs.Laws.{taken, left, entered, and-first, and-second, digits-append, value-append}
-use lib.ListN.{length, take, drop, getD}
-use lib.Seq.{drop-cons, drop-length, take-all, take-suc}
-use Rattle.text.specs.Bytes.{isDigit, firstBad, allOf}
-use Rattle.text.specs.declared.Class.the-variants.{Digits, Zeros}
-use Rattle.text.specs.declared.Found.the-variants.{Nothing}
-use Rattle.text.specs.Digits.{digitsOf, valueFrom}
+use lib.Dec.{ltb, lit<}
+use borrow.Author.Tests.{ne-eqb, lt-ltb, le-ltb}
+use Rattle.text.proofs.Laws.{taken, left}
+use lib.ListN.{length, drop, getD}
+use lib.Seq.{drop-cons, drop-length}
+use Rattle.text.specs.Bytes.{isDigit}
+use Rattle.text.specs.Digits.{digitsOf}
 use Rattle.check_digits.specs.declared.Rule.{Rule}
 use Rattle.check_digits.specs.declared.Rule.the-variants.{Ini, Mod1110}
 use Rattle.check_digits.specs.declared.Run.{Run}
-use Rattle.check_digits.specs.declared.Verdict.the-variants as told
-use Rattle.check_digits.specs.CheckDigit.{weighted, carry, carriedOver, checkDigit, digitFor, tenForZero, passes}
-use Rattle.check_digits.specs.Answers.{sized, toldOf}
-use Rattle.check_digits.specs.Run.{Small, startOf, stepOf, readOf, runOf, digitOf, lastTold}
-use Rattle.check_digits.proofs.Theorems.{digit-small, passes-snoc}
+use Rattle.check_digits.specs.CheckDigit.{weighted, carry, carriedOver, checkDigit, digitFor, tenForZero}
+use Rattle.check_digits.specs.Run.{Small, startOf, stepOf, readOf, runOf, digitOf}
 
 -- ---------------------------------------------------------------------------
 -- Small remainders
@@ -143,86 +138,3 @@ module _ (rule : Rule) (run : Run) (s : List ℕ) (i : ℕ) where
   pub run-ends : length s ≤ i → i ≤ length s → run ≡ runOf rule run (drop i s)
   unfolding runOf
   run-ends h g = let e : i ≡ length s = omega arith in rw (e, drop-length)
-
--- ---------------------------------------------------------------------------
--- What a text's digits come to, read with the last of them
-
--- the digit that completes what was read is one
-pub digit-of-small : (rule : Rule) (run : Run) → digitOf rule run < 10
-digit-of-small Ini run = digit-small Ini ((run .sum + run .sums) % 11)
-digit-of-small Mod1110 run = digit-small Mod1110 (run .sum)
-
--- a text is read after another
-run-append : (rule : Rule) (run : Run) (s t : List ℕ) → runOf rule run (s ++ t) ≡ runOf rule (runOf rule run s) t
-unfolding runOf
-run-append rule run [] t = refl
-run-append rule run (b ∷ s) t = run-append rule (readOf rule run b) s t
-
--- one digit more of a text's front is one step
-pub run-more : (rule : Rule) (run : Run) (s : List ℕ) (i : ℕ) → i < length s → isDigit (getD s i 0) ≡ true → stepOf rule (runOf rule run (take i s)) (getD s i 0 - 48) ≡ runOf rule run (take (i + 1) s)
-unfolding runOf
-run-more rule run s i h e =
-    rw (add-one i, take-suc s i 0 h, run-append rule run (take i s) (getD s i 0 ∷ []))
-    (entered (isDigit (getD s i 0)) (stepOf rule (runOf rule run (take i s)) (getD s i 0 - 48)) (runOf rule run (take i s)) _ e refl)
-
--- a text passes where its last byte is the digit that completes what was read before it
-passes-last : (rule : Rule) (s : List ℕ) (i : ℕ) → i < length s → length s ≤ i + 1 → passes rule s ≡ eqb (getD s i 0) (48 + digitOf rule (runOf rule (startOf rule) (take i s)))
-passes-last rule s i h g =
-    let e : s ≡ take i s ++ (getD s i 0 ∷ []) = sym (take-all (suc i) s (omega arith)) ∙ take-suc s i 0 h in
-    ap (passes rule) e
-    ∙ passes-snoc rule (take i s) (getD s i 0)
-    ∙ ap (λ (d : ℕ). eqb (getD s i 0) (48 + d)) (sym (read-check-digit rule (take i s)))
-
--- what the last digit tells is what the whole text comes to
-pub last-tells : (rule : Rule) (s : List ℕ) (i : ℕ) (zeros : Bool) (run : Run) → i < length s → length s ≤ i + 1 → firstBad Digits s ≡ Nothing → allOf Zeros s ≡ (zeros && eqb (getD s i 0) 48) → run ≡ runOf rule (startOf rule) (take i s) → lastTold rule run zeros (getD s i 0) ≡ toldOf rule s
-last-tells rule s i zeros run h g e z r = rw (e, z, passes-last rule s i h g, r)
-
--- no byte comes to zeros
-pub nothing-told : (rule : Rule) (s : List ℕ) → length s ≡ 0 → told.Zeros ≡ toldOf rule s
-unfolding firstBad allOf
-nothing-told rule [] e = refl
-nothing-told rule (b ∷ s) e = absurd (omega arith)
-
--- ---------------------------------------------------------------------------
--- Remainders over 97
-
-ninety-sevens : (v d q r : ℕ) → 97 * q + r ≡ v → v * 10 + d ≡ r * 10 + d + 97 * (q * 10)
-ninety-sevens v d q r e = omega arith
-
--- one digit more, over 97
-digit-over-97 : (v d : ℕ) → (v * 10 + d) % 97 ≡ (v % 97 * 10 + d) % 97
-digit-over-97 v d =
-    ap (λ (x : ℕ). x % 97) (ninety-sevens v d (v / 97) (v % 97) (div-add-mod v 97))
-    ∙ add-mul-mod-self-left (v % 97 * 10 + d) 97 (v / 97 * 10)
-
--- numbers that leave the same remainder leave the same after more digits
-pub value-over-97 : (v w : ℕ) (ds : List ℕ) → v % 97 ≡ w % 97 → valueFrom v ds % 97 ≡ valueFrom w ds % 97
-unfolding valueFrom
-value-over-97 v w [] e = e
-value-over-97 v w (d ∷ ds) e = value-over-97 (v * 10 + d) (w * 10 + d) ds (digit-over-97 v d ∙ ap (λ (x : ℕ). (x * 10 + d) % 97) e ∙ sym (digit-over-97 w d))
-
--- the loop's turn, and its end
-module _ (r : ℕ) (s : List ℕ) (i : ℕ) where
-  pub value-on : (q : ℕ) → i < length s → q % 97 ≡ valueFrom r (digitsOf (getD s i 0 ∷ [])) % 97 → valueFrom r (digitsOf (drop i s)) % 97 ≡ valueFrom q (digitsOf (drop (i + 1) s)) % 97
-  value-on q h e =
-      rw (drop-cons s i 0 h, add-one)
-      (ap (λ (l : List ℕ). valueFrom r l % 97) (digits-append (getD s i 0 ∷ []) (drop (suc i) s))
-      ∙ ap (λ (n : ℕ). n % 97) (value-append r (digitsOf (getD s i 0 ∷ [])) (digitsOf (drop (suc i) s)))
-      ∙ value-over-97 (valueFrom r (digitsOf (getD s i 0 ∷ []))) q (digitsOf (drop (suc i) s)) (sym e))
-
-  pub value-ends : length s ≤ i → i ≤ length s → r % 97 ≡ valueFrom r (digitsOf (drop i s)) % 97
-  unfolding valueFrom digitsOf
-  value-ends h g = let e : i ≡ length s = omega arith in rw (e, drop-length)
-
--- ---------------------------------------------------------------------------
--- Sizes
-
-module _ (b : ℕ) (s : List ℕ) where
-  pub none-is-unsized : length s ≡ 0 → sized 1 b s ≡ false
-  none-is-unsized e = sym (and-first (leb 1 (length s)) (leb (length s) b) (lt-leb 1 (length s) (omega arith)))
-
-  pub many-is-unsized : (length s ≡ 0 → ⊥) → b < length s → sized 1 b s ≡ false
-  many-is-unsized e h = sym (and-second (leb 1 (length s)) (leb (length s) b) false (le-leb 1 (length s) (omega arith)) (sym (lt-leb (length s) b h)))
-
-  pub some-is-sized : (length s ≡ 0 → ⊥) → length s ≤ b → sized 1 b s ≡ true
-  some-is-sized e h = sym (and-second (leb 1 (length s)) (leb (length s) b) true (le-leb 1 (length s) (omega arith)) (sym (le-leb (length s) b h)))

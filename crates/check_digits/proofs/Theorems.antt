@@ -4,7 +4,7 @@
 use mathlib.Core.Path.{_≡_, refl, sym, _∙_}
 use mathlib.Core.Bool.{Bool, true, false, cond}
 use mathlib.Core.List.{List, [], _∷_, _++_}
-use Prim.Native.Nat.{_%_, ℕ, _+_, _-_, _≤_, _<_}
+use Prim.Native.Nat.{ℕ, _+_, _-_, _≤_, _<_}
 use native.Mathlib.Nat.{mod-lt}
 use native.Mathlib.Omega.{arith}
 use lib.Dec.{eqb, ltb, lit<}
@@ -13,13 +13,12 @@ use lib.Seq.{take-append-seam, getD-append-seam}
 use borrow.Author.Tests.{lt-ltb, eq-eqb, eqb-true, ltb-false}
 use Rattle.refusal.specs.Only.{Only, defined-only}
 use Rattle.refusal.specs.declared.Answer.{Answer}
-use Rattle.text.specs.Digits.{digitsOf, valueFrom}
+use Rattle.text.specs.Digits.{digitsOf}
 use Rattle.check_digits.specs.declared.Rule.{Rule}
 use Rattle.check_digits.specs.declared.Rule.the-variants.{Ini, Mod1110}
 use Rattle.check_digits.specs.declared.Made.{Made}
-use Rattle.check_digits.specs.declared.Verdict.{Verdict}
 use Rattle.check_digits.specs.CheckDigit.{checkDigit, digitFor, remainder, passes}
-use Rattle.check_digits.specs.Answers.{checkAnswer, makeAnswer, toldOf}
+use Rattle.check_digits.specs.Answers.{checkAnswer, makeAnswer}
 
 -- ---------------------------------------------------------------------------
 -- One digit completes any digits
@@ -68,9 +67,3 @@ check-digit-only rule s = defined-only (checkDigit rule (digitsOf s))
 
 pub ends-right-only : (rule : Rule) (s : List ℕ) → Only (λ (r : Bool). r ≡ passes rule s)
 ends-right-only rule s = defined-only (passes rule s)
-
-pub told-only : (rule : Rule) (s : List ℕ) → Only (λ (r : Verdict). r ≡ toldOf rule s)
-told-only rule s = defined-only (toldOf rule s)
-
-pub remainder97-only : (before : ℕ) (s : List ℕ) → Only (λ (r : ℕ). r ≡ valueFrom before (digitsOf s) % 97)
-remainder97-only before s = defined-only (valueFrom before (digitsOf s) % 97)

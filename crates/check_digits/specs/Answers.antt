@@ -8,17 +8,12 @@ use Rattle.refusal.specs.Refusal.{none}
 use Rattle.refusal.specs.declared.Answer.{Answer}
 use Rattle.refusal.specs.declared.Answer.the-variants.{Accepted, Refused}
 use Rattle.refusal.specs.declared.Refusal.the-variants.{Size, Byte, Digit}
-use Rattle.text.specs.Bytes.{firstBad, allOf}
+use Rattle.text.specs.Bytes.{allOf}
 use Rattle.text.specs.Digits.{digitsOf}
-use Rattle.text.specs.declared.Class.the-variants as class
 use Rattle.text.specs.declared.Class.the-variants.{Digits}
-use Rattle.text.specs.declared.Found.{Found}
-use Rattle.text.specs.declared.Found.the-variants.{At, Nothing}
 use Rattle.check_digits.specs.declared.Rule.{Rule}
 use Rattle.check_digits.specs.declared.Made.{Made}
 use Rattle.check_digits.specs.declared.Made.the-variants as made
-use Rattle.check_digits.specs.declared.Verdict.{Verdict}
-use Rattle.check_digits.specs.declared.Verdict.the-variants.{Wrong, Zeros, Failing, Passing}
 use Rattle.check_digits.specs.CheckDigit.{checkDigit, passes}
 
 -- a size of a to b
@@ -42,12 +37,3 @@ makeAnswer rule s =
     (made.Digit (checkDigit rule (digitsOf s)))
     (made.Refused (Byte none)))
     (made.Refused (Size none))
-
--- "Numeric fields are digits only (else 3), zeros for absent": what digits that end in their check digit come to, where a scan found
--- nothing else among them, and whether they pass
-abbrev pub toldFrom : Bool → List ℕ → Found → Verdict
-toldFrom pass s (At i) = Wrong i
-toldFrom pass s Nothing = cond (allOf class.Zeros s) Zeros (cond pass Passing Failing)
-
-abbrev pub toldOf : Rule → List ℕ → Verdict
-toldOf rule s = toldFrom (passes rule s) s (firstBad Digits s)

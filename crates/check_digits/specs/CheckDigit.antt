@@ -1,4 +1,4 @@
--- Document 01, "Check digits": MOD 11,10 and INI. (MOD 97-10 needs a remainder alone: `valueFrom .. % 97`.)
+-- Document 01, "Check digits": MOD 11,10 and INI.
 use Prim.Native.Nat.{ℕ, _+_, _-_, _*_, _%_}
 use mathlib.Core.Bool.{Bool, cond, _&&_}
 use mathlib.Core.List.{List, [], _∷_}

@@ -1,16 +1,13 @@
 -- How the code reads a check digit's digits, from left to right: it mirrors src/, and proofs/Laws.antt leads from it to the definitions
 -- of CheckDigit.antt. No contract of a public call cites it.
 use Prim.Native.Nat.{ℕ, _+_, _-_, _%_, _<_}
-use mathlib.Core.Bool.{Bool, cond, _&&_}
+use mathlib.Core.Bool.{cond}
 use mathlib.Core.List.{List, [], _∷_}
-use lib.Dec.{eqb}
 use Rattle.text.specs.Bytes.{isDigit}
 use Rattle.check_digits.specs.CheckDigit.{carry, digitFor}
 use Rattle.check_digits.specs.declared.Rule.{Rule}
 use Rattle.check_digits.specs.declared.Rule.the-variants.{Ini, Mod1110}
 use Rattle.check_digits.specs.declared.Run.{Run}
-use Rattle.check_digits.specs.declared.Verdict.{Verdict}
-use Rattle.check_digits.specs.declared.Verdict.the-variants.{Zeros, Failing, Passing}
 
 -- both numbers stay below 11
 abbrev pub Small : Run → Type 0
@@ -34,7 +31,3 @@ runOf rule run (b ∷ s) = runOf rule (readOf rule run b) s
 abbrev pub digitOf : Rule → Run → ℕ
 digitOf Ini run = digitFor Ini ((run .sum + run .sums) % 11)
 digitOf Mod1110 run = digitFor Mod1110 (run .sum)
-
--- what a digit tells as the last, after others and whether they are zeros
-abbrev pub lastTold : Rule → Run → Bool → ℕ → Verdict
-lastTold rule run zeros b = cond (zeros && eqb b 48) Zeros (cond (eqb b (48 + digitOf rule run)) Passing Failing)

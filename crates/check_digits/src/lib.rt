@@ -1,15 +1,14 @@
-// Check digits: MOD 11,10 and INI checked and made, and the remainder that MOD 97-10 asks for.
+// Check digits: MOD 11,10 and INI checked and made.
 //
 // The definitions are in specs/CheckDigit.antt, as document 01 says them. The code goes once from left to right,
 // in one loop for both rules, over a small record (`Run`): a rule of a later request is one more arm of `step`,
 // `started` and `digit_for`. No sum grows with the number of digits, so no call asks for a length.
 ghost use mathlib.Core.Path.{_≡_};
-ghost use mathlib.Core.List.{[], _∷_};
 ghost use Prim.Native.Nat.{_<_, _+_, _%_};
-ghost use Rattle.text.specs.Digits.{digitsOf, valueFrom};
+ghost use Rattle.text.specs.Digits.{digitsOf};
 ghost use Rattle.check_digits.specs.CheckDigit.{carry, digitFor, checkDigit, passes};
-ghost use Rattle.check_digits.specs.Run.{Small, startOf, stepOf, readOf, digitOf, lastTold};
-ghost use Rattle.check_digits.specs.Answers.{checkAnswer, makeAnswer, toldOf};
+ghost use Rattle.check_digits.specs.Run.{Small, startOf, stepOf, readOf, digitOf};
+ghost use Rattle.check_digits.specs.Answers.{sized, checkAnswer, makeAnswer};
 use refusal::Answer;
 use refusal::Refusal;
 use text::Class;
@@ -24,14 +23,6 @@ pub enum Rule {
 pub enum Made {
     Digit(u8),
     Refused(Refusal),
-}
-
-// What digits that end in their check digit come to: the place of a byte that is no digit, zeros alone, or whether they pass.
-pub enum Verdict {
-    Wrong(usize),
-    Zeros,
-    Failing,
-    Passing,
 }
 
 // What has been read of the digits so far: for INI the sum of the digits and the sum of those sums, both over 11;
@@ -162,74 +153,15 @@ pub fn ends_right(rule: Rule, s: &[u8]) -> bool
     s[last] == 48 + d
 }
 
-// What the last byte tells, after the digits before it and whether they are zeros.
-fn last_told(rule: Rule, run: Run, zeros: bool, b: u8) -> Verdict
-    requires { ⌜ Small run ⌝ }
-    ensures { λ r. ⌜ r ≡ lastTold rule run zeros b ⌝ }
-{
-    let d = digit_for(rule, run);
-    if zeros & (b == 48) {
-        return Verdict::Zeros;
-    }
-    if b == 48 + d {
-        return Verdict::Passing;
-    }
-    Verdict::Failing
-}
-
-// What a text's digits come to, in one pass; with no byte there are zeros alone.
-pub fn told(rule: Rule, s: &[u8]) -> Verdict
-    ensures { λ r. ⌜ r ≡ toldOf rule (now (s .entry)) ⌝ }
+// Whether a text has 1 to `most` bytes.
+fn is_sized(most: usize, s: &[u8]) -> bool
+    ensures { λ r. ⌜ r ≡ sized 1 most (now (s .entry)) ⌝ }
 {
     let n = s.len();
-    let mut run = started(rule);
-    let mut zeros = true;
-    let mut i = 0;
-    while i < n {
-        let b = s[i];
-        if !text::is_digit(b) {
-            return Verdict::Wrong(i);
-        }
-        if i == n - 1 {
-            return last_told(rule, run, zeros, b);
-        }
-        zeros = zeros & (b == 48);
-        run = step(rule, run, (b - 48) as u64);
-        i += 1;
+    if n == 0 {
+        return false;
     }
-    Verdict::Zeros
-}
-
-// One more byte of a number that is kept as it is while it is small, and over 97 where it grows; what is no digit is
-// passed over.
-fn read97(r: u64, b: u8) -> u64
-    requires { ⌜ r < 100000000000000000 ⌝ }
-    ensures { λ q. ⌜ (q < 100000000000000000) × (q % 97 ≡ valueFrom r (digitsOf (b ∷ [])) % 97) ⌝ }
-{
-    if b < 48 {
-        return r;
-    }
-    if 57 < b {
-        return r;
-    }
-    let v = r * 10 + (b - 48) as u64;
-    if v < 100000000000000000 {
-        return v;
-    }
-    v % 97
-}
-
-// The remainder over 97 of the number whose digits are those of `before` and then those of the text.
-pub fn remainder97(before: u32, s: &[u8]) -> u32
-    ensures { λ r. ⌜ r ≡ valueFrom before (digitsOf (now (s .entry))) % 97 ⌝ }
-{
-    let mut r = before as u64;
-    let mut i = 0;
-    while i < s.len() {
-        r = read97(r, s[i]);
-        i += 1;
-    }
-    (r % 97) as u32
+    n <= most
 }
 
 // Checks digits that end in their check digit: 1 for a length that is not 1 to 22, then 3 for a byte that is no
@@ -237,11 +169,7 @@ pub fn remainder97(before: u32, s: &[u8]) -> u32
 pub fn checked(rule: Rule, s: &[u8]) -> Answer
     ensures { λ r. ⌜ r ≡ checkAnswer rule (now (s .entry)) ⌝ }
 {
-    let n = s.len();
-    if n == 0 {
-        return Answer::Refused(Refusal::Size(refusal::nowhere()));
-    }
-    if 22 < n {
+    if !is_sized(22, s) {
         return Answer::Refused(Refusal::Size(refusal::nowhere()));
     }
     if !text::all_of(Class::Digits, s) {
@@ -257,11 +185,7 @@ pub fn checked(rule: Rule, s: &[u8]) -> Answer
 pub fn make(rule: Rule, s: &[u8]) -> Made
     ensures { λ r. ⌜ r ≡ makeAnswer rule (now (s .entry)) ⌝ }
 {
-    let n = s.len();
-    if n == 0 {
-        return Made::Refused(Refusal::Size(refusal::nowhere()));
-    }
-    if 19 < n {
+    if !is_sized(19, s) {
         return Made::Refused(Refusal::Size(refusal::nowhere()));
     }
     if !text::all_of(Class::Digits, s) {

@@ -1,3 +1,3 @@
--- What is promised of refusals, and the laws of answers told as one number.
+-- What is promised of refusals, and the laws of verdicts.
 pub mod Theorems
-pub mod Tells
+pub mod Verdicts

@@ -1,8 +1,7 @@
 -- Document 01, "Refusal numbers": what the paper's number, place and needed number of each refusal are.
-use Prim.Native.Nat.{ℕ, _+_, _-_}
-use mathlib.Core.Path.{_≡_, refl}
+use Prim.Native.Nat.{ℕ}
 use mathlib.Core.Bool.{Bool, true, false, cond}
-use lib.Dec.{eqb, leb}
+use lib.Dec.{eqb}
 use Rattle.refusal.specs.declared.Place.{Place}
 use Rattle.refusal.specs.declared.Refusal.{Refusal}
 use Rattle.refusal.specs.declared.Refusal.the-variants.{Size, Ends, Byte, Length, Form, Check, Model, Parts, Digit, Misplaced, Date, Orders, Sum, Unfinished, Room, Marks, Beyond}
@@ -73,26 +72,6 @@ neededOf (Room p n) = n
 neededOf (Marks p) = 0
 neededOf (Beyond p) = 0
 
--- the same refusal, told of the place q
-abbrev pub moved : Place → Refusal → Refusal
-moved q (Size p) = Size q
-moved q (Ends p) = Ends q
-moved q (Byte p) = Byte q
-moved q (Length p) = Length q
-moved q (Form p) = Form q
-moved q (Check p) = Check q
-moved q (Model p) = Model q
-moved q (Parts p) = Parts q
-moved q (Digit p) = Digit q
-moved q (Misplaced p) = Misplaced q
-moved q (Date p) = Date q
-moved q (Orders p) = Orders q
-moved q (Sum p) = Sum q
-moved q (Unfinished p) = Unfinished q
-moved q (Room p n) = Room q n
-moved q (Marks p) = Marks q
-moved q (Beyond p) = Beyond q
-
 -- the refusal that a number, a place and a needed number tell
 abbrev pub refusalOf : ℕ → Place → ℕ → Refusal
 refusalOf k p n =
@@ -114,58 +93,20 @@ refusalOf k p n =
     cond (eqb k 16) (Marks p) (
     Beyond p))))))))))))))))
 
--- so the paper's numbers say all that a refusal holds
-pub numbers-tell-all : (r : Refusal) → refusalOf (numberOf r) (placeOf r) (neededOf r) ≡ r
-numbers-tell-all (Size p) = refl
-numbers-tell-all (Ends p) = refl
-numbers-tell-all (Byte p) = refl
-numbers-tell-all (Length p) = refl
-numbers-tell-all (Form p) = refl
-numbers-tell-all (Check p) = refl
-numbers-tell-all (Model p) = refl
-numbers-tell-all (Parts p) = refl
-numbers-tell-all (Digit p) = refl
-numbers-tell-all (Misplaced p) = refl
-numbers-tell-all (Date p) = refl
-numbers-tell-all (Orders p) = refl
-numbers-tell-all (Sum p) = refl
-numbers-tell-all (Unfinished p) = refl
-numbers-tell-all (Room p n) = refl
-numbers-tell-all (Marks p) = refl
-numbers-tell-all (Beyond p) = refl
+-- the same refusal, told of the place q
+abbrev pub moved : Place → Refusal → Refusal
+moved q r = refusalOf (numberOf r) q (neededOf r)
+
+-- a refusal of a line, its field and byte kept
+abbrev pub inLine : ℕ → Refusal → Refusal
+inLine n r = moved (record { line = n; field = placeOf r .field; byte = placeOf r .byte }) r
 
 -- an answer's number: 0 is acceptance
 abbrev pub answerNumber : Answer → ℕ
 answerNumber Accepted = 0
 answerNumber (Refused r) = numberOf r
 
--- 3, told of a byte alone
-abbrev pub byteAt : ℕ → Answer
-byteAt i = Refused (Byte (record { line = 0; field = 0; byte = i }))
-
--- an answer's place, where a judging call was asked of a part that stands at q
-abbrev pub placed : Place → Answer → Answer
-placed q Accepted = Accepted
-placed q (Refused r) = Refused (moved q r)
-
 -- an answer refuses nothing
 abbrev pub isAccepted : Answer → Bool
 isAccepted Accepted = true
 isAccepted (Refused r) = false
-
--- ---------------------------------------------------------------------------
--- An answer without line and field as one number
-
--- 0 for acceptance, the paper's number, and 32 + i for 3 at byte i
-abbrev pub toldOf : Answer → ℕ
-toldOf Accepted = 0
-toldOf (Refused r) = cond (eqb (numberOf r) 3) (32 + placeOf r .byte) (numberOf r)
-
--- the answer that it tells
-abbrev pub heardOf : ℕ → Answer
-heardOf n = cond (leb 32 n) (byteAt (n - 32)) (cond (eqb n 0) Accepted (Refused (refusalOf n none 0)))
-
--- n is an answer's number, and tells all of it
-pub record Tells (n : ℕ) (a : Answer) : Type 0 where
-  pub told : n ≡ toldOf a
-  pub hears : heardOf n ≡ a

@@ -1,9 +1,11 @@
 // The refusals of document 01, "Refusal numbers": one case for each number, each with its place.
 //
 // What the paper's number, place and needed count of a refusal are is said once, in specs/Refusal.antt,
-// and every promise above speaks of refusals through it. A request of document 02 adds a case here.
+// and every promise above speaks of refusals through it. A request of document 02 adds a case here. A rule that knows
+// no place answers a verdict (specs/Verdict.antt), and whoever knows the place makes an answer of it.
 ghost use mathlib.Core.Path.{_≡_};
-ghost use Rattle.refusal.specs.Refusal.{none, numberOf, placeOf, neededOf, moved, refusalOf, byteAt, heardOf, isAccepted};
+ghost use Rattle.refusal.specs.Refusal.{none, numberOf, placeOf, neededOf, refusalOf, moved, inLine, isAccepted};
+ghost use Rattle.refusal.specs.Verdict.{verdictByte, verdictNumber, answerOf};
 
 // Where a refusal stands. Lines and fields count from 1, bytes from 0; 0 stands for "none".
 pub struct Place {
@@ -126,31 +128,6 @@ pub fn needed(refusal: Refusal) -> usize
     }
 }
 
-// The same refusal at another place: a rule that knows no line or field refuses, and its caller says where.
-pub fn put(refusal: Refusal, place: Place) -> Refusal
-    ensures { λ r. ⌜ r ≡ moved place refusal ⌝ }
-{
-    match refusal {
-        Refusal::Size(_) => Refusal::Size(place),
-        Refusal::Ends(_) => Refusal::Ends(place),
-        Refusal::Byte(_) => Refusal::Byte(place),
-        Refusal::Length(_) => Refusal::Length(place),
-        Refusal::Form(_) => Refusal::Form(place),
-        Refusal::Check(_) => Refusal::Check(place),
-        Refusal::Model(_) => Refusal::Model(place),
-        Refusal::Parts(_) => Refusal::Parts(place),
-        Refusal::Digit(_) => Refusal::Digit(place),
-        Refusal::Misplaced(_) => Refusal::Misplaced(place),
-        Refusal::Date(_) => Refusal::Date(place),
-        Refusal::Orders(_) => Refusal::Orders(place),
-        Refusal::Sum(_) => Refusal::Sum(place),
-        Refusal::Unfinished(_) => Refusal::Unfinished(place),
-        Refusal::Room(_, n) => Refusal::Room(place, n),
-        Refusal::Marks(_) => Refusal::Marks(place),
-        Refusal::Beyond(_) => Refusal::Beyond(place),
-    }
-}
-
 // Whether an answer refuses nothing.
 pub fn is_accepted(a: Answer) -> bool
     ensures { λ r. ⌜ r ≡ isAccepted a ⌝ }
@@ -159,17 +136,6 @@ pub fn is_accepted(a: Answer) -> bool
         Answer::Accepted => true,
         Answer::Refused(_) => false,
     }
-}
-
-// 3, told of a byte alone.
-pub fn byte_at(i: usize) -> Answer
-    ensures { λ r. ⌜ r ≡ byteAt i ⌝ }
-{
-    Answer::Refused(Refusal::Byte(Place {
-        line: 0,
-        field: 0,
-        byte: i,
-    }))
 }
 
 // The refusal of a number, a place and a needed number; a number other than 1 to 16 is 17.
@@ -197,16 +163,57 @@ pub fn made(number: usize, p: Place, needed: usize) -> Refusal
     }
 }
 
-// The answer that one number tells. Places are judged for every line of a file, and an answer is handed up through memory, a number
-// is not.
-pub fn heard(told: usize) -> Answer
-    ensures { λ r. ⌜ r ≡ heardOf told ⌝ }
+// The same refusal at another place: a rule that knows no line or field refuses, and its caller says where.
+pub fn put(refusal: Refusal, place: Place) -> Refusal
+    ensures { λ r. ⌜ r ≡ moved place refusal ⌝ }
 {
-    if 32 <= told {
-        return byte_at(told - 32);
+    made(number(refusal) as usize, place, needed(refusal))
+}
+
+// A refusal of a line, its field and byte kept.
+pub fn in_line(line: usize, refusal: Refusal) -> Refusal
+    ensures { λ r. ⌜ r ≡ inLine line refusal ⌝ }
+{
+    let p = told(refusal);
+    let field = p.field;
+    let byte = p.byte;
+    put(refusal, Place { line, field, byte })
+}
+
+// ---------------------------------------------------------------------------
+// Verdicts: what a rule says of a text before it is known where that stands, as one number
+
+// The offending byte that a verdict tells; 0 where it tells none.
+pub fn byte_of(verdict: usize) -> usize
+    ensures { λ r. ⌜ r ≡ verdictByte verdict ⌝ }
+{
+    if 32 <= verdict {
+        return verdict - 32;
     }
-    if told == 0 {
+    0
+}
+
+// The number of the refusal that a verdict is.
+fn number_of(verdict: usize) -> usize
+    ensures { λ r. ⌜ r ≡ verdictNumber verdict ⌝ }
+{
+    if 32 <= verdict {
+        return 3;
+    }
+    verdict
+}
+
+// A verdict told of a field and a byte.
+pub fn answer_of(verdict: usize, field: usize, byte: usize) -> Answer
+    ensures { λ r. ⌜ r ≡ answerOf verdict field byte ⌝ }
+{
+    if verdict == 0 {
         return Answer::Accepted;
     }
-    Answer::Refused(made(told, nowhere(), 0))
+    let place = Place {
+        line: 0,
+        field,
+        byte,
+    };
+    Answer::Refused(made(number_of(verdict), place, 0))
 }

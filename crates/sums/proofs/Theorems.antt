@@ -1,62 +1,61 @@
--- What is promised of sums and of numbers read from digits: sums exact to twenty digits and told apart, and one answer.
+-- What is promised of sums and of numbers read from digits: sums exact below any limit and told apart, and one answer.
 -- Assumes nothing.
-use mathlib.Core.Path.{_≡_, sym, ap}
+use mathlib.Core.Path.{_≡_, refl, sym, ap, _∙_}
 use mathlib.Core.Logic.{_↔_}
-use mathlib.Core.Bool.{Bool, true, false, _&&_}
+use mathlib.Core.Bool.{Bool, true, false}
 use mathlib.Core.List.{List}
-use Prim.Native.Nat.{ℕ, _+_, _^_, _≤_, _<_}
+use Prim.Native.Nat.{ℕ, _+_, _*_, _^_, _≤_, _<_}
 use native.Mathlib.Nat.{zero-add, pow-le-pow-right}
 use native.Mathlib.Omega.{arith}
-use lib.Dec.{ltb, eqb}
-use lib.ListN.{length, take}
+use lib.Dec.{ltb}
+use lib.ListN.{length}
 use lib.Seq.{take-all}
-use borrow.Author.Tests.{lt-ltb, ltb-false, eq-eqb, eqb-true}
+use borrow.Author.Tests.{lt-ltb, le-ltb, ltb-true, ltb-false, eq-eqb, ne-eqb, eqb-true}
 use Rattle.refusal.specs.Only.{Only, defined-only}
 use Rattle.text.specs.Digits.{digitsOf}
-use Rattle.text.proofs.Laws.{and-first, both-true}
-use Rattle.sums.specs.declared.Reading.{Reading}
-use Rattle.sums.specs.declared.Sum.{Sum}
-use Rattle.sums.specs.Sums.{tooMuch, centsOf, sumOf, fits, added, sameSum, numberOf, readIn}
 use Rattle.text.proofs.Values.{value-below, digits-few}
+use Rattle.sums.specs.declared.Sum.{Sum}
+use Rattle.sums.specs.Sums.{limb, centsOf, noCents, sumOf, fits, added, sameSum, numberOf, numberIn}
 use Rattle.sums.proofs.Laws.{cents-small, cents-large}
 
 -- ---------------------------------------------------------------------------
--- "Sums exact to twenty digits"
+-- "Sums exact to twenty digits", and below any other limit
 
-module _ (n : ℕ) where
-  -- a sum of at most twenty digits stands for its number
-  pub sum-exact : n < tooMuch → centsOf (sumOf n) ≡ n
-  sum-exact h = cents-small n h
+module _ (most n : ℕ) where
+  -- a sum below the limit stands for its number
+  pub sum-exact : n < most * limb → centsOf (sumOf most n) ≡ n
+  sum-exact h = cents-small most n h
 
   -- and is one that fits
-  pub sum-fits : n < tooMuch → fits (sumOf n) ≡ true
-  sum-fits h = rw (cents-small n h) (lt-ltb n tooMuch h)
+  pub sum-fits : n < most * limb → fits most (sumOf most n) ≡ true
+  sum-fits h = rw (cents-small most n h) (lt-ltb n (most * limb) h)
 
   -- a sum of more never is
-  pub sum-beyond : tooMuch ≤ n → fits (sumOf n) ≡ false
-  sum-beyond h = rw (cents-large n h)
+  pub sum-beyond : most * limb ≤ n → fits most (sumOf most n) ≡ false
+  sum-beyond h = rw (cents-large most n h) (le-ltb (most * limb) (most * limb) (omega arith))
 
   -- some cents more are counted exactly
-  pub added-exact : (s : Sum) → fits s ≡ true → centsOf s + n < tooMuch → centsOf (added s n) ≡ centsOf s + n
-  added-exact s e h = cents-small (centsOf s + n) h
+  pub added-exact : (s : Sum) → centsOf s + n < most * limb → centsOf (added most s n) ≡ centsOf s + n
+  added-exact s h = cents-small most (centsOf s + n) h
 
-  -- a sum of more stays one, whatever is added
-  pub beyond-stays : (s : Sum) → fits s ≡ false → fits (added s n) ≡ false
-  beyond-stays s e = let h : tooMuch ≤ centsOf s = ltb-false (centsOf s) tooMuch e in rw (cents-large (centsOf s + n) (omega arith))
+-- a sum of more stays one, whatever is added
+pub beyond-stays : (most n : ℕ) (s : Sum) → fits most s ≡ false → fits most (added most s n) ≡ false
+beyond-stays most n s e = sum-beyond most (centsOf s + n) (omega (arith, ltb-false (centsOf s) (most * limb) e))
 
--- two sums are the same exactly when their numbers are
-pub sums-told-apart : (m n : ℕ) → m < tooMuch → n < tooMuch → (sameSum (sumOf m) (sumOf n) ≡ true) ↔ (m ≡ n)
-sums-told-apart m n g h = rw (cents-small m g, cents-small n h) (there, back)
+-- a sum of more is the same as none that fits
+pub beyond-never-same : (most m : ℕ) (t : Sum) → most * limb ≤ m → fits most t ≡ true → sameSum (sumOf most m) t ≡ false
+beyond-never-same most m t h e = ne-eqb (centsOf (sumOf most m)) (centsOf t) (λ p. omega (arith, cents-large most m h, ltb-true (centsOf t) (most * limb) e))
+
+-- any sum and one that fits are the same exactly when their numbers are
+pub sums-told-apart : (most m n : ℕ) → n < most * limb → (sameSum (sumOf most m) (sumOf most n) ≡ true) ↔ (m ≡ n)
+sums-told-apart most m n h = (there, λ e. eq-eqb (centsOf (sumOf most m)) (centsOf (sumOf most n)) (ap (λ (k : ℕ). centsOf (sumOf most k)) e))
   where
-    there : (ltb m tooMuch && (ltb n tooMuch && eqb m n)) ≡ true → m ≡ n
-    there e = eqb-true m n (both-true (ltb n tooMuch) (eqb m n) (both-true (ltb m tooMuch) (ltb n tooMuch && eqb m n) e .1) .1)
-
-    back : m ≡ n → (ltb m tooMuch && (ltb n tooMuch && eqb m n)) ≡ true
-    back e = rw (lt-ltb m tooMuch g, lt-ltb n tooMuch h) (eq-eqb m n e)
-
--- a sum of more than twenty digits is the same as no other, not even itself
-pub beyond-never-same : (m : ℕ) (t : Sum) → tooMuch ≤ m → sameSum (sumOf m) t ≡ false
-beyond-never-same m t h = sym (and-first (fits (sumOf m)) (fits t && eqb (centsOf (sumOf m)) (centsOf t)) (sum-beyond m h))
+    there : sameSum (sumOf most m) (sumOf most n) ≡ true → m ≡ n
+    there e = go (ltb m (most * limb)) refl (eqb-true (centsOf (sumOf most m)) (centsOf (sumOf most n)) e)
+      where
+        go : (t : Bool) → ltb m (most * limb) ≡ t → centsOf (sumOf most m) ≡ centsOf (sumOf most n) → m ≡ n
+        go true f p = sym (cents-small most m (ltb-true m (most * limb) f)) ∙ p ∙ cents-small most n h
+        go false f p = omega (arith, cents-large most m (ltb-false m (most * limb) f), cents-small most n h)
 
 -- ---------------------------------------------------------------------------
 -- Numbers read from digits
@@ -72,31 +71,28 @@ pub text-small : (k : ℕ) (s : List ℕ) → length s ≤ k → numberOf s < 10
 text-small k s h = number-small k s (omega (arith, digits-few s))
 
 -- a text of eighteen bytes is read whole
-pub number-of-all : (s : List ℕ) → length s ≤ 18 → numberOf (take 18 s) ≡ numberOf s
+pub number-of-all : (s : List ℕ) → length s ≤ 18 → numberIn s ≡ numberOf s
 number-of-all s h = ap numberOf (take-all 18 s h)
 
 -- ---------------------------------------------------------------------------
 -- Any two answers that a contract allows are equal
 
-pub nothing-only : Only (λ (r : Sum). r ≡ sumOf 0)
-nothing-only = defined-only (sumOf 0)
+pub nothing-only : Only (λ (r : Sum). r ≡ noCents)
+nothing-only = defined-only noCents
 
 module _ (s : Sum) where
-  pub is-exact-only : Only (λ (r : Bool). r ≡ fits s)
-  is-exact-only = defined-only (fits s)
+  pub fits-only : (most : ℕ) → Only (λ (r : Bool). r ≡ fits most s)
+  fits-only most = defined-only (fits most s)
 
-  pub add-only : (cents : ℕ) → Only (λ (r : Sum). r ≡ added s cents)
-  add-only cents = defined-only (added s cents)
+  pub add-only : (cents most : ℕ) → Only (λ (r : Sum). r ≡ added most s cents)
+  add-only cents most = defined-only (added most s cents)
 
   pub is-same-only : (t : Sum) → Only (λ (r : Bool). r ≡ sameSum s t)
   is-same-only t = defined-only (sameSum s t)
 
 module _ (s : List ℕ) where
-  pub written-only : Only (λ (r : Sum). r ≡ sumOf (numberOf s))
-  written-only = defined-only (sumOf (numberOf s))
+  pub written-only : (most : ℕ) → Only (λ (r : Sum). r ≡ sumOf most (numberOf s))
+  written-only most = defined-only (sumOf most (numberOf s))
 
-  pub number-only : Only (λ (r : ℕ). r ≡ numberOf (take 18 s))
-  number-only = defined-only (numberOf (take 18 s))
-
-  pub read-only : Only (λ (r : Reading). r ≡ readIn s)
-  read-only = defined-only (readIn s)
+  pub number-only : Only (λ (r : ℕ). r ≡ numberIn s)
+  number-only = defined-only (numberIn s)

@@ -1,13 +1,14 @@
-// Exact sums of cents, up to twenty digits, and the numbers that the digits of a text write.
+// Exact sums of cents under any limit, and the numbers that the digits of a text write.
 //
 // Document 01: "sums exact to twenty digits"; a sum kept in 64 bits is one of its "errors a clerk would ship". A sum is
-// two numbers, base 10^18. One of 10^20 or more is told from every exact one, whoever made it.
+// two numbers, base 10^18, and its limit is `most` times 10^18: 100 for twenty digits. The limit stands for itself and
+// all above, so that a sum of more is told from every one that fits.
 ghost use mathlib.Core.Path.{_≡_};
 ghost use mathlib.Core.List.{_∷_, []};
 ghost use Prim.Native.Nat.{_+_, _*_, _<_};
-ghost use lib.ListN.{take};
+ghost use lib.Dec.{eqb};
 ghost use Rattle.text.specs.Digits.{digitsOf, valueFrom};
-ghost use Rattle.sums.specs.Sums.{centsOf, sumOf, fits, added, sameSum, numberOf, readIn};
+ghost use Rattle.sums.specs.Sums.{limb, centsOf, noCents, sumOf, fits, added, sameSum, numberOf, numberIn};
 
 // `high` times 10^18 and `low`, in cents.
 pub struct Sum {
@@ -15,115 +16,111 @@ pub struct Sum {
     pub low: u64,
 }
 
-// What a text of digits holds: the number that its first eighteen write, or the place of its first byte that is no digit.
-pub enum Reading {
-    Number(u64),
-    Wrong(usize),
-}
-
 // No cents.
 pub fn nothing() -> Sum
-    ensures { λ r. ⌜ r ≡ sumOf 0 ⌝ }
+    ensures { λ r. ⌜ r ≡ noCents ⌝ }
 {
     Sum { high: 0, low: 0 }
 }
 
-// The sum that stands for 10^20 cents and more.
-fn too_much() -> Sum
-    ensures { λ r. ⌜ r ≡ sumOf 100000000000000000000 ⌝ }
-{
-    Sum { high: 100, low: 0 }
-}
-
-// Whether a sum has at most twenty digits.
-pub fn is_exact(s: Sum) -> bool
-    ensures { λ r. ⌜ r ≡ fits s ⌝ }
+// Whether a sum is below `most` times 10^18.
+pub fn fits(s: Sum, most: u64) -> bool
+    ensures { λ r. ⌜ r ≡ fits most s ⌝ }
 {
     let high = s.high;
     let low = s.low;
-    if 100 <= high {
+    if most <= high {
         return false;
     }
-    high + low / 1000000000000000000 < 100
+    low / 1000000000000000000 < most - high
+}
+
+// The sum of two high parts and a low one under a limit.
+fn kept(high: u64, more: u64, low: u64, most: u64) -> Sum
+    requires { ⌜ low < limb ⌝ }
+    ensures { λ r. ⌜ r ≡ sumOf most ((high + more) * limb + low) ⌝ }
+{
+    if most <= high {
+        return Sum { high: most, low: 0 };
+    }
+    if most - high <= more {
+        return Sum { high: most, low: 0 };
+    }
+    Sum {
+        high: high + more,
+        low,
+    }
 }
 
 // Some cents more.
-pub fn add(s: Sum, cents: u64) -> Sum
-    ensures { λ r. ⌜ r ≡ added s cents ⌝ }
+pub fn add(s: Sum, cents: u64, most: u64) -> Sum
+    ensures { λ r. ⌜ r ≡ added most s cents ⌝ }
 {
     let high = s.high;
     let low = s.low;
-    if 100 <= high {
-        return too_much();
-    }
     let lows = low % 1000000000000000000 + cents % 1000000000000000000;
     let carried = low / 1000000000000000000
         + cents / 1000000000000000000
         + lows / 1000000000000000000;
-    let highs = high + carried;
-    if 100 <= highs {
-        return too_much();
-    }
-    Sum {
-        high: highs,
-        low: lows % 1000000000000000000,
-    }
+    kept(high, carried, lows % 1000000000000000000, most)
 }
 
-// Whether two sums of at most twenty digits are the same.
+// Whether a number is `by` times 10^18 above another.
+fn is_above(by: u64, low: u64, other: u64) -> bool
+    ensures { λ r. ⌜ r ≡ eqb (by * limb + low) other ⌝ }
+{
+    if other < low {
+        return false;
+    }
+    let rest = other - low;
+    if rest % 1000000000000000000 != 0 {
+        return false;
+    }
+    rest / 1000000000000000000 == by
+}
+
+// Whether two sums are the same number of cents.
 pub fn is_same(s: Sum, t: Sum) -> bool
     ensures { λ r. ⌜ r ≡ sameSum s t ⌝ }
 {
-    if !is_exact(s) {
-        return false;
-    }
-    if !is_exact(t) {
-        return false;
-    }
     let a = s.high;
     let b = s.low;
     let c = t.high;
     let d = t.low;
-    if a + b / 1000000000000000000 != c + d / 1000000000000000000 {
-        return false;
+    if c <= a {
+        return is_above(a - c, b, d);
     }
-    b % 1000000000000000000 == d % 1000000000000000000
+    is_above(c - a, d, b)
 }
 
 // A sum with one digit more after it; what is no digit is passed over.
-fn with_digit(s: Sum, b: u8) -> Sum
-    ensures { λ r. ⌜ r ≡ sumOf (valueFrom (centsOf s) (digitsOf (b ∷ []))) ⌝ }
+fn with_digit(s: Sum, b: u8, most: u64) -> Sum
+    ensures { λ r. ⌜ r ≡ sumOf most (valueFrom (centsOf s) (digitsOf (b ∷ []))) ⌝ }
 {
     let high = s.high;
     let low = s.low;
     if b < 48 {
-        return add(s, 0);
+        return add(s, 0, most);
     }
     if 57 < b {
-        return add(s, 0);
+        return add(s, 0, most);
     }
-    if !is_exact(s) {
-        return too_much();
+    if most / 10 < high {
+        return Sum { high: most, low: 0 };
     }
     let units = low % 1000000000000000000 * 10 + (b - 48) as u64;
-    let highs = (high + low / 1000000000000000000) * 10 + units / 1000000000000000000;
-    if 100 <= highs {
-        return too_much();
-    }
-    Sum {
-        high: highs,
-        low: units % 1000000000000000000,
-    }
+    let carried = low / 1000000000000000000 * 10 + units / 1000000000000000000;
+    kept(high * 10, carried, units % 1000000000000000000, most)
 }
 
 // The sum that the digits of a text write.
-pub fn written(s: &[u8]) -> Sum
-    ensures { λ r. ⌜ r ≡ sumOf (numberOf (now (s .entry))) ⌝ }
+pub fn written(s: &[u8], most: u64) -> Sum
+    ensures { λ r. ⌜ r ≡ sumOf most (numberOf (now (s .entry))) ⌝ }
 {
     let mut sum = nothing();
     let mut i = 0;
     while i < s.len() {
-        sum = with_digit(sum, s[i]);
+        sum = with_digit(sum, s[i], most);
         i += 1;
     }
     sum
@@ -131,7 +128,7 @@ pub fn written(s: &[u8]) -> Sum
 
 // A number with one digit more after it; what is no digit is passed over.
 fn longer(v: u64, b: u8) -> u64
-    requires { ⌜ v < 1000000000000000000 ⌝ }
+    requires { ⌜ v < limb ⌝ }
     ensures { λ r. ⌜ r ≡ valueFrom v (digitsOf (b ∷ [])) ⌝ }
 {
     if b < 48 {
@@ -145,7 +142,7 @@ fn longer(v: u64, b: u8) -> u64
 
 // The number that the digits among the first eighteen bytes of a text write.
 pub fn number(s: &[u8]) -> u64
-    ensures { λ r. ⌜ r ≡ numberOf (take 18 (now (s .entry))) ⌝ }
+    ensures { λ r. ⌜ r ≡ numberIn (now (s .entry)) ⌝ }
 {
     let mut v: u64 = 0;
     let mut i = 0;
@@ -157,25 +154,4 @@ pub fn number(s: &[u8]) -> u64
         i += 1;
     }
     v
-}
-
-// The number that a text of digits writes, in one pass.
-pub fn read(s: &[u8]) -> Reading
-    ensures { λ r. ⌜ r ≡ readIn (now (s .entry)) ⌝ }
-{
-    let mut v: u64 = 0;
-    let mut i = 0;
-    while i < s.len() {
-        let b = s[i];
-        if !text::is_digit(b) {
-            return Reading::Wrong(i);
-        }
-        if i < 18 {
-            v = longer(v, b);
-            i += 1;
-        } else {
-            i += 1;
-        }
-    }
-    Reading::Number(v)
 }

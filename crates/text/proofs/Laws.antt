@@ -1,7 +1,7 @@
 -- Laws that every crate's proofs cite: of choices on a test, of tests, and of the texts that loops walk through.
 -- Assumes nothing.
-use mathlib.Core.Path.{_≡_, refl, sym, ap, _∙_}
-use mathlib.Core.Bool.{Bool, true, false, cond, _&&_, _||_, and-true, and-assoc}
+use mathlib.Core.Path.{_≡_, refl, sym, ap, subst, _∙_}
+use mathlib.Core.Bool.{Bool, true, false, cond, _&&_, _||_, and-true, and-assoc, false≢true}
 use mathlib.Core.List.{List, [], _∷_, _++_}
 use Prim.Native.Nat.{ℕ, suc, _+_, _-_, _*_, _≤_, _<_}
 use native.Mathlib.Numerals.{add-one}
@@ -15,7 +15,8 @@ use Rattle.text.specs.declared.Class.{Class}
 use Rattle.text.specs.declared.Found.{Found}
 use Rattle.text.specs.declared.Found.the-variants.{At, Nothing}
 use Rattle.text.specs.Digits.{digitsOf, valueFrom}
-use Rattle.text.specs.Bytes.{isDigit, permits, later, firstBad, allOf, marks}
+use Rattle.refusal.specs.Verdict.{wrongAt, Within}
+use Rattle.text.specs.Bytes.{isDigit, permits, later, firstBad, found, bytesVerdict, allOf, countOf}
 
 -- ---------------------------------------------------------------------------
 -- Choices on a test
@@ -119,6 +120,39 @@ module _ (k : Class) (s : List ℕ) (i : ℕ) where
   unfolding firstBad shifted
   scan-ends h g = let e : i ≡ length s = omega arith in rw (e, drop-length)
 
+-- a scan's place is below a number
+abbrev pub Below : ℕ → Found → Type 0
+Below n (At i) = i < n
+Below n Nothing = Unit
+
+-- one place further on, in a text of a byte more
+pub below-later : (n : ℕ) (f : Found) → Below n f → Below (suc n) (later f)
+below-later n (At i) h = omega arith
+below-later n Nothing h = tt
+
+-- what the scan for a class finds
+pub bad-below : (k : Class) (s : List ℕ) → Below (length s) (firstBad k s)
+unfolding firstBad
+bad-below k [] = tt
+bad-below k (b ∷ s) = go (permits k b) (bad-below k s)
+  where
+    go : (t : Bool) → Below (length s) (firstBad k s) → Below (suc (length s)) (cond t (later (firstBad k s)) (At 0))
+    go true h = below-later (length s) (firstBad k s) h
+    go false h = omega arith
+
+-- a place that it found
+pub found-below : (k : Class) (s : List ℕ) (i : ℕ) → firstBad k s ≡ At i → i < length s
+found-below k s i e = subst (λ (f : Found). Below (length s) f) e (bad-below k s)
+
+-- so its 3 tells a byte of the text
+pub found-within : (n : ℕ) (f : Found) → Below n f → Within n (found f)
+found-within n (At i) h = omega arith
+found-within n Nothing h = omega arith
+
+pub bytes-within : (k : Class) (s : List ℕ) → Within (length s) (bytesVerdict k s)
+unfolding bytesVerdict
+bytes-within k s = found-within (length s) (firstBad k s) (bad-below k s)
+
 -- nothing was found where every byte is permitted
 unfoldable pub isNothing : Found → Bool
 isNothing (At k) = false
@@ -137,6 +171,23 @@ all-of-nothing k (b ∷ s) = go (permits k b) (all-of-nothing k s)
     go : (t : Bool) → isNothing (firstBad k s) ≡ allOf k s → isNothing (cond t (later (firstBad k s)) (At 0)) ≡ (t && allOf k s)
     go true e = isNothing-later (firstBad k s) ∙ e
     go false e = refl
+
+-- and then there is no 3
+pub all-passes : (k : Class) (s : List ℕ) → allOf k s ≡ true → bytesVerdict k s ≡ 0
+unfolding bytesVerdict isNothing
+all-passes k s e = go (firstBad k s) (all-of-nothing k s ∙ e)
+  where
+    go : (f : Found) → isNothing f ≡ true → found f ≡ 0
+    go (At i) h = absurd (false≢true h)
+    go Nothing h = refl
+
+pub passes-all : (k : Class) (s : List ℕ) → bytesVerdict k s ≡ 0 → allOf k s ≡ true
+unfolding bytesVerdict isNothing
+passes-all k s e = sym (all-of-nothing k s) ∙ go (firstBad k s) e
+  where
+    go : (f : Found) → found f ≡ 0 → isNothing f ≡ true
+    go (At i) h = absurd (omega arith)
+    go Nothing h = refl
 
 -- a class permits two texts joined where it permits each
 pub all-append : (k : Class) (s t : List ℕ) → allOf k (s ++ t) ≡ (allOf k s && allOf k t)
@@ -187,20 +238,20 @@ module _ (k : Class) (s : List ℕ) (i : ℕ) where
   tested-all h g before = let e : i ≡ length s = omega arith in rw (e, drop-length) (sym (and-true before))
 
 -- ---------------------------------------------------------------------------
--- Marks, from place i on
+-- How many bytes c there are from place i on
 
-module _ (s : List ℕ) (i n : ℕ) (h : i < length s) where
-  pub marks-more : getD s i 0 ≡ 63 → n + marks (drop i s) ≡ n + 1 + marks (drop (i + 1) s)
-  unfolding marks
-  marks-more e = rw (drop-cons s i 0 h, add-one i, e) (omega arith)
+module _ (c : ℕ) (s : List ℕ) (i n : ℕ) where
+  pub count-more : i < length s → getD s i 0 ≡ c → n + countOf c (drop i s) ≡ n + 1 + countOf c (drop (i + 1) s)
+  unfolding countOf
+  count-more h e = rw (drop-cons s i 0 h, add-one i, eq-eqb (getD s i 0) c e) (omega arith)
 
-  pub marks-same : (getD s i 0 ≡ 63 → ⊥) → n + marks (drop i s) ≡ n + marks (drop (i + 1) s)
-  unfolding marks
-  marks-same e = rw (drop-cons s i 0 h, add-one i, ne-eqb (getD s i 0) 63 e)
+  pub count-same : i < length s → (getD s i 0 ≡ c → ⊥) → n + countOf c (drop i s) ≡ n + countOf c (drop (i + 1) s)
+  unfolding countOf
+  count-same h e = rw (drop-cons s i 0 h, add-one i, ne-eqb (getD s i 0) c e)
 
-pub marks-end : (s : List ℕ) (i n : ℕ) → length s ≤ i → i ≤ length s → n ≡ n + marks (drop i s)
-unfolding marks
-marks-end s i n h g = let e : i ≡ length s = omega arith in rw (e, drop-length) (sym (add-zero n))
+  pub count-end : length s ≤ i → i ≤ length s → n ≡ n + countOf c (drop i s)
+  unfolding countOf
+  count-end h g = let e : i ≡ length s = omega arith in rw (e, drop-length) (sym (add-zero n))
 
 -- ---------------------------------------------------------------------------
 -- Parts

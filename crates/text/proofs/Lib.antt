@@ -4,5 +4,4 @@ pub mod Blanks
 pub mod Theorems
 pub mod Stands
 pub mod Same
-pub mod ByteWithin
 pub mod Values

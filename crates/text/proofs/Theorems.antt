@@ -8,7 +8,7 @@ use Rattle.refusal.specs.Only.{Only, defined-only}
 use Rattle.text.specs.declared.Class.{Class}
 use Rattle.text.specs.declared.Class.the-variants.{Blanks, Description}
 use Rattle.text.specs.declared.Found.{Found}
-use Rattle.text.specs.Bytes.{isDigit, permits, firstBad, allOf, marks, same}
+use Rattle.text.specs.Bytes.{isDigit, isLetter, permits, firstBad, bytesVerdict, allOf, trimmed, countOf, same}
 use Rattle.text.specs.Digits.{twoDigits}
 
 -- ---------------------------------------------------------------------------
@@ -27,6 +27,9 @@ module _ (k : Class) where
   pub first-bad-only : (s : List ℕ) → Only (λ (r : Found). r ≡ firstBad k s)
   first-bad-only s = defined-only (firstBad k s)
 
+  pub judge-only : (s : List ℕ) → Only (λ (r : ℕ). r ≡ bytesVerdict k s)
+  judge-only s = defined-only (bytesVerdict k s)
+
   pub all-of-only : (s : List ℕ) → Only (λ (r : Bool). r ≡ allOf k s)
   all-of-only s = defined-only (allOf k s)
 
@@ -36,8 +39,14 @@ all-blank-only s = all-of-only Blanks s
 pub all-described-only : (s : List ℕ) → Only (λ (r : Bool). r ≡ allOf Description s)
 all-described-only s = all-of-only Description s
 
-pub count-marks-only : (s : List ℕ) → Only (λ (r : ℕ). r ≡ marks s)
-count-marks-only s = defined-only (marks s)
+pub is-letter-only : (b : ℕ) → Only (λ (r : Bool). r ≡ isLetter b)
+is-letter-only b = defined-only (isLetter b)
+
+pub trim-only : (s : List ℕ) → Only (λ (r : List ℕ). r ≡ trimmed s)
+trim-only s = defined-only (trimmed s)
+
+pub count-only : (c : ℕ) (s : List ℕ) → Only (λ (r : ℕ). r ≡ countOf c s)
+count-only c s = defined-only (countOf c s)
 
 pub is-same-only : (s t : List ℕ) → Only (λ (r : Bool). r ≡ same s t)
 is-same-only s t = defined-only (same s t)

@@ -1,8 +1,9 @@
--- Which bytes the fields of document 01 permit, the first byte that is not permitted, and the marks of a wet text.
+-- Which bytes the fields of document 01 permit, the first byte that is not permitted, and what else is asked of a text's bytes.
 use Prim.Native.Nat.{ℕ, suc}
 use mathlib.Core.Bool.{Bool, true, false, cond, not, _&&_, _||_}
 use mathlib.Core.List.{List, [], _∷_}
 use lib.Dec.{eqb, leb}
+use Rattle.refusal.specs.Verdict.{wrongAt}
 use Rattle.text.specs.declared.Class.{Class}
 use Rattle.text.specs.declared.Class.the-variants.{Digits, Account, Reference, WetAccount, WetReference, Dry, Part, Line, Letters, Blanks, Zeros, Place, Description}
 use Rattle.text.specs.declared.Found.{Found}
@@ -62,6 +63,15 @@ unfoldable pub firstBad : Class → List ℕ → Found
 firstBad k [] = Nothing
 firstBad k (b ∷ s) = cond (permits k b) (later (firstBad k s)) (At 0)
 
+-- 3 with its byte, where a scan found one
+abbrev pub found : Found → ℕ
+found (At i) = wrongAt i
+found Nothing = 0
+
+-- 3 with its byte, unless a class permits all
+unfoldable pub bytesVerdict : Class → List ℕ → ℕ
+bytesVerdict k s = found (firstBad k s)
+
 -- every byte is permitted
 unfoldable pub allOf : Class → List ℕ → Bool
 allOf k [] = true
@@ -75,18 +85,16 @@ unfoldable pub trimmed : List ℕ → List ℕ
 trimmed [] = []
 trimmed (b ∷ s) = cond (allOf Blanks (b ∷ s)) [] (b ∷ trimmed s)
 
--- a text before its first blank
-unfoldable pub beforeBlank : List ℕ → List ℕ
-beforeBlank [] = []
-beforeBlank (b ∷ s) = cond (eqb b 32) [] (b ∷ beforeBlank s)
-
 -- ---------------------------------------------------------------------------
--- "`?` marks an unreadable digit"
+-- How often a byte stands in a text
 
--- how many marks a text has
-unfoldable pub marks : List ℕ → ℕ
-marks [] = 0
-marks (b ∷ s) = cond (eqb b 63) (suc (marks s)) (marks s)
+unfoldable pub countOf : ℕ → List ℕ → ℕ
+countOf c [] = 0
+countOf c (b ∷ s) = cond (eqb b c) (suc (countOf c s)) (countOf c s)
+
+-- "`?` marks an unreadable digit"; `?` is 63
+abbrev pub marks : List ℕ → ℕ
+marks s = countOf 63 s
 
 -- ---------------------------------------------------------------------------
 -- Words
@@ -97,3 +105,7 @@ same [] [] = true
 same [] (b ∷ t) = false
 same (a ∷ s) [] = false
 same (a ∷ s) (b ∷ t) = eqb a b && same s t
+
+-- `EUR`
+abbrev pub eur : List ℕ
+eur = 69 ∷ (85 ∷ (82 ∷ []))

@@ -8,7 +8,7 @@ ghost use mathlib.Core.Bool.{_&&_};
 ghost use Prim.Native.Nat.{ℕ};
 ghost use lib.Dec.{leb};
 ghost use Rattle.text.specs.Digits.{twoDigits};
-ghost use Rattle.text.specs.Bytes.{permits, isDigit, isLetter, firstBad, allOf, marks, same};
+ghost use Rattle.text.specs.Bytes.{permits, isDigit, isLetter, firstBad, bytesVerdict, allOf, trimmed, countOf, same};
 
 // The classes of bytes that document 01 names.
 pub enum Class {
@@ -90,7 +90,8 @@ pub fn permitted(class: Class, b: u8) -> bool
     }
 }
 
-fn is_letter(b: u8) -> bool
+// Whether a byte is a letter, A to Z.
+pub fn is_letter(b: u8) -> bool
     ensures { λ r. ⌜ r ≡ isLetter b ⌝ }
 {
     if b < 65 {
@@ -203,6 +204,16 @@ pub fn first_bad(class: Class, s: &[u8]) -> Found
     first_wrong(class, s)
 }
 
+// 3 with its byte, unless a class permits all: a verdict.
+pub fn judge(class: Class, s: &[u8]) -> usize
+    ensures { λ r. ⌜ r ≡ bytesVerdict class (now (s .entry)) ⌝ }
+{
+    match first_bad(class, s) {
+        Found::At(i) => 32 + i,
+        Found::Nothing => 0,
+    }
+}
+
 // Whether every byte lies between two: whatever class permits just those, it permits all of them. It has no branch, so that
 // the compiler takes many bytes at a time.
 fn all_within(least: u8, most: u8, s: &[u8]) -> bool
@@ -260,14 +271,29 @@ pub fn all_described(s: &[u8]) -> bool
     right
 }
 
-// How many marks, `?`, a text has.
-pub fn count_marks(s: &[u8]) -> usize
-    ensures { λ r. ⌜ r ≡ marks (now (s .entry)) ⌝ }
+// A text without the blanks at its end.
+pub fn trim(s: &[u8]) -> &[u8]
+    ensures { λ r. ⌜ now r ≡ trimmed (now (s .entry)) ⌝ }
+{
+    let mut n = s.len();
+    while 0 < n {
+        let last = n - 1;
+        if s[last] != 32 {
+            return &s[..n];
+        }
+        n = last;
+    }
+    &s[..0]
+}
+
+// How many bytes c a text has.
+pub fn count(c: u8, s: &[u8]) -> usize
+    ensures { λ r. ⌜ r ≡ countOf c (now (s .entry)) ⌝ }
 {
     let mut n = 0;
     let mut i = 0;
     while i < s.len() {
-        if s[i] == 63 {
+        if s[i] == c {
             n += 1;
             i += 1;
         } else {

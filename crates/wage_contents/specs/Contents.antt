@@ -1,160 +1,120 @@
--- Document 01, "The wage file": what a place of a line may hold, each kind of content once. Within a field 3 with its byte, 5, 6, 7, 8, 9, 11.
+-- Document 01, "The wage file": what a place of a line may hold, each kind of content once, as a verdict (refusal/specs/Verdict.antt). Within
+-- a field 3 with its byte, 5, 6, 7, 8, 9, 11.
 -- "Numeric fields are digits only (else 3), zeros for absent, unless stated. 3 is also given in an IBAN place for a byte not A to Z, digit or
 -- blank; in a reference for one not digit, hyphen or trailing blank; in a description. Every other wrong byte or content is 5."
 use Prim.Native.Nat.{ℕ}
 use mathlib.Core.Bool.{Bool, true, false, cond, not, _&&_, _||_}
-use mathlib.Core.List.{List, [], _∷_}
+use mathlib.Core.List.{List}
 use lib.Dec.{eqb, leb}
 use lib.ListN.{length, take, drop, getD}
-use Rattle.refusal.specs.Refusal.{none, byteAt}
-use Rattle.refusal.specs.declared.Answer.{Answer}
-use Rattle.refusal.specs.declared.Answer.the-variants.{Accepted, Refused}
-use Rattle.refusal.specs.declared.Refusal.{Refusal}
-use Rattle.refusal.specs.declared.Refusal.the-variants.{Form, Check, Model, Parts, Date}
-use Rattle.text.specs.Bytes.{firstBad, allOf, trimmed, same}
+use Rattle.refusal.specs.Verdict.{andThen, onlyIf}
+use Rattle.text.specs.Bytes.{bytesVerdict, allOf, trimmed, same, eur}
 use Rattle.text.specs.declared.Class.{Class}
 use Rattle.text.specs.declared.Class.the-variants.{Digits, Reference, Letters, Blanks, Zeros, Place, Description}
 use Rattle.text.specs.declared.Found.{Found}
 use Rattle.text.specs.declared.Found.the-variants.{At, Nothing}
 use Rattle.account.specs.Account.{oibPasses}
-use Rattle.account.specs.Answers.{ibanCheckAnswer}
-use Rattle.models.specs.Models.{modelNumber, modelOf, modelAnswer}
-use Rattle.reference.specs.Answers.{referenceAnswer}
-use Rattle.reference.specs.Answers as reference
+use Rattle.account.specs.Answers.{ibanCheckVerdict}
+use Rattle.models.specs.Models.{modelNumber, modelOf, modelFrom}
+use Rattle.reference.specs.Answers.{modelledVerdict}
 use Rattle.dates.specs.Dates.{isDate}
 use Rattle.codes.specs.Codes.{codePlace}
-use Rattle.sums.specs.Sums.{numberOf}
+use Rattle.sums.specs.Sums.{numberIn}
+use Rattle.wage_contents.specs.declared.Held.{Held}
+use Rattle.wage_contents.specs.declared.Held.the-variants.{Blank, NoModel, Number}
+
+-- "digits only (else 3)", and of other classes: 3 with its byte, then the refusal n unless a test holds
+unfoldable pub tested : Class → List ℕ → Bool → ℕ → ℕ
+tested k f right n = andThen (bytesVerdict k f) (onlyIf right n)
 
 -- ---------------------------------------------------------------------------
--- Answers joined
+-- Numbers and dates
 
--- the first refusal stands
-abbrev pub andThen : Answer → Answer → Answer
-andThen Accepted rest = rest
-andThen (Refused r) rest = Refused r
-
--- accepted where a test holds
-abbrev pub onlyIf : Bool → Refusal → Answer
-onlyIf b r = cond b Accepted (Refused r)
-
--- 3 with its byte, where a scan found one
-abbrev pub found : Found → Answer
-found (At i) = byteAt i
-found Nothing = Accepted
-
--- 3 with its byte, unless a class permits all
-unfoldable pub bytesAnswer : Class → List ℕ → Answer
-bytesAnswer k f = found (firstBad k f)
-
--- ---------------------------------------------------------------------------
--- Numbers
-
--- the number of a place of at most eighteen digits
-abbrev pub numberIn : List ℕ → ℕ
-numberIn f = numberOf (take 18 f)
+-- one of three
+abbrev pub oneOf : ℕ → ℕ → ℕ → ℕ → Bool
+oneOf a b c v = eqb v a || (eqb v b || eqb v c)
 
 -- digits, one of three numbers
-unfoldable pub amongAnswer : ℕ → ℕ → ℕ → List ℕ → Answer
-amongAnswer a b c f =
-    andThen (bytesAnswer Digits f)
-    (onlyIf (eqb (numberIn f) a || (eqb (numberIn f) b || eqb (numberIn f) c)) (Form none))
+unfoldable pub amongVerdict : ℕ → ℕ → ℕ → List ℕ → ℕ
+amongVerdict a b c f = tested Digits f (oneOf a b c (numberIn f)) 5
 
--- an OIB; zeros where they may stand for none
-unfoldable pub oibPlaceAnswer : Bool → List ℕ → Answer
-oibPlaceAnswer absent f =
-    andThen (bytesAnswer Digits f)
-    (cond (allOf Zeros f) (onlyIf absent (Form none)) (onlyIf (oibPasses f) (Check none)))
+-- "OIB or zeros"; "OIB, zeros are 5"
+unfoldable pub oibPlaceVerdict : Bool → List ℕ → ℕ
+oibPlaceVerdict absent f = andThen (bytesVerdict Digits f) (cond (allOf Zeros f) (onlyIf absent 5) (onlyIf (oibPasses f) 6))
 
--- at most one of three is zeros
-abbrev pub twoOfThree : Bool → Bool → Bool → Bool
-twoOfThree a b c = cond a (not (b || c)) (not (b && c))
+-- two of three
+abbrev pub twoOf : Bool → Bool → Bool → Bool
+twoOf a b c = (a && b) || ((a || b) && c)
 
 -- "at least two of these three not zero, else 5 at field 7": f after the two fields before it
-unfoldable pub employerAnswer : List ℕ → List ℕ → List ℕ → Answer
-employerAnswer before last f =
-    andThen (bytesAnswer Digits f)
-    (onlyIf (twoOfThree (allOf Zeros before) (allOf Zeros last) (allOf Zeros f)) (Form none))
+unfoldable pub employerVerdict : List ℕ → List ℕ → List ℕ → ℕ
+employerVerdict before last f = tested Digits f (not (twoOf (allOf Zeros before) (allOf Zeros last) (allOf Zeros f))) 5
+
+-- "today"; "date, today or later": a date from one to another
+unfoldable pub dateVerdict : ℕ → ℕ → List ℕ → ℕ
+dateVerdict first last f = tested Digits f (isDate (numberIn f) && (leb first (numberIn f) && leb (numberIn f) last)) 11
 
 -- ---------------------------------------------------------------------------
--- Dates
+-- IBAN, currency, purpose, sign
 
--- "today"
-unfoldable pub todayAnswer : ℕ → List ℕ → Answer
-todayAnswer day f =
-    andThen (bytesAnswer Digits f)
-    (onlyIf (isDate (numberIn f) && eqb (numberIn f) day) (Date none))
+-- "IBAN and thirteen blanks", "blank or IBAN"
+unfoldable pub ibanPlaceVerdict : Bool → List ℕ → ℕ
+ibanPlaceVerdict blank f =
+    andThen (bytesVerdict Place f)
+    (cond (blank && allOf Blanks f) 0 (andThen (onlyIf (allOf Blanks (drop 21 f)) 5) (ibanCheckVerdict (take 21 f))))
 
--- "date, today or later"
-unfoldable pub laterAnswer : ℕ → List ℕ → Answer
-laterAnswer day f =
-    andThen (bytesAnswer Digits f)
-    (onlyIf (isDate (numberIn f) && leb day (numberIn f)) (Date none))
-
--- ---------------------------------------------------------------------------
--- IBAN, currency, purpose
-
--- no IBAN: blank where that may be
-abbrev pub noIbanAnswer : Bool → List ℕ → Answer
-noIbanAnswer blank f = andThen (bytesAnswer Place f) (onlyIf (blank && allOf Blanks f) (Form none))
-
--- an IBAN, with blanks behind it to the end of its place
-abbrev pub accountAnswer : List ℕ → Answer
-accountAnswer f = cond (allOf Blanks (drop 21 f)) (ibanCheckAnswer (take 21 f)) (Refused (Form none))
-
--- that, or all blank where it may be
-unfoldable pub ibanPlaceAnswer : Bool → List ℕ → Answer
-ibanPlaceAnswer blank f = andThen (bytesAnswer Place f) (cond (blank && allOf Blanks f) Accepted (accountAnswer f))
-
--- `EUR`
-abbrev pub euro : List ℕ
-euro = 69 ∷ (85 ∷ (82 ∷ []))
-
--- `EUR`, or blank where that may be
-unfoldable pub currencyAnswer : Bool → List ℕ → Answer
-currencyAnswer blank f = onlyIf ((blank && allOf Blanks f) || same euro f) (Form none)
+-- "`EUR`", "blank or `EUR`"
+unfoldable pub currencyVerdict : Bool → List ℕ → ℕ
+currencyVerdict blank f = onlyIf ((blank && allOf Blanks f) || same eur f) 5
 
 -- "blank or four letters A to Z"
-unfoldable pub purposePlaceAnswer : List ℕ → Answer
-purposePlaceAnswer f = onlyIf (allOf Blanks f || allOf Letters f) (Form none)
+unfoldable pub purposePlaceVerdict : List ℕ → ℕ
+purposePlaceVerdict f = onlyIf (allOf Blanks f || allOf Letters f) 5
 
--- one of three bytes, "all else 5"
-unfoldable pub signAnswer : ℕ → ℕ → ℕ → List ℕ → Answer
-signAnswer a b c f = onlyIf (eqb (getD f 0 0) a || (eqb (getD f 0 0) b || eqb (getD f 0 0) c)) (Form none)
+-- "547 blank, 0 or 3 and 548 blank or 0, all else 5": one of three bytes
+unfoldable pub signVerdict : ℕ → ℕ → ℕ → List ℕ → ℕ
+signVerdict a b c f = onlyIf (oneOf a b c (getD f 0 0)) 5
 
 -- ---------------------------------------------------------------------------
--- Model and reference, description, code
+-- Model and reference
 
--- a model, or blank
-unfoldable pub modelPlaceAnswer : List ℕ → Answer
-modelPlaceAnswer f = cond (allOf Blanks f) Accepted (modelAnswer f)
+-- a model's number, or none
+abbrev pub heldFrom : Found → Held
+heldFrom (At n) = Number n
+heldFrom Nothing = NoModel
 
--- under a blank model
-abbrev pub unmodelledAnswer : List ℕ → Answer
-unmodelledAnswer g = andThen (bytesAnswer Reference g) (onlyIf (eqb (length g) 0) (Parts none))
+-- what a model's place holds
+unfoldable pub heldIn : List ℕ → Held
+heldIn m = cond (allOf Blanks m) Blank (heldFrom (modelNumber m))
 
--- a reference that obeys the model m before it; "Trailing blanks end a reference"; "A blank model needs a blank reference, else 8"
-unfoldable pub referencePlaceAnswer : List ℕ → List ℕ → Answer
-referencePlaceAnswer m f = cond (allOf Blanks m) (unmodelledAnswer (trimmed f)) (referenceAnswer m (trimmed f))
+-- whether that is nothing
+abbrev pub heldBlank : Held → Bool
+heldBlank Blank = true
+heldBlank NoModel = false
+heldBlank (Number n) = false
 
--- what a model's place holds, as a number: the model's, 100 where it is blank, 101 where it holds none
-abbrev pub heldNumber : Found → ℕ
-heldNumber (At n) = n
-heldNumber Nothing = 101
+-- "model": a model's place by what it holds
+unfoldable pub heldVerdict : Held → ℕ
+heldVerdict Blank = 0
+heldVerdict NoModel = modelFrom Nothing
+heldVerdict (Number n) = modelFrom (At n)
 
-unfoldable pub modelIn : List ℕ → ℕ
-modelIn m = cond (allOf Blanks m) 100 (heldNumber (modelNumber m))
+-- "A blank model needs a blank reference, else 8": a reference without its last blanks, by what its model's place holds
+abbrev pub bareHeld : Held → List ℕ → ℕ
+bareHeld Blank g = tested Reference g (eqb (length g) 0) 8
+bareHeld NoModel g = 5
+bareHeld (Number n) g = modelledVerdict (modelOf n) g
 
--- by that number `modelPlaceAnswer` and `referencePlaceAnswer` are said again, for code that reads a model once
-unfoldable pub heldAnswer : ℕ → Answer
-heldAnswer h = cond (eqb h 100) Accepted (cond (eqb h 101) (Refused (Form none)) (onlyIf (modelOf h .handled) (Model none)))
+-- "Trailing blanks end a reference"
+unfoldable pub referenceHeld : Held → List ℕ → ℕ
+referenceHeld h f = bareHeld h (trimmed f)
 
-unfoldable pub heldReference : ℕ → List ℕ → Answer
-heldReference h f =
-    cond (eqb h 100) (unmodelledAnswer (trimmed f)) (cond (eqb h 101) (Refused (Form none)) (reference.modelAnswer (trimmed f) (modelOf h)))
+-- ---------------------------------------------------------------------------
+-- Description, code
 
--- "not all blank"
-unfoldable pub descriptionAnswer : List ℕ → Answer
-descriptionAnswer f = andThen (bytesAnswer Description f) (onlyIf (not (allOf Blanks f)) (Form none))
+-- "description", "not all blank"
+unfoldable pub descriptionVerdict : List ℕ → ℕ
+descriptionVerdict f = tested Description f (not (allOf Blanks f)) 5
 
 -- whether something was found
 abbrev pub isFound : Found → Bool
@@ -162,9 +122,5 @@ isFound (At i) = true
 isFound Nothing = false
 
 -- "a code of 004's list"; "For kind 5, code 500 with a blank recipient's model is 5"
-unfoldable pub codeAnswer : ℕ → Bool → List ℕ → Answer
-codeAnswer kind blank f =
-    andThen (bytesAnswer Digits f)
-    (cond (isFound (codePlace (numberIn f)))
-    (onlyIf (not (eqb kind 5 && (eqb (numberIn f) 500 && blank))) (Form none))
-    (Refused (Form none)))
+unfoldable pub codeVerdict : ℕ → Bool → List ℕ → ℕ
+codeVerdict kind blank f = tested Digits f (isFound (codePlace (numberIn f)) && not (eqb kind 5 && (eqb (numberIn f) 500 && blank))) 5

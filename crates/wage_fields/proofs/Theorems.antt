@@ -11,10 +11,13 @@ use lib.ListN.{length, getD}
 use borrow.Author.Tests.{ltb-true}
 use Rattle.refusal.specs.Only.{Only, defined-only}
 use Rattle.refusal.specs.Refusal.{placeOf}
+use Rattle.refusal.specs.Verdict.{verdictByte}
+use Rattle.refusal.proofs.Verdicts.{answer-accepted, accepted-answer}
 use Rattle.refusal.specs.declared.Answer.{Answer}
 use Rattle.refusal.specs.declared.Answer.the-variants.{Accepted, Refused}
 use Rattle.refusal.specs.declared.Place.{Place}
 use Rattle.refusal.specs.declared.Refusal.{Refusal}
+use Rattle.text.specs.Bytes.{bytesVerdict}
 use Rattle.text.specs.declared.Class.the-variants.{Digits}
 use Rattle.wage_line.specs.declared.LineType.{LineType}
 use Rattle.wage_line.specs.declared.LineType.the-variants.{Label, Group, Order, Closing}
@@ -23,18 +26,21 @@ use Rattle.wage_line.specs.Places.{spots, noSpot}
 use Rattle.wage_line.specs.Line.{partAt, partOf}
 use Rattle.wage_line.proofs.Laws.{each, each-at}
 use Rattle.wage_line.proofs.Theorems.{placeAt, found-spot, sizes-small}
-use Rattle.wage_contents.specs.Contents.{bytesAnswer, amongAnswer}
-use Rattle.wage_fields.specs.Rules.{labelRule, groupRule, orderRule, ruleAnswer, placeAnswer, placesFrom, placesAnswer}
-use Rattle.wage_fields.proofs.Laws.{both-accept, accept-both, answer-right, refused-at, told-place, byte-within, Stops, stops}
+use Rattle.wage_contents.specs.declared.Held.{Held}
+use Rattle.wage_contents.specs.Contents.{amongVerdict}
+use Rattle.wage_fields.specs.Rules.{ruleVerdict, heldFor, placeVerdict, placeAnswer, placesFrom, placesAnswer}
+use Rattle.wage_fields.proofs.Laws.{both-accept, accept-both, told-place, place-within, Stops, stops}
 
 -- ---------------------------------------------------------------------------
 -- Accepted exactly when
 
 module _ (day kind : ℕ) (t : LineType) (s : List ℕ) where
-  -- a place is accepted exactly when its field's rule accepts its bytes
-  pub place-right : (p : Spot) → (placeAnswer day kind t p s ≡ Accepted) ↔ (ruleAnswer day kind t (p .field) (partAt p s) s ≡ Accepted)
-  unfolding placeAnswer
-  place-right p = answer-right p (ruleAnswer day kind t (p .field) (partAt p s) s)
+  -- a place is accepted exactly when its field's rule refuses nothing of its bytes
+  pub place-right : (p : Spot) → (placeAnswer day kind t p s ≡ Accepted) ↔ (ruleVerdict day kind t (p .field) (heldFor t (p .field) s) (partAt p s) s ≡ 0)
+  unfolding placeAnswer placeVerdict
+  place-right p =
+      let v = ruleVerdict day kind t (p .field) (heldFor t (p .field) s) (partAt p s) s in
+      (answer-accepted v (p .field) _, accepted-answer v (p .field) _)
 
   -- places that are accepted are so each
   each-accepted : (ps : List Spot) → placesFrom day kind t ps s ≡ Accepted → (k : ℕ) → k < length ps → placeAnswer day kind t (getD ps k noSpot) s ≡ Accepted
@@ -54,8 +60,8 @@ module _ (day kind : ℕ) (t : LineType) (s : List ℕ) where
   unfolding placesAnswer
   places-right = (each-accepted (spots t), all-accepted (spots t))
 
-  -- of an accepted line, the rule of each field that has a place accepts the field's bytes
-  pub field-right : placesAnswer day kind t s ≡ Accepted → (n k : ℕ) → k < length (spots t) → placeAt t k .field ≡ n → ruleAnswer day kind t n (partOf t n s) s ≡ Accepted
+  -- of an accepted line, the rule of each field that has a place refuses nothing of the field's bytes
+  pub field-right : placesAnswer day kind t s ≡ Accepted → (n k : ℕ) → k < length (spots t) → placeAt t k .field ≡ n → ruleVerdict day kind t n (heldFor t n s) (partOf t n s) s ≡ 0
   field-right e n k h f =
       rw (← f, found-spot t k h) (place-right (placeAt t k) .0 (places-right .0 e k h))
 
@@ -64,23 +70,23 @@ module _ (day kind : ℕ) (t : LineType) (s : List ℕ) where
 
 module _ (day kind : ℕ) (s : List ℕ) where
   -- an accepted 300 tells its kind, 4 or 5
-  pub label-kind : placesAnswer day kind Label s ≡ Accepted → amongAnswer 4 5 5 (partOf Label 2 s) ≡ Accepted
-  unfolding spots labelRule
+  pub label-kind : placesAnswer day kind Label s ≡ Accepted → amongVerdict 4 5 5 (partOf Label 2 s) ≡ 0
+  unfolding spots
   label-kind e = field-right day kind Label s e 2 1 (omega arith) refl
 
   -- an accepted 301 tells its number of orders in digits
-  pub group-number-digits : placesAnswer day kind Group s ≡ Accepted → bytesAnswer Digits (partOf Group 5 s) ≡ Accepted
-  unfolding spots groupRule
+  pub group-number-digits : placesAnswer day kind Group s ≡ Accepted → bytesVerdict Digits (partOf Group 5 s) ≡ 0
+  unfolding spots
   group-number-digits e = field-right day kind Group s e 5 4 (omega arith) refl
 
   -- and its sum
-  pub group-sum-digits : placesAnswer day kind Group s ≡ Accepted → bytesAnswer Digits (partOf Group 6 s) ≡ Accepted
-  unfolding spots groupRule
+  pub group-sum-digits : placesAnswer day kind Group s ≡ Accepted → bytesVerdict Digits (partOf Group 6 s) ≡ 0
+  unfolding spots
   group-sum-digits e = field-right day kind Group s e 6 5 (omega arith) refl
 
   -- an accepted 309 tells its amount in digits
-  pub order-amount-digits : placesAnswer day kind Order s ≡ Accepted → bytesAnswer Digits (partOf Order 10 s) ≡ Accepted
-  unfolding spots orderRule
+  pub order-amount-digits : placesAnswer day kind Order s ≡ Accepted → bytesVerdict Digits (partOf Order 10 s) ≡ 0
+  unfolding spots
   order-amount-digits e = field-right day kind Order s e 10 7 (omega arith) refl
 
   -- a 399 has no places
@@ -94,20 +100,20 @@ module _ (day kind : ℕ) (s : List ℕ) where
 module _ (day k k′ : ℕ) (s : List ℕ) where
   -- where the rules are the same under two kinds, so are the answers
   same-rules :
-      (t : LineType) → ((n : ℕ) (f : List ℕ) → ruleAnswer day k t n f s ≡ ruleAnswer day k′ t n f s) → (ps : List Spot) → placesFrom day k t ps s ≡ placesFrom day k′ t ps s
-  unfolding placesFrom placeAnswer
+      (t : LineType) → ((n : ℕ) (h : Held) (f : List ℕ) → ruleVerdict day k t n h f s ≡ ruleVerdict day k′ t n h f s) → (ps : List Spot) → placesFrom day k t ps s ≡ placesFrom day k′ t ps s
+  unfolding placesFrom placeAnswer placeVerdict
   same-rules t f [] = refl
-  same-rules t f (p ∷ ps) = rw (f (p .field) (partAt p s), same-rules t f ps)
+  same-rules t f (p ∷ ps) = rw (f (p .field) (heldFor t (p .field) s) (partAt p s), same-rules t f ps)
 
   -- a 300 is judged alike under any kind
   pub label-ignores-kind : placesAnswer day k Label s ≡ placesAnswer day k′ Label s
   unfolding placesAnswer
-  label-ignores-kind = same-rules Label (λ n f. refl) (spots Label)
+  label-ignores-kind = same-rules Label (λ n h f. refl) (spots Label)
 
   -- so is a 301
   pub group-ignores-kind : placesAnswer day k Group s ≡ placesAnswer day k′ Group s
   unfolding placesAnswer
-  group-ignores-kind = same-rules Group (λ n f. refl) (spots Group)
+  group-ignores-kind = same-rules Group (λ n h f. refl) (spots Group)
 
 -- ---------------------------------------------------------------------------
 -- What a refusal tells
@@ -139,16 +145,16 @@ module _ (day kind : ℕ) (t : LineType) (s : List ℕ) (r : Refusal) where
 
   -- a refusal tells no line, a field that has a place, and a byte there
   pub refusal-no-line : placesAnswer day kind t s ≡ Refused r → Told t r
-  unfolding placeAnswer
+  unfolding placeAnswer placeVerdict
   refusal-no-line e =
       let w = first-refused e in
       let p = placeAt t (w .order) in
-      let a = refused-at p (ruleAnswer day kind t (p .field) (partAt p s) s) r (w .here) in
-      let q : placeOf r ≡ record { line = 0; field = p .field; byte = p .start + placeOf (a .0) .byte } = ap placeOf (a .2) ∙ told-place p (a .0) in
+      let v = ruleVerdict day kind t (p .field) (heldFor t (p .field) s) (partAt p s) s in
+      let q = told-place v (p .field) (p .start + verdictByte v) r (w .here) in
       let l : placeOf r .line ≡ 0 = ap (λ (x : Place). x .line) q in
       let f : placeOf r .field ≡ p .field = ap (λ (x : Place). x .field) q in
-      let b : placeOf r .byte ≡ p .start + placeOf (a .0) .byte = ap (λ (x : Place). x .byte) q in
-      let h : placeOf (a .0) .byte ≤ p .size = byte-within day kind t p s (a .0) (a .1) in
+      let b : placeOf r .byte ≡ p .start + verdictByte v = ap (λ (x : Place). x .byte) q in
+      let h : verdictByte v ≤ p .size = place-within day kind t p (heldFor t (p .field) s) s in
       let v = sizes-small t (w .order) (w .known) .within in
       let g : 0 < p .field = ltb-true 0 (p .field) (each-at (λ x. ltb 0 (x .field)) (spots t) (all-numbered t) (w .order) (w .known)) in
       record {

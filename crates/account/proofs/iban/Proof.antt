@@ -1,8 +1,11 @@
--- `account::iban` meets its contract: of an IBAN's form the check decides; else every rule is asked. Assumes nothing.
-use Rattle.text.proofs.Laws.{taken, both-true}
-use Rattle.refusal.proofs.Tells.{nothing-told}
+-- `account::iban` meets its contract: of an IBAN no byte is bad; else each return is the chain's answer by the tests that led there.
+-- Assumes nothing.
+use mathlib.Core.Path.{refl, sym, _∙_}
+use borrow.Author.Tests.{ne-eqb, eq-eqb}
+use Rattle.refusal.proofs.Verdicts.{refused, passed, failed, met}
+use Rattle.text.proofs.Laws.{both-true}
 use Rattle.account.specs.Account.{ibanFormed, ibanPasses}
-use Rattle.account.proofs.Laws.{formed-decides}
+use Rattle.account.proofs.Laws.{formed-length, formed-permitted}
 use Rattle.account.proofs.Theorems.{iban-accepted-exactly}
 use borrow.Author.Needs.{needs}
 use Rattle.account.proofs.iban.Statement.{statement}
@@ -11,11 +14,18 @@ use Rattle.account.proofs.iban.Tie as tie
 returns : tie.Need-returns
 returns c =
     let s = c .before .before .before .args .s .now in
-    let t = both-true (ibanFormed s) (ibanPasses s) (iban-accepted-exactly s .0 (nothing-told _ _ (c .before .tell-iban .ensures) (c .if1 .taken))) in
-    formed-decides _ _ (t .0) (taken _ _ _ (t .1))
+    let z = sym (c .before .check-iban .ensures) ∙ c .if1 .taken in
+    let f = both-true (ibanFormed s) (ibanPasses s) (iban-accepted-exactly s .0 z) .0 in
+    passed _ _ _ (formed-permitted s f) (met _ 4 _ _ (eq-eqb _ 21 (formed-length s f)) (sym z))
 
 returns-2 : tie.Need-returns-2
-returns-2 c = c .judged .ensures
+returns-2 c = let e = c .before .judge .ensures in refused _ _ _ (λ z. c .if2 .taken (e ∙ z)) e
+
+returns-3 : tie.Need-returns-3
+returns-3 c = passed _ _ _ (sym (c .before .before .judge .ensures) ∙ c .before .if2 .left) (failed _ 4 _ (ne-eqb _ 21 (c .if3 .taken)) refl)
+
+returns-4 : tie.Need-returns-4
+returns-4 c = passed _ _ _ (sym (c .before .before .judge .ensures) ∙ c .before .if2 .left) (met _ 4 _ _ (eq-eqb _ 21 (c .if3 .left)) (c .before .before .before .before .check-iban .ensures))
 
 pub iban-spec : {M : Type 1} → statement M
-iban-spec = tie.close (tie.spec (λ c κs. search needs) returns (λ c κs. search needs) returns-2)
+iban-spec = tie.close (tie.spec (λ c κs. search needs) returns (λ c κs. search needs) returns-2 returns-3 returns-4)

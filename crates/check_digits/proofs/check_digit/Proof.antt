@@ -15,23 +15,11 @@ Inv-loop rule s run₀ i₀ run i = (i ≤ length s) × ((Small run) × (runOf r
 abbrev μ-loop : tie.MeasureT-loop
 μ-loop rule s run₀ i₀ run i = length s - i
 
-started-requires : tie.Need-started-requires Inv-loop μ-loop
-started-requires c κs = tt
-
 loop-holds : tie.Need-loop-holds Inv-loop μ-loop
 loop-holds c = rw (c .started .ensures) (omega arith, (start-small (c .before .before .args .rule), refl))
 
-shared-slice-read-read : tie.Need-shared-slice-read-read Inv-loop μ-loop
-shared-slice-read-read c = omega arith
-
 read-requires : tie.Need-read-requires Inv-loop μ-loop
 read-requires c κs = c .before .before .loop .inv .1 .0
-
-add-i : tie.Need-add-i Inv-loop μ-loop
-add-i c = omega arith
-
-loop-less : tie.Need-loop-less Inv-loop μ-loop
-loop-less c = omega arith
 
 loop-again : tie.Need-loop-again Inv-loop μ-loop
 loop-again c =
@@ -57,12 +45,12 @@ check-digit-spec =
     (tie.spec
     Inv-loop
     μ-loop
-    started-requires
+    (λ c κs. tt)
     loop-holds
-    shared-slice-read-read
+    (λ c. omega arith)
     read-requires
-    add-i
-    loop-less
+    (λ c. omega arith)
+    (λ c. omega arith)
     loop-again
     digit-for-requires
     returns)

@@ -3,29 +3,23 @@ use mathlib.Core.Path.{refl, sym, ap, _∙_}
 use borrow.Author.Tests.{not-true, not-false}
 use Rattle.text.proofs.Laws.{taken, left, entered}
 use Rattle.check_digits.specs.declared.Made.the-variants.{Digit}
-use Rattle.check_digits.proofs.Laws.{none-is-unsized, many-is-unsized, some-is-sized}
 use borrow.Author.Needs.{needs}
 use Rattle.check_digits.proofs.make.Statement.{statement}
 use Rattle.check_digits.proofs.make.Tie as tie
 
 returns : tie.Need-returns
-returns c = rw (c .nowhere .ensures) (left _ _ _ _ (none-is-unsized 19 (c .before .before .before .args .s .now) (c .before .if1 .taken)) refl)
+returns c = rw (c .nowhere .ensures) (left _ _ _ _ (sym (c .before .before .is-sized .ensures) ∙ not-true _ (c .before .if1 .taken)) refl)
 
 returns-2 : tie.Need-returns-2
-returns-2 c = rw (c .nowhere2 .ensures) (left _ _ _ _ (many-is-unsized 19 (c .before .before .before .before .args .s .now) (c .before .before .if1 .left) (c .before .if2 .taken)) refl)
+returns-2 c =
+    rw (c .nowhere2 .ensures)
+    (entered _ _ _ _ (sym (c .before .before .before .before .is-sized .ensures) ∙ not-false _ (c .before .before .before .if1 .left))
+    (left _ _ _ _ (sym (c .before .before .all-of .ensures) ∙ not-true _ (c .before .if2 .taken)) refl))
 
 returns-3 : tie.Need-returns-3
 returns-3 c =
-    let s = c .before .before .before .before .before .before .args .s .now in
-    rw (c .nowhere3 .ensures)
-    (entered _ _ _ _ (some-is-sized 19 s (c .before .before .before .before .if1 .left) (c .before .before .before .if2 .left))
-    (left _ _ _ _ (sym (c .before .before .all-of .ensures) ∙ not-true _ (c .before .if3 .taken)) refl))
-
-returns-4 : tie.Need-returns-4
-returns-4 c =
-    let s = c .before .before .before .before .before .before .args .s .now in
-    entered _ _ _ _ (some-is-sized 19 s (c .before .before .before .before .if1 .left) (c .before .before .before .if2 .left))
-    (entered _ _ _ _ (sym (c .before .before .all-of .ensures) ∙ not-false _ (c .before .if3 .left))
+    entered _ _ _ _ (sym (c .before .before .before .before .is-sized .ensures) ∙ not-false _ (c .before .before .before .if1 .left))
+    (entered _ _ _ _ (sym (c .before .before .all-of .ensures) ∙ not-false _ (c .before .if2 .left))
     (ap Digit (c .check-digit .ensures)))
 
 pub make-spec : {M : Type 1} → statement M
@@ -33,11 +27,10 @@ make-spec =
     tie.close
     (tie.spec
     (λ c κs. search needs)
+    (λ c κs. search needs)
     returns
+    (λ c κs. search needs)
     (λ c κs. search needs)
     returns-2
     (λ c κs. search needs)
-    (λ c κs. search needs)
-    returns-3
-    (λ c κs. search needs)
-    returns-4)
+    returns-3)

@@ -5,13 +5,14 @@ use native.Mathlib.Omega.{arith}
 use lib.ListN.{length, take, drop, getD, length-take}
 use lib.Seq.{getD-take}
 use Rattle.text.specs.Digits.{digitsOf, valueFrom}
-use Rattle.sums.specs.Sums.{numberOf}
+use Rattle.sums.specs.Sums.{numberIn}
 use Rattle.text.proofs.Values.{value-grows, value-small, value-on, value-ends}
+use borrow.Author.Needs.{needs}
 use Rattle.sums.proofs.number.Statement.{statement}
 use Rattle.sums.proofs.number.Tie as tie
 
 abbrev Inv-loop : tie.InvT-loop
-Inv-loop s v₀ i₀ v i = (i ≤ length (take 18 s)) × ((v < 10 ^ i) × (numberOf (take 18 s) ≡ valueFrom v (digitsOf (drop i (take 18 s)))))
+Inv-loop s v₀ i₀ v i = (i ≤ length (take 18 s)) × ((v < 10 ^ i) × (numberIn s ≡ valueFrom v (digitsOf (drop i (take 18 s)))))
 
 abbrev μ-loop : tie.MeasureT-loop
 μ-loop s v₀ i₀ v i = length s - i
@@ -25,17 +26,8 @@ returns c =
     let s = c .before .before .before .before .args .s .now in
     value-ends (l .v) (take 18 s) (l .i) (omega (arith, length-take 18 s)) (omega arith) ∙ sym (l .inv .1 .1)
 
-shared-slice-read-longer : tie.Need-shared-slice-read-longer Inv-loop μ-loop
-shared-slice-read-longer c = omega arith
-
 longer-requires : tie.Need-longer-requires Inv-loop μ-loop
 longer-requires c κs = let l = c .before .before .before .loop in value-small (l .v) (l .i) (omega arith) (l .inv .1 .0)
-
-add-i : tie.Need-add-i Inv-loop μ-loop
-add-i c = omega arith
-
-loop-less : tie.Need-loop-less Inv-loop μ-loop
-loop-less c = omega arith
 
 loop-again : tie.Need-loop-again Inv-loop μ-loop
 loop-again c =
@@ -63,9 +55,9 @@ number-spec =
     μ-loop
     loop-holds
     returns
-    shared-slice-read-longer
+    (λ c. search needs)
     longer-requires
-    add-i
-    loop-less
+    (λ c. search needs)
+    (λ c. search needs)
     loop-again
     returns-2)

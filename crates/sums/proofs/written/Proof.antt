@@ -9,52 +9,39 @@ use Rattle.text.specs.Digits.{digitsOf, valueFrom}
 use Rattle.sums.specs.declared.Sum.{Sum}
 use Rattle.sums.specs.Sums.{centsOf, sumOf, numberOf}
 use Rattle.text.proofs.Values.{value-to}
-use Rattle.sums.proofs.Laws.{written-on}
+use Rattle.sums.proofs.Laws.{no-cents, written-on}
+use borrow.Author.Needs.{needs}
 use Rattle.sums.proofs.written.Statement.{statement}
 use Rattle.sums.proofs.written.Tie as tie
 
 abbrev Inv-loop : tie.InvT-loop
-Inv-loop s sum₀ i₀ sum i = (i ≤ length s) × (sum ≡ sumOf (numberOf (take i s)))
+Inv-loop s most sum₀ i₀ sum i = (i ≤ length s) × (sum ≡ sumOf most (numberOf (take i s)))
 
 abbrev μ-loop : tie.MeasureT-loop
-μ-loop s sum₀ i₀ sum i = length s - i
-
-nothing-requires : tie.Need-nothing-requires Inv-loop μ-loop
-nothing-requires c κs = tt
+μ-loop s most sum₀ i₀ sum i = length s - i
 
 loop-holds : tie.Need-loop-holds Inv-loop μ-loop
 unfolding valueFrom digitsOf
-loop-holds c = (omega arith, c .nothing .ensures)
-
-shared-slice-read-with-digit : tie.Need-shared-slice-read-with-digit Inv-loop μ-loop
-shared-slice-read-with-digit c = omega arith
-
-with-digit-requires : tie.Need-with-digit-requires Inv-loop μ-loop
-with-digit-requires c κs = tt
-
-add-i : tie.Need-add-i Inv-loop μ-loop
-add-i c = omega arith
-
-loop-less : tie.Need-loop-less Inv-loop μ-loop
-loop-less c = omega arith
+loop-holds c = (omega arith, c .nothing .ensures ∙ no-cents (c .before .before .args .most))
 
 loop-again : tie.Need-loop-again Inv-loop μ-loop
 loop-again c =
-    let s = c .before .before .before .before .before .before .args .s .now in
+    let a = c .before .before .before .before .before .before .args in
+    let s = a .s .now in
     let l = c .before .before .before .loop in
     let ds = digitsOf (getD s (l .i) 0 ∷ []) in (
       omega arith,
       c .with-digit .ensures
-          ∙ ap (λ (t : Sum). sumOf (valueFrom (centsOf t) ds)) (l .inv .1)
-          ∙ written-on (numberOf (take (l .i) s)) ds
-          ∙ ap sumOf (sym (value-to 0 s (l .i) (omega arith))),
+          ∙ ap (λ (t : Sum). sumOf (a .most) (valueFrom (centsOf t) ds)) (l .inv .1)
+          ∙ written-on (a .most) (numberOf (take (l .i) s)) ds
+          ∙ ap (sumOf (a .most)) (sym (value-to 0 s (l .i) (omega arith))),
     )
 
 returns : tie.Need-returns Inv-loop μ-loop
 returns c =
-    let s = c .before .before .before .before .args .s .now in
+    let a = c .before .before .before .before .args in
     let l = c .before .loop in
-    l .inv .1 ∙ ap (λ (t : List ℕ). sumOf (numberOf t)) (take-all (l .i) s (omega arith))
+    l .inv .1 ∙ ap (λ (t : List ℕ). sumOf (a .most) (numberOf t)) (take-all (l .i) (a .s .now) (omega arith))
 
 pub written-spec : {M : Type 1} → statement M
 written-spec =
@@ -62,11 +49,11 @@ written-spec =
     (tie.spec
     Inv-loop
     μ-loop
-    nothing-requires
+    (λ c κs. search needs)
     loop-holds
-    shared-slice-read-with-digit
-    with-digit-requires
-    add-i
-    loop-less
+    (λ c. search needs)
+    (λ c κs. search needs)
+    (λ c. search needs)
+    (λ c. search needs)
     loop-again
     returns)

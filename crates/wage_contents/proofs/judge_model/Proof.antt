@@ -1,18 +1,30 @@
--- `wage_contents::judge_model` meets its contract: blank, or a model. Assumes nothing.
-use mathlib.Core.Path.{sym, _∙_}
-use Rattle.text.proofs.Laws.{taken, left}
-use Rattle.wage_contents.specs.Contents.{modelPlaceAnswer}
+-- `wage_contents::judge_model` meets its contract. Assumes nothing.
+use Rattle.wage_contents.specs.Contents.{heldVerdict}
 use borrow.Author.Needs.{needs}
 use Rattle.wage_contents.proofs.judge_model.Statement.{statement}
 use Rattle.wage_contents.proofs.judge_model.Tie as tie
 
 returns : tie.Need-returns
-unfolding modelPlaceAnswer
-returns c = taken _ _ _ (sym (c .before .all-of .ensures) ∙ c .if1 .taken)
+unfolding heldVerdict
+returns c = rw (c .enum-told .given .1)
 
 returns-2 : tie.Need-returns-2
-unfolding modelPlaceAnswer
-returns-2 c = left _ _ _ _ (sym (c .before .before .all-of .ensures) ∙ c .before .if1 .left) (c .judge .ensures)
+unfolding heldVerdict
+returns-2 c = rw (c .enum-told2 .given .1)
+
+returns-3 : tie.Need-returns-3
+unfolding heldVerdict
+returns-3 c = rw (c .before .before .before .held .given .1, ← c .before .rules .ensures) (c .only-if .ensures)
 
 pub judge-model-spec : {M : Type 1} → statement M
-judge-model-spec = tie.close (tie.spec (λ c κs. search needs) returns (λ c κs. search needs) returns-2)
+judge-model-spec =
+    tie.close
+    (tie.spec
+    (λ c. search needs)
+    (λ c. search needs)
+    (λ c. search needs)
+    (λ c κs. search needs)
+    (λ c κs. search needs)
+    returns
+    returns-2
+    returns-3)

@@ -3,15 +3,6 @@ use borrow.Author.Needs.{needs}
 use Rattle.wage_fields.proofs.rule.Statement.{statement}
 use Rattle.wage_fields.proofs.rule.Tie as tie
 
-returns : tie.Need-returns
-returns c = rw (c .before .enum-told .given .1) (c .label-rule .ensures)
-
-returns-2 : tie.Need-returns-2
-returns-2 c = rw (c .before .enum-told2 .given .1) (c .group-rule .ensures)
-
-returns-3 : tie.Need-returns-3
-returns-3 c = rw (c .before .enum-told3 .given .1) (c .order-rule .ensures)
-
 pub rule-spec : {M : Type 1} → statement M
 rule-spec =
     tie.close
@@ -23,7 +14,7 @@ rule-spec =
     (λ c. search needs)
     (λ c κs. search needs)
     (λ c. search needs)
-    returns
-    returns-2
-    returns-3
+    (λ c. rw (c .before .enum-told .given .1) (c .label-rule .ensures))
+    (λ c. rw (c .before .enum-told2 .given .1) (c .group-rule .ensures))
+    (λ c. rw (c .before .enum-told3 .given .1) (c .order-rule .ensures))
     (λ c. search needs))

@@ -1,0 +1,71 @@
+-- `text::count` meets its contract. The loop's invariant: the bytes `c` passed and those left from `i` on make up the whole. Assumes nothing.
+use Prim.Native.Nat.{_≤_, _+_, _-_}
+use mathlib.Core.Path.{_≡_, sym, _∙_}
+use native.Mathlib.Omega.{arith}
+use native.Mathlib.Nat.{zero-add}
+use lib.ListN.{length, drop}
+use Rattle.text.specs.Bytes.{countOf}
+use Rattle.text.proofs.Laws.{count-more, count-same, count-end}
+use Rattle.text.proofs.count.Statement.{statement}
+use Rattle.text.proofs.count.Tie as tie
+
+abbrev Inv-loop : tie.InvT-loop
+Inv-loop b s n₀ i₀ n i = (i ≤ length s) × ((n ≤ i) × (countOf b s ≡ n + countOf b (drop i s)))
+
+abbrev μ-loop : tie.MeasureT-loop
+μ-loop b s n₀ i₀ n i = length s - i
+
+loop-holds : tie.Need-loop-holds Inv-loop μ-loop
+loop-holds c = (omega arith, (omega arith, sym (zero-add (countOf (c .args .c) (c .args .s .now)))))
+
+shared-slice-read-if1 : tie.Need-shared-slice-read-if1 Inv-loop μ-loop
+shared-slice-read-if1 c = omega arith
+
+add-n : tie.Need-add-n Inv-loop μ-loop
+add-n c = omega arith
+
+add-i : tie.Need-add-i Inv-loop μ-loop
+add-i c = omega arith
+
+loop-less : tie.Need-loop-less Inv-loop μ-loop
+loop-less c = omega arith
+
+loop-again : tie.Need-loop-again Inv-loop μ-loop
+loop-again c =
+    let s = c .before .before .before .before .args .s .now in
+    let l = c .before .before .before .loop in
+    (omega arith, (omega arith, l .inv .1 .1 ∙ count-more (c .before .before .before .before .args .c) s (l .i) (l .n) (omega arith) (c .if1 .taken)))
+
+add-i-2 : tie.Need-add-i-2 Inv-loop μ-loop
+add-i-2 c = omega arith
+
+loop-less-2 : tie.Need-loop-less-2 Inv-loop μ-loop
+loop-less-2 c = omega arith
+
+loop-again-2 : tie.Need-loop-again-2 Inv-loop μ-loop
+loop-again-2 c =
+    let s = c .before .before .before .before .args .s .now in
+    let l = c .before .before .before .loop in
+    (omega arith, (omega arith, l .inv .1 .1 ∙ count-same (c .before .before .before .before .args .c) s (l .i) (l .n) (omega arith) (c .if1 .left)))
+
+returns : tie.Need-returns Inv-loop μ-loop
+returns c =
+    let l = c .before .loop in
+    count-end (c .before .before .args .c) (c .before .before .args .s .now) (l .i) (l .n) (omega arith) (omega arith) ∙ sym (l .inv .1 .1)
+
+pub count-spec : {M : Type 1} → statement M
+count-spec =
+    tie.close
+    (tie.spec
+    Inv-loop
+    μ-loop
+    loop-holds
+    shared-slice-read-if1
+    add-n
+    add-i
+    loop-less
+    loop-again
+    add-i-2
+    loop-less-2
+    loop-again-2
+    returns)

@@ -1,0 +1,88 @@
+-- The byte that the refusal of a place's content tells lies within that place.
+-- Assumes nothing.
+use mathlib.Core.Bool.{Bool, not, _&&_, _||_}
+use mathlib.Core.List.{List}
+use Prim.Native.Nat.{ℕ, _<_}
+use native.Mathlib.Omega.{arith}
+use lib.Dec.{eqb}
+use lib.ListN.{length, take, drop, getD}
+use Rattle.refusal.specs.Verdict.{andThen, onlyIf, Within}
+use Rattle.refusal.proofs.Verdicts.{choice-within, then-within, only-within}
+use Rattle.text.specs.Bytes.{bytesVerdict, allOf, trimmed, same, eur}
+use Rattle.text.specs.declared.Class.{Class}
+use Rattle.text.specs.declared.Class.the-variants.{Digits, Reference, Letters, Blanks, Zeros, Place, Description}
+use Rattle.text.proofs.Laws.{bytes-within}
+use Rattle.text.proofs.Blanks.{trimmed-shorter}
+use Rattle.account.specs.Account.{oibPasses}
+use Rattle.account.proofs.Theorems.{iban-check-within}
+use Rattle.models.specs.Models.{modelOf}
+use Rattle.reference.proofs.Laws.{modelled-within}
+use Rattle.wage_contents.specs.declared.Held.{Held}
+use Rattle.wage_contents.specs.declared.Held.the-variants.{Blank, NoModel, Number}
+use Rattle.wage_contents.specs.Contents.{tested, oneOf, amongVerdict, oibPlaceVerdict, employerVerdict, dateVerdict, ibanPlaceVerdict, currencyVerdict, purposePlaceVerdict, signVerdict, heldVerdict, bareHeld, referenceHeld, descriptionVerdict, codeVerdict}
+
+-- 3, then a test
+tested-within : (k : Class) (f : List ℕ) (b : Bool) (n : ℕ) → n < 32 → Within (length f) (tested k f b n)
+unfolding tested
+tested-within k f b n h = then-within (length f) (bytesVerdict k f) (onlyIf b n) (bytes-within k f) (only-within (length f) b n h)
+
+pub among-within : (a b c : ℕ) (f : List ℕ) → Within (length f) (amongVerdict a b c f)
+unfolding amongVerdict
+among-within a b c f = tested-within Digits f _ 5 (omega arith)
+
+pub oib-within : (absent : Bool) (f : List ℕ) → Within (length f) (oibPlaceVerdict absent f)
+unfolding oibPlaceVerdict
+oib-within absent f =
+    then-within (length f) (bytesVerdict Digits f) _ (bytes-within Digits f)
+    (choice-within (length f) (allOf Zeros f) _ _ (only-within (length f) absent 5 (omega arith)) (only-within (length f) (oibPasses f) 6 (omega arith)))
+
+pub employer-within : (before last f : List ℕ) → Within (length f) (employerVerdict before last f)
+unfolding employerVerdict
+employer-within before last f = tested-within Digits f _ 5 (omega arith)
+
+pub date-within : (first last : ℕ) (f : List ℕ) → Within (length f) (dateVerdict first last f)
+unfolding dateVerdict
+date-within first last f = tested-within Digits f _ 11 (omega arith)
+
+pub iban-place-within : (blank : Bool) (f : List ℕ) → Within (length f) (ibanPlaceVerdict blank f)
+unfolding ibanPlaceVerdict
+iban-place-within blank f =
+    let n = length f in
+    then-within n (bytesVerdict Place f) _ (bytes-within Place f)
+    (choice-within n (blank && allOf Blanks f) _ _ (omega arith)
+    (then-within n _ _ (only-within n (allOf Blanks (drop 21 f)) 5 (omega arith)) (iban-check-within n (take 21 f))))
+
+pub currency-within : (blank : Bool) (f : List ℕ) → Within (length f) (currencyVerdict blank f)
+unfolding currencyVerdict
+currency-within blank f = only-within (length f) ((blank && allOf Blanks f) || same eur f) 5 (omega arith)
+
+pub purpose-within : (f : List ℕ) → Within (length f) (purposePlaceVerdict f)
+unfolding purposePlaceVerdict
+purpose-within f = only-within (length f) (allOf Blanks f || allOf Letters f) 5 (omega arith)
+
+pub sign-within : (a b c : ℕ) (f : List ℕ) → Within (length f) (signVerdict a b c f)
+unfolding signVerdict
+sign-within a b c f = only-within (length f) (oneOf a b c (getD f 0 0)) 5 (omega arith)
+
+pub held-within : (h : Held) (n : ℕ) → Within n (heldVerdict h)
+unfolding heldVerdict
+held-within Blank n = omega arith
+held-within NoModel n = omega arith
+held-within (Number k) n = only-within n (modelOf k .handled) 7 (omega arith)
+
+pub reference-within : (h : Held) (f : List ℕ) → Within (length f) (referenceHeld h f)
+unfolding referenceHeld
+reference-within h f = omega (arith, bare h (trimmed f), trimmed-shorter f)
+  where
+    bare : (k : Held) (g : List ℕ) → Within (length g) (bareHeld k g)
+    bare Blank g = tested-within Reference g _ 8 (omega arith)
+    bare NoModel g = omega arith
+    bare (Number n) g = modelled-within (modelOf n) g
+
+pub description-within : (f : List ℕ) → Within (length f) (descriptionVerdict f)
+unfolding descriptionVerdict
+description-within f = tested-within Description f _ 5 (omega arith)
+
+pub code-within : (kind : ℕ) (blank : Bool) (f : List ℕ) → Within (length f) (codeVerdict kind blank f)
+unfolding codeVerdict
+code-within kind blank f = tested-within Digits f _ 5 (omega arith)
