@@ -21,7 +21,7 @@ pub record Within (j : Judge) : Type 0 where
 pub sound-within : (j : Judge) → isSound j ≡ true → Within j
 unfolding isSound
 sound-within j e =
-    let counts = both-true _ (leb (j .group .counted) 1000000) (both-true _ (fits (j .group .promised)) (both-true _ (fits (j .group .total)) e .0) .0) in
+    let counts = both-true _ (leb (j .group .counted) 1000000) (both-true _ (fits 100 (j .group .promised)) (both-true _ (fits 100 (j .group .total)) e .0) .0) in
     let orders = both-true _ (leb (j .read .orders) 1000000) (both-true _ (leb (j .group .declared) 1000000) (counts .0) .0) in
     let lines = both-true (leb (j .read .lines) 1000000) (leb (j .read .groups) 1000000) (orders .0) in
     record {

@@ -4,18 +4,18 @@ use Prim.Native.Nat.{ℕ, _+_}
 use mathlib.Core.Bool.{Bool, true, false, cond, _&&_}
 use mathlib.Core.List.{List, [], _∷_}
 use lib.Dec.{eqb, leb, ltb}
-use Rattle.refusal.specs.Refusal.{placeOf, moved, refusalOf}
+use Rattle.refusal.specs.Refusal.{refusalOf, inLine}
+use Rattle.refusal.specs.Verdict.{onlyIf, andThen}
 use Rattle.refusal.specs.declared.Answer.{Answer}
 use Rattle.refusal.specs.declared.Answer.the-variants as answer
 use Rattle.refusal.specs.declared.Refusal.{Refusal}
 use Rattle.dates.specs.Dates.{isDate}
-use Rattle.sums.specs.Sums.{fits, added, sameSum, sumOf, numberOf}
+use Rattle.sums.specs.Sums.{noCents, sumOf, fits, added, sameSum, numberOf, numberIn}
 use Rattle.wage_line.specs.declared.LineType.{LineType}
 use Rattle.wage_line.specs.declared.LineType.the-variants.{Label, Group, Order, Closing}
 use Rattle.wage_line.specs.declared.Typed.{Typed}
 use Rattle.wage_line.specs.declared.Typed.the-variants as typed
 use Rattle.wage_line.specs.Line.{typedOf, partOf}
-use Rattle.wage_contents.specs.Contents.{numberIn}
 use Rattle.wage_fields.specs.Rules.{placesAnswer}
 use Rattle.judge.specs.declared.Condition.{Condition}
 use Rattle.judge.specs.declared.Condition.the-variants.{Fresh, Labelled, Grouped, Closed, Refused}
@@ -50,10 +50,6 @@ refusedWith r j = record { condition = Refused r; day = j .day; kind = j .kind; 
 abbrev pub atLine : ℕ → ℕ → Refusal
 atLine number line = refusalOf number (record { line = line; field = 0; byte = 0 }) 0
 
--- a refusal of line n, its field and byte kept
-abbrev pub inLine : ℕ → Refusal → Refusal
-inLine n r = moved (record { line = n; field = placeOf r .field; byte = placeOf r .byte }) r
-
 -- "17 names line 1,000,001"
 abbrev pub beyond : Refusal
 beyond = atLine 17 1000001
@@ -74,7 +70,7 @@ nextLine j = j .read .lines + 1
 unfoldable pub isSound : Judge → Bool
 isSound j =
     leb (j .read .lines) 1000000 && leb (j .read .groups) 1000000 && leb (j .read .orders) 1000000 && leb (j .group .declared) 1000000 &&
-    leb (j .group .counted) 1000000 && fits (j .group .promised) && fits (j .group .total)
+    leb (j .group .counted) 1000000 && fits 100 (j .group .promised) && fits 100 (j .group .total)
 
 -- ---------------------------------------------------------------------------
 -- The beginning
@@ -86,7 +82,7 @@ fresh day = record {
   day = day;
   kind = 0;
   read = record { lines = 0; groups = 0; orders = 0 };
-  group = record { declared = 0; promised = sumOf 0; counted = 0; total = sumOf 0 };
+  group = record { declared = 0; promised = noCents; counted = 0; total = noCents };
 }
 
 -- "The day of submission is given at the start; if not a date, 11 with line, field and byte 0 comes before all else"
@@ -102,11 +98,11 @@ oneMore groups orders n = record { lines = n .lines + 1; groups = groups; orders
 
 -- a group's first line: the number and the sum that it declares
 abbrev pub opened : List ℕ → Open
-opened s = record { declared = numberIn (partOf Group 5 s); promised = sumOf (numberOf (partOf Group 6 s)); counted = 0; total = sumOf 0 }
+opened s = record { declared = numberIn (partOf Group 5 s); promised = sumOf 100 (numberOf (partOf Group 6 s)); counted = 0; total = noCents }
 
 -- an order: counted, and its amount added
 abbrev pub ordered : List ℕ → Open → Open
-ordered s g = record { declared = g .declared; promised = g .promised; counted = g .counted + 1; total = added (g .total) (numberIn (partOf Order 10 s)) }
+ordered s g = record { declared = g .declared; promised = g .promised; counted = g .counted + 1; total = added 100 (g .total) (numberIn (partOf Order 10 s)) }
 
 -- the record after a right line: a label's kind is kept, a 301 opens a group, a 309 goes into it, and a 399 closes the file
 abbrev pub after : Judge → List ℕ → LineType → Judge
@@ -122,15 +118,14 @@ after j s Closing = record { condition = Closed; day = j .day; kind = j .kind; r
 -- the sum is judged there too"
 abbrev pub wholeVerdict : ℕ → Open → ℕ
 wholeVerdict at g =
-    cond (eqb at 2 && ltb 0 (g .counted))
-    (cond (eqb (g .counted) (g .declared)) (cond (sameSum (g .total) (g .promised)) 0 13) 12)
-    10
+    andThen (onlyIf (eqb at 2 && ltb 0 (g .counted)) 10)
+    (andThen (onlyIf (eqb (g .counted) (g .declared)) 12) (onlyIf (sameSum (g .total) (g .promised)) 13))
 
 -- "One 300; then one or more groups, each one 301 and one or more 309; then one 399"; "A 309 beyond the declared number gives 12 at once"
 unfoldable pub standVerdict : ℕ → Open → LineType → ℕ
-standVerdict at g Label = cond (eqb at 0) 0 10
+standVerdict at g Label = onlyIf (eqb at 0) 10
 standVerdict at g Group = cond (eqb at 1) 0 (wholeVerdict at g)
-standVerdict at g Order = cond (eqb at 2) (cond (ltb (g .counted) (g .declared)) 0 12) 10
+standVerdict at g Order = andThen (onlyIf (eqb at 2) 10) (onlyIf (ltb (g .counted) (g .declared)) 12)
 standVerdict at g Closing = wholeVerdict at g
 
 -- the record after a line's places

@@ -5,9 +5,9 @@
 ghost use mathlib.Core.Path.{_≡_};
 ghost use mathlib.Core.Bool.{true};
 ghost use Prim.Native.Nat.{_≤_};
+ghost use Rattle.sums.specs.Sums.{numberIn};
 ghost use Rattle.wage_line.specs.Line.{partOf};
-ghost use Rattle.wage_contents.specs.Contents.{numberIn};
-ghost use Rattle.judge.specs.Judge.{stageOf, isRefused, refusalIn, refusedWith, atLine, inLine, isSound, begun, opened, ordered, after as afterLine, wholeVerdict, standVerdict, typeStep, stepped, ended};
+ghost use Rattle.judge.specs.Judge.{stageOf, isRefused, refusalIn, refusedWith, atLine, isSound, begun, opened, ordered, after as afterLine, wholeVerdict, standVerdict, typeStep, stepped, ended};
 use refusal::Answer;
 use refusal::Place;
 use refusal::Refusal;
@@ -110,19 +110,6 @@ fn at_line(number: usize, line: usize) -> Refusal
     refusal::made(number, place, 0)
 }
 
-// A refusal of a line, its field and byte kept.
-fn in_line(n: usize, r: Refusal) -> Refusal
-    ensures { λ q. ⌜ q ≡ inLine n r ⌝ }
-{
-    let p = refusal::told(r);
-    let place = Place {
-        line: n,
-        field: p.field,
-        byte: p.byte,
-    };
-    refusal::put(r, place)
-}
-
 // A record of these parts.
 fn made(day: u64, condition: Condition, kind: u64, read: Counts, group: Open) -> Judge
     ensures { λ j. ⌜ j ≡ record { condition = condition; day = day; kind = kind; read = read; group = group } ⌝ }
@@ -158,8 +145,8 @@ fn is_sound(j: Judge) -> bool
         & (n.orders <= 1000000)
         & (g.declared <= 1000000)
         & (g.counted <= 1000000)
-        & sums::is_exact(promised)
-        & sums::is_exact(total)
+        & sums::fits(promised, 100)
+        & sums::fits(total, 100)
 }
 
 // ---------------------------------------------------------------------------
@@ -208,7 +195,7 @@ fn opening(s: &[u8]) -> Open
 {
     Open {
         declared: number_at(LineType::Group, 5, s),
-        promised: sums::written(wage_line::part(wage_line::find(LineType::Group, 6), s)),
+        promised: sums::written(wage_line::part(wage_line::find(LineType::Group, 6), s), 100),
         counted: 0,
         total: sums::nothing(),
     }
@@ -226,7 +213,7 @@ fn with_order(g: Open, s: &[u8]) -> Open
         declared: g.declared,
         promised,
         counted: counted + 1,
-        total: sums::add(total, number_at(LineType::Order, 10, s)),
+        total: sums::add(total, number_at(LineType::Order, 10, s), 100),
     }
 }
 
@@ -331,7 +318,7 @@ fn type_step(j: Judge, t: LineType, s: &[u8]) -> Judge
     }
     match wage_fields::judge_places(day, kind, t, s) {
         Answer::Accepted => after(j, t, s),
-        Answer::Refused(r) => refused(j, in_line(next, r)),
+        Answer::Refused(r) => refused(j, refusal::in_line(next, r)),
     }
 }
 
@@ -347,7 +334,7 @@ pub fn step(j: Judge, s: &[u8]) -> Judge
     if is_sound(j) & (lines < 1000000) {
         match wage_line::read_type(s) {
             Typed::Line(t) => type_step(j, t, s),
-            Typed::Refused(r) => refused(j, in_line(lines + 1, r)),
+            Typed::Refused(r) => refused(j, refusal::in_line(lines + 1, r)),
         }
     } else {
         refused(j, at_line(17, 1000001))

@@ -73,7 +73,7 @@ module _ (day : ℕ) where
 
     -- and only a right 301 after it
     head-told : (label s : List ℕ) (ss : List (List ℕ)) → Ends n (s ∷ ss) (afterLabel label) → RightLine day (kindOf label) Group s × Ends n ss (inGroup day (kindOf label) s two 0 0)
-    unfolding standVerdict
+    unfolding standVerdict sumOf
     head-told label s ss e = let w = came n ss (afterLabel label) s refl e in go (w .line) (w .typed) (w .stands) (w .fields) (w .goes)
       where
         go :

@@ -3,7 +3,7 @@
 use mathlib.Core.Path.{_≡_, refl, sym, ap, _∙_}
 use mathlib.Core.Bool.{Bool, true, false, cond, _&&_}
 use mathlib.Core.List.{List, [], _∷_, _++_, append-assoc}
-use Prim.Native.Nat.{ℕ, zero, suc, _+_, _≤_, _<_}
+use Prim.Native.Nat.{ℕ, zero, suc, _+_, _*_, _≤_, _<_}
 use native.Mathlib.Nat.{add-zero}
 use native.Mathlib.Omega.{arith}
 use lib.Dec.{eqb, ltb}
@@ -12,22 +12,24 @@ use borrow.Author.Tests.{lt-ltb, le-leb, eq-eqb, ltb-true, ltb-false, eqb-true}
 use Rattle.refusal.specs.declared.Answer.{Answer}
 use Rattle.refusal.specs.declared.Answer.the-variants as answer
 use Rattle.refusal.specs.declared.Refusal.{Refusal}
-use Rattle.sums.specs.Sums.{tooMuch, fits, sameSum, sumOf, numberOf}
+use Rattle.refusal.specs.Refusal.{inLine}
+use Rattle.refusal.specs.Verdict.{onlyIf, andThen}
+use Rattle.refusal.proofs.Verdicts.{both-pass, test-holds}
+use Rattle.sums.specs.Sums.{limb, sumOf, fits, sameSum, numberOf, numberIn}
 use Rattle.sums.proofs.Laws.{added-on}
-use Rattle.sums.proofs.Theorems.{sum-fits, sums-told-apart, beyond-never-same, text-small}
+use Rattle.sums.proofs.Theorems.{sum-fits, sums-told-apart, text-small}
 use Rattle.wage_line.specs.declared.LineType.{LineType}
 use Rattle.wage_line.specs.declared.LineType.the-variants.{Label, Group, Order, Closing}
 use Rattle.wage_line.specs.declared.Typed.{Typed}
 use Rattle.wage_line.specs.declared.Typed.the-variants as typed
 use Rattle.wage_line.specs.Places.{spots, spotIn}
 use Rattle.wage_line.specs.Line.{typedOf, partOf}
-use Rattle.wage_contents.specs.Contents.{numberIn}
 use Rattle.wage_fields.specs.Rules.{placesFrom, placesAnswer}
 use Rattle.judge.specs.declared.Condition.the-variants.{Grouped}
 use Rattle.judge.specs.declared.Counts.{Counts}
 use Rattle.judge.specs.declared.Ending.the-variants as ending
 use Rattle.judge.specs.declared.Judge.{Judge}
-use Rattle.judge.specs.Judge.{stageOf, isRefused, refusalIn, refusedWith, atLine, inLine, nextLine, beyond, isSound, oneMore, after, wholeVerdict, standVerdict, afterPlaces, typeStep, typedStep, stepped, steps, ended}
+use Rattle.judge.specs.Judge.{stageOf, isRefused, refusalIn, refusedWith, atLine, nextLine, beyond, isSound, oneMore, after, wholeVerdict, standVerdict, afterPlaces, typeStep, typedStep, stepped, steps, ended}
 use Rattle.judge.proofs.Laws.{sound-within}
 use Rattle.judge.proofs.Theorems.{refusal-stays-on, refusal-ends, closed-accepts}
 use Rattle.wage_file.specs.Right.{Payments, groupLines, ordersIn, RightLine, RightGroup, amounts}
@@ -129,7 +131,7 @@ nothing-after n (s ∷ ss) j f e = let w = came n ss j s (rw f) e in go (w .line
 -- numbers and sums that are small enough make a sound record
 pub sound :
     (j : Judge) → j .read .lines ≤ 1000000 → j .read .groups ≤ 1000000 → j .read .orders ≤ 1000000 → j .group .declared ≤ 1000000 → j .group .counted ≤ 1000000 →
-    fits (j .group .promised) ≡ true → fits (j .group .total) ≡ true → isSound j ≡ true
+    fits 100 (j .group .promised) ≡ true → fits 100 (j .group .total) ≡ true → isSound j ≡ true
 unfolding isSound
 sound j a b c d e f g = rw (le-leb _ _ a, le-leb _ _ b, le-leb _ _ c, le-leb _ _ d, le-leb _ _ e, f, g)
 
@@ -166,29 +168,13 @@ unfolding spots spotIn
 declared-small head = text-small 5 (take 18 (partOf Group 5 head)) (simp length-take (omega arith))
 
 -- the sum has twenty
-promised-small : (head : List ℕ) → promisedIn head < tooMuch
+promised-small : (head : List ℕ) → promisedIn head < 100 * limb
 unfolding spots spotIn
 promised-small head = text-small 20 (partOf Group 6 head) (simp length-take (omega arith))
-
--- a sum is the same as one of twenty digits only where its number is
-same-number : (m p : ℕ) → p < tooMuch → sameSum (sumOf m) (sumOf p) ≡ true → m ≡ p
-same-number m p h e = go (ltb m tooMuch) refl
-  where
-    go : (b : Bool) → ltb m tooMuch ≡ b → m ≡ p
-    go true f = sums-told-apart m p (ltb-true m tooMuch f) h .0 e
-    go false f =
-        let g : sameSum (sumOf m) (sumOf p) ≡ false = beyond-never-same m (sumOf p) (ltb-false m tooMuch f) in
-        let z : _≡_ {A = ℕ} 0 1 = cc in
-        absurd (omega arith)
 
 -- counts that tell the same numbers are the same
 pub same-counts : (m n : Counts) → m .lines ≡ n .lines → m .groups ≡ n .groups → m .orders ≡ n .orders → m ≡ n
 same-counts m n a b c = λ i. record { lines = a i; groups = b i; orders = c i }
-
--- a test whose other answer is a refusal's number passed
-passed : (b : Bool) (v w : ℕ) → cond b v (suc w) ≡ 0 → (b ≡ true) × (v ≡ 0)
-passed true v w e = (refl, e)
-passed false v w e = absurd (omega arith)
 
 -- ---------------------------------------------------------------------------
 -- Inside a group
@@ -205,7 +191,7 @@ module _ (day kind : ℕ) where
     day = day;
     kind = kind;
     read = m;
-    group = record { declared = declaredIn head; promised = sumOf (promisedIn head); counted = counted; total = sumOf total };
+    group = record { declared = declaredIn head; promised = sumOf 100 (promisedIn head); counted = counted; total = sumOf 100 total };
   }
 
   -- what must follow there: orders to the declared number and sum, right groups, and the 399; and which counts they come to
@@ -232,7 +218,7 @@ module _ (day kind : ℕ) where
   group-sound head m counted total a b c d e =
       let small = declared-small head in
       let less = promised-small head in
-      sound (inGroup head m counted total) a (omega arith) (omega arith) (omega arith) (omega arith) (sum-fits (promisedIn head) less) (sum-fits total (omega arith))
+      sound (inGroup head m counted total) a (omega arith) (omega arith) (omega arith) (omega arith) (sum-fits 100 (promisedIn head) less) (sum-fits 100 total (omega arith))
 
   -- the orders that end a group make it right
   pub right-group : (head : List ℕ) (m : Counts) (ss : List (List ℕ)) (n : Counts) → RightLine day kind Group head → (r : Rest head m 0 0 ss n) → RightGroup day kind (record { head = head; orders = r .payments })
@@ -262,22 +248,25 @@ module _ (day kind : ℕ) where
 
     -- an order read is one more order
     ordered-as : (s : List ℕ) → after here s Order ≡ withOrder s
-    ordered-as s = rw (added-on total (amountIn s))
+    ordered-as s = rw (added-on 100 total (amountIn s))
 
     -- a whole group may end
     whole-made : Whole → wholeVerdict 2 (here .group) ≡ 0
     whole-made w =
-        let less = promised-small head in
-        rw (lt-ltb 0 counted (w .some), eq-eqb counted (declaredIn head) (w .number), sums-told-apart total (promisedIn head) (omega arith) less .1 (w .sum))
+        rw (lt-ltb 0 counted (w .some), eq-eqb counted (declaredIn head) (w .number), sums-told-apart 100 total (promisedIn head) (promised-small head) .1 (w .sum))
 
     -- and only a whole group
     whole-told : wholeVerdict 2 (here .group) ≡ 0 → Whole
     whole-told e =
-        let same = sameSum (sumOf total) (sumOf (promisedIn head)) in
-        let a = passed (ltb 0 counted) (cond (eqb counted (declaredIn head)) (cond same 0 13) 12) 9 e in
-        let b = passed (eqb counted (declaredIn head)) (cond same 0 13) 11 (a .1) in
-        let c = passed same 0 12 (b .1) in
-        record { some = ltb-true 0 counted (a .0); number = eqb-true counted (declaredIn head) (b .0); sum = same-number total (promisedIn head) (promised-small head) (c .0) }
+        let number = eqb counted (declaredIn head) in
+        let same = sameSum (sumOf 100 total) (sumOf 100 (promisedIn head)) in
+        let a = both-pass (onlyIf (ltb 0 counted) 10) (andThen (onlyIf number 12) (onlyIf same 13)) e in
+        let b = both-pass (onlyIf number 12) (onlyIf same 13) (a .1) in
+        record {
+          some = ltb-true 0 counted (test-holds (ltb 0 counted) 10 refl (a .0));
+          number = eqb-true counted (declaredIn head) (test-holds number 12 refl (b .0));
+          sum = sums-told-apart 100 total (promisedIn head) (promised-small head) .0 (test-holds same 13 refl (b .1));
+        }
 
     module _ (a : m .lines < 1000000) (b : m .groups ≤ m .lines) (c : m .orders ≤ m .lines) where
       -- a right order is taken
@@ -287,7 +276,7 @@ module _ (day kind : ℕ) where
 
       -- a right 301 is taken after a whole group
       group-made : (s : List ℕ) → RightLine day kind Group s → Whole → stepped here s ≡ withGroup s
-      unfolding standVerdict
+      unfolding standVerdict sumOf
       group-made s w d = goes here s Group refl (group-sound head m counted total (omega arith) b c (omega arith) (omega arith)) a w (whole-made d)
 
       -- and a 399, after which the file ends accepted
@@ -426,7 +415,7 @@ module _ (day kind : ℕ) where
   -- and nothing else does
   pub run-rest :
       (n : Counts) (ss : List (List ℕ)) (head : List ℕ) (m : Counts) (counted total : ℕ) → Ends n ss (inGroup head m counted total) → Rest head m counted total ss n
-  unfolding standVerdict
+  unfolding standVerdict sumOf
   run-rest n [] head m counted total e =
       let t = told n (inGroup head m counted total) e .last in
       let z : _≡_ {A = ℕ} 0 1 = cc in

@@ -7,12 +7,11 @@ use mathlib.Core.List.{List, [], _∷_, _++_}
 use lib.ListN.{length, getD}
 use Rattle.refusal.specs.declared.Answer.the-variants.{Accepted}
 use Rattle.dates.specs.Dates.{isDate}
-use Rattle.sums.specs.Sums.{numberOf}
+use Rattle.sums.specs.Sums.{numberOf, numberIn}
 use Rattle.wage_line.specs.declared.LineType.{LineType}
 use Rattle.wage_line.specs.declared.LineType.the-variants.{Label, Group, Order, Closing}
 use Rattle.wage_line.specs.declared.Typed.the-variants.{Line}
 use Rattle.wage_line.specs.Line.{typedOf, partOf}
-use Rattle.wage_contents.specs.Contents.{numberIn}
 use Rattle.wage_fields.specs.Rules.{placesAnswer}
 use Rattle.judge.specs.declared.Counts.{Counts}
 

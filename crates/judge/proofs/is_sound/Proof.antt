@@ -6,7 +6,7 @@ use Rattle.judge.proofs.is_sound.Tie as tie
 
 returns : tie.Need-returns
 unfolding isSound
-returns c = rw (c .is-exact2 .ensures, c .before .is-exact .ensures)
+returns c = rw (c .fits3 .ensures, c .before .fits2 .ensures)
 
 pub is-sound-spec : {M : Type 1} → statement M
 is-sound-spec = tie.close (tie.spec (λ c κs. search needs) (λ c κs. search needs) returns)
