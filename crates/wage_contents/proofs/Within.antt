@@ -1,12 +1,11 @@
 -- The byte that the refusal of a place's content tells lies within that place.
 -- Assumes nothing.
-use mathlib.Core.Bool.{Bool, not, _&&_, _||_}
+use mathlib.Core.Bool.{Bool, _&&_, _||_}
 use mathlib.Core.List.{List}
 use Prim.Native.Nat.{ℕ, _<_}
 use native.Mathlib.Omega.{arith}
-use lib.Dec.{eqb}
 use lib.ListN.{length, take, drop, getD}
-use Rattle.refusal.specs.Verdict.{andThen, onlyIf, Within}
+use Rattle.refusal.specs.Verdict.{onlyIf, Within}
 use Rattle.refusal.proofs.Verdicts.{choice-within, then-within, only-within}
 use Rattle.text.specs.Bytes.{bytesVerdict, allOf, trimmed, same, eur}
 use Rattle.text.specs.declared.Class.{Class}
