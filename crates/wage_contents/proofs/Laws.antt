@@ -1,13 +1,13 @@
 -- Laws that this crate's proofs share: of an IBAN's place, and of a place's first bytes.
 -- Assumes nothing.
 use mathlib.Core.Path.{_≡_, refl, sym, ap, _∙_}
-use mathlib.Core.Bool.{Bool, true, false, cond, _&&_, _||_, or-true}
+use mathlib.Core.Bool.{Bool, true, false, cond, _&&_}
 use mathlib.Core.List.{List, [], _∷_}
-use Prim.Native.Nat.{ℕ, _<_}
+use Prim.Native.Nat.{ℕ}
 use native.Mathlib.Omega.{arith}
 use lib.ListN.{length, take, drop, getD, take-append-drop}
 use borrow.Author.Tests.{eqb-true}
-use Rattle.text.specs.Bytes.{isDigit, isLetter, bytesVerdict, allOf}
+use Rattle.text.specs.Bytes.{bytesVerdict, allOf}
 use Rattle.text.specs.declared.Class.the-variants.{Account, Blanks, Place}
 use Rattle.text.proofs.Laws.{or-first, both-true, all-joined, all-wider, all-passes, passes-all}
 use Rattle.account.specs.Account.{ibanFormed, ibanPasses}

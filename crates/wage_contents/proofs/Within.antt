@@ -1,12 +1,11 @@
 -- The byte that the refusal of a place's content tells lies within that place.
 -- Assumes nothing.
-use mathlib.Core.Bool.{Bool, not, _&&_, _||_}
+use mathlib.Core.Bool.{Bool, _&&_, _||_}
 use mathlib.Core.List.{List}
 use Prim.Native.Nat.{ℕ, _<_}
 use native.Mathlib.Omega.{arith}
-use lib.Dec.{eqb}
 use lib.ListN.{length, take, drop, getD}
-use Rattle.refusal.specs.Verdict.{andThen, onlyIf, Within}
+use Rattle.refusal.specs.Verdict.{onlyIf, Within}
 use Rattle.refusal.proofs.Verdicts.{choice-within, then-within, only-within}
 use Rattle.text.specs.Bytes.{bytesVerdict, allOf, trimmed, same, eur}
 use Rattle.text.specs.declared.Class.{Class}
@@ -16,7 +15,7 @@ use Rattle.text.proofs.Blanks.{trimmed-shorter}
 use Rattle.account.specs.Account.{oibPasses}
 use Rattle.account.proofs.Theorems.{iban-check-within}
 use Rattle.models.specs.Models.{modelOf}
-use Rattle.reference.proofs.Laws.{modelled-within}
+use Rattle.reference.proofs.Theorems.{modelled-within}
 use Rattle.wage_contents.specs.declared.Held.{Held}
 use Rattle.wage_contents.specs.declared.Held.the-variants.{Blank, NoModel, Number}
 use Rattle.wage_contents.specs.Contents.{tested, oneOf, amongVerdict, oibPlaceVerdict, employerVerdict, dateVerdict, ibanPlaceVerdict, currencyVerdict, purposePlaceVerdict, signVerdict, heldVerdict, bareHeld, referenceHeld, descriptionVerdict, codeVerdict}
@@ -77,7 +76,7 @@ reference-within h f = omega (arith, bare h (trimmed f), trimmed-shorter f)
     bare : (k : Held) (g : List ℕ) → Within (length g) (bareHeld k g)
     bare Blank g = tested-within Reference g _ 8 (omega arith)
     bare NoModel g = omega arith
-    bare (Number n) g = modelled-within (modelOf n) g
+    bare (Number n) g = modelled-within g (modelOf n)
 
 pub description-within : (f : List ℕ) → Within (length f) (descriptionVerdict f)
 unfolding descriptionVerdict

@@ -164,10 +164,7 @@ pub fn judge_place(day: u64, kind: u64, t: LineType, k: usize, s: &[u8]) -> Answ
     let p = wage_line::spot_at(t, k);
     let n = p.field;
     let held = held_for(t, n, s);
-    told(
-        p,
-        rule(day, kind, t, n, held, wage_line::part(p, s), s),
-    )
+    told(p, rule(day, kind, t, n, held, wage_line::part(p, s), s))
 }
 
 // A line's places in order: the first refusal, with its field and byte. A model is read at its own place, once for the fields
