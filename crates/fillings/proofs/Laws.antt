@@ -18,7 +18,7 @@ use Rattle.refusal.specs.Refusal.{none}
 use Rattle.text.specs.declared.Class.the-variants.{Dry}
 use Rattle.text.specs.declared.Found.{Found}
 use Rattle.text.specs.declared.Found.the-variants.{At, Nothing}
-use Rattle.text.specs.Bytes.{later, firstBad, marks}
+use Rattle.text.specs.Bytes.{later, firstBad, countOf, marks}
 use Rattle.fillings.specs.declared.Listed.the-variants.{Count, Refused}
 use Rattle.fillings.specs.Fillings.{fill, among, fillings}
 use Rattle.fillings.specs.Answers.{roomAnswer, filledAnswer}
@@ -48,6 +48,12 @@ unfolding among
 among-ext q q′ a zero h = refl
 among-ext q q′ a (suc n) h =
     rw (h a (omega arith) (omega arith), among-ext q q′ (suc a) n (λ k l u. h k (omega arith) (omega arith)))
+
+-- a rule that accepts nothing lists nothing
+pub among-none : (q : ℕ → Bool) (a n : ℕ) → ((k : ℕ) → q k ≡ false) → among q a n ≡ []
+unfolding among
+among-none q a zero h = refl
+among-none q a (suc n) h = rw (h a, among-none q (suc a) n h)
 
 -- one number in front, or none
 length-cond : (b : Bool) (x n : ℕ) (xs : List ℕ) → length xs ≤ n → length (cond b (x ∷ xs) xs) ≤ suc n
@@ -93,19 +99,19 @@ digit-dry d h = ne-eqb (48 + d) 63 (omega arith)
 
 -- a digit put at the first mark leaves one mark fewer
 pub marks-first : {s : List ℕ} {i : ℕ} → FirstMark s i → (d : ℕ) → d < 10 → marks s ≡ suc (marks (set s i (48 + d)))
-unfolding marks
+unfolding countOf
 marks-first here d h = rw (digit-dry d h)
 marks-first (there e f) d h = rw e (marks-first f d h)
 
 -- where the number has the digit d at the first mark, that digit may be put there first
 pub fill-first : {s : List ℕ} {i : ℕ} → FirstMark s i → (m k d : ℕ) → marks s ≡ suc m → d < 10 → (k / 10 ^ m) % 10 ≡ d → fill s k ≡ fill (set s i (48 + d)) k
-unfolding fill marks
+unfolding fill countOf
 fill-first (here {s = s}) m k d g h e = let z : marks s ≡ m = omega arith in rw (digit-dry d h, z, e)
 fill-first (there {b = b} {s = s} n f) m k d g h e = rw (n, fill-first f m k d (rw n at g) h e)
 
 -- nothing found: no mark
 pub no-mark : (s : List ℕ) → firstBad Dry s ≡ Nothing → marks s ≡ 0
-unfolding firstBad marks
+unfolding firstBad countOf
 no-mark [] e = refl
 no-mark (b ∷ s) e = go (eqb b 63) (no-mark s) e
   where
@@ -119,7 +125,7 @@ no-mark (b ∷ s) e = go (eqb b 63) (no-mark s) e
 
 -- a text with no mark stays as it is
 pub fill-dry : (s : List ℕ) (k : ℕ) → marks s ≡ 0 → fill s k ≡ s
-unfolding fill marks
+unfolding fill countOf
 fill-dry [] k e = refl
 fill-dry (b ∷ s) k e = go (eqb b 63) (fill-dry s k) e
   where
@@ -289,7 +295,7 @@ store-before b rest j v h = rw (take-suc b j 0 h, append-snoc) (set-at (take j b
 
 -- at the end nothing is written
 pub from-end : (s b : List ℕ) (number : ℕ) → WrittenFrom s b number (length s) number b
-unfolding fill marks
+unfolding fill countOf
 from-end s b number =
     record {
       digits = rw (drop-length, div-one);
@@ -299,7 +305,7 @@ from-end s b number =
 module _ (s b : List ℕ) (number i j k : ℕ) (after : List ℕ) (e : i ≡ suc j) (h : i ≤ length s) (g : length s ≤ length b) (w : WrittenFrom s b number i k after) where
   -- one byte before it: a mark gets the next digit
   pub from-mark : getD s j 0 ≡ 63 → WrittenFrom s b number j (k / 10) (set after j (48 + k % 10))
-  unfolding fill marks
+  unfolding fill countOf
   from-mark m =
       let l : j < length s = omega arith in
       let v : WrittenFrom s b number (suc j) k after = rw e at w in
@@ -310,7 +316,7 @@ module _ (s b : List ℕ) (number i j k : ℕ) (after : List ℕ) (e : i ≡ suc
 
   -- any other byte stays
   pub from-byte : (getD s j 0 ≡ 63 → ⊥) → WrittenFrom s b number j k (set after j (getD s j 0))
-  unfolding fill marks
+  unfolding fill countOf
   from-byte m =
       let l : j < length s = omega arith in
       let v : WrittenFrom s b number (suc j) k after = rw e at w in

@@ -13,7 +13,7 @@ use lib.Arith.{digits-lt, digits-div, mod-mul}
 use lib.Dec.{eqb, ltb}
 use lib.ListN.{length, getD, drop, length-append}
 use borrow.Author.Tests.{eq-eqb, ne-eqb, eqb-true, eqb-false, ltb-true, ltb-false}
-use Rattle.text.specs.Bytes.{marks}
+use Rattle.text.specs.Bytes.{countOf, marks}
 use Rattle.refusal.specs.declared.Answer.{Answer}
 use Rattle.fillings.specs.declared.Listed.{Listed}
 use Rattle.account.specs.Answers.{isIban}
@@ -21,7 +21,7 @@ use Rattle.fillings.specs.Wet.{ibanListing, referenceListing, referenceF
 use Rattle.fillings.specs.Answers.{leftBy, filledAnswer, filledBy}
 use Rattle.fillings.specs.ByMark.{between}
 use Rattle.fillings.specs.Fillings.{fill, among, fillings}
-use Rattle.fillings.specs.Listing.{Member, Ascending, countOf, Fills, numberIn}
+use Rattle.fillings.specs.Listing.{Member, Ascending, acceptedBelow, Fills, numberIn}
 use Rattle.fillings.proofs.Laws.{among-append, among-ext, block-dry}
 
 -- ---------------------------------------------------------------------------
@@ -89,8 +89,8 @@ length-last true x xs = length-append xs (x ∷ []) ∙ omega arith
 length-last false x xs = length-append xs [] ∙ omega arith
 
 -- a range has as many as are accepted
-among-counted : (q : ℕ → Bool) (n : ℕ) → length (among q 0 n) ≡ countOf q n
-unfolding countOf
+among-counted : (q : ℕ → Bool) (n : ℕ) → length (among q 0 n) ≡ acceptedBelow q n
+unfolding acceptedBelow
 among-counted q zero = unfold among in refl
 among-counted q (suc n) = rw (among-last q 0 n, length-last (q (0 + n)) (0 + n) (among q 0 n), zero-add, among-counted q n)
 
@@ -138,7 +138,7 @@ module _ (p : List ℕ → Bool) (s : List ℕ) where
   once = ascending-once (fillings p s) ascending
 
   -- as many as there are
-  pub counted : length (fillings p s) ≡ countOf (λ (k : ℕ). p (fill s k)) (10 ^ marks s)
+  pub counted : length (fillings p s) ≡ acceptedBelow (λ (k : ℕ). p (fill s k)) (10 ^ marks s)
   unfolding fillings
   counted = among-counted (λ (k : ℕ). p (fill s k)) (10 ^ marks s)
 
@@ -215,7 +215,7 @@ rest-fills b c s t f =
 
 -- digits in front of the number of a rest leave the rest's filling as it is
 fill-rest : (s : List ℕ) (d k : ℕ) → fill s (d * 10 ^ marks s + k) ≡ fill s k
-unfolding fill marks
+unfolding fill countOf
 fill-rest [] d k = refl
 fill-rest (b ∷ s) d k = go (eqb b 63) (λ d. fill-rest s d k)
   where
@@ -227,7 +227,7 @@ fill-rest (b ∷ s) d k = go (eqb b 63) (λ d. fill-rest s d k)
 
 -- the number of a filling is the number, as far as the marks have digits for it
 pub number-of-fill : (s : List ℕ) (k : ℕ) → numberIn s (fill s k) ≡ k % 10 ^ marks s
-unfolding fill marks numberIn
+unfolding fill countOf numberIn
 number-of-fill [] k = sym (mod-one k)
 number-of-fill (b ∷ s) k = go (eqb b 63) (number-of-fill s k)
   where
@@ -243,7 +243,7 @@ fill-injective s k k′ h h′ e = sym (mod-eq-of-lt h) ∙ sym (number-of-fill 
 
 -- the number of a text that fills s has as many digits as s has marks
 number-below : (s t : List ℕ) → Fills s t → numberIn s t < 10 ^ marks s
-unfolding marks numberIn
+unfolding countOf numberIn
 number-below [] t f = omega arith
 number-below (b ∷ s) [] f = absurd (omega (arith, f .size))
 number-below (b ∷ s) (c ∷ t) f = go (eqb b 63) refl (number-below s t (rest-fills b c s t f))
@@ -254,7 +254,7 @@ number-below (b ∷ s) (c ∷ t) f = go (eqb b 63) refl (number-below s t (rest-
 
 -- a text that fills s is the filling by its number
 fill-of-number : (s t : List ℕ) → Fills s t → fill s (numberIn s t) ≡ t
-unfolding fill marks numberIn
+unfolding fill countOf numberIn
 fill-of-number [] [] f = refl
 fill-of-number [] (c ∷ t) f = absurd (omega (arith, f .size))
 fill-of-number (b ∷ s) [] f = absurd (omega (arith, f .size))

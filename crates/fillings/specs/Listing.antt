@@ -18,9 +18,9 @@ abbrev pub Ascending : List ℕ → Type 0
 Ascending xs = (i : ℕ) → suc i < length xs → getD xs i 0 < getD xs (suc i) 0
 
 -- how many of the numbers below n q accepts
-unfoldable pub countOf : (ℕ → Bool) → ℕ → ℕ
-countOf q zero = 0
-countOf q (suc n) = cond (q n) (suc (countOf q n)) (countOf q n)
+unfoldable pub acceptedBelow : (ℕ → Bool) → ℕ → ℕ
+acceptedBelow q zero = 0
+acceptedBelow q (suc n) = cond (q n) (suc (acceptedBelow q n)) (acceptedBelow q n)
 
 -- t fills s: it is s where s has no mark, and has a digit where s has one
 pub record Fills (s t : List ℕ) : Type 0 where

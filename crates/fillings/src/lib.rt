@@ -11,23 +11,24 @@ ghost use Rattle.text.specs.Bytes.{marks};
 ghost use Rattle.fillings.specs.Fillings.{fill, fillings};
 ghost use Rattle.fillings.specs.Wet.{wetIban, ibanListing, modelListing, numberListing, numberFillings, referenceListing, referenceFillings};
 ghost use Rattle.account.specs.Answers.{isIban};
-ghost use Rattle.reference.specs.Parts.{formed};
-ghost use Rattle.reference.specs.Answers.{obeys};
+ghost use Rattle.reference.specs.Parts.{obeys};
+ghost use Rattle.reference.specs.Ends.{partsFound};
 ghost use Rattle.text.specs.Stands.{Stands};
 ghost use Rattle.fillings.specs.ByMark.{block};
-ghost use Rattle.fillings.specs.Accepts.{accepts};
+ghost use Rattle.fillings.specs.Accepts.{accepts, aimFrom};
 ghost use Rattle.fillings.specs.Answers.{roomAnswer, leftBy, filledAnswer, filledBy};
-use models::Group;
 use models::Model;
 use refusal::Answer;
 use refusal::Refusal;
 use text::Class;
 use text::Found;
 
-// What is listed: IBANs, or references with these check groups.
+// What is listed: IBANs, or references under a model, whose parts end so in every filling; nothing where no filling mends the form.
 pub struct Aim {
     pub iban: bool,
-    pub groups: [Group; 4],
+    pub mendable: bool,
+    pub model: Model,
+    pub ends: usize,
 }
 
 // What a listing answers: how many fillings were written at the front of the lent slice, or a refusal.
@@ -36,15 +37,19 @@ pub enum Listed {
     Refused(Refusal),
 }
 
-// Whether a filled text, of the right form, is accepted.
+// Whether a filled text is accepted.
 fn accepted(aim: Aim, s: &[u8]) -> bool
     ensures { λ r. ⌜ r ≡ accepts aim (now (s .entry)) ⌝ }
 {
+    if !aim.mendable {
+        return false;
+    }
     if aim.iban {
         return account::iban_passes(s);
     }
-    let groups = aim.groups;
-    reference::groups_hold(groups, s)
+    let model = aim.model;
+    let ends = aim.ends;
+    reference::obeys_at(model, ends, s)
 }
 
 // A text of at most 22 bytes, held by value.
@@ -107,15 +112,19 @@ fn list(
     next
 }
 
-// Lists the fillings of a text of at most 22 bytes and four marks. Ten thousand are all that there can be; where `out`
-// has room for fewer they are counted first, so that a refusal leaves it as it was.
+// Lists the fillings of a text of at most 22 bytes and four marks: the room is judged here alone, and a form that no filling can
+// mend is a count of 0 here alone. Ten thousand are all that there can be; where `out` has room for fewer they are counted first, so
+// that a refusal leaves it as it was.
 fn list_into(aim: Aim, s: &[u8], out: &mut [u16]) -> Listed
     requires { ⌜ (length (now s) ≤ 22) × (marks (now s) ≤ 4) ⌝ }
     ensures { λ r. ⌜ (r ≡ roomAnswer (fillings (accepts aim) (now (s .entry))) (length (now (out .entry)))) × (now (out .exit) ≡ leftBy r (fillings (accepts aim) (now (s .entry))) (now (out .entry))) ⌝ }
 {
+    if !aim.mendable {
+        return Listed::Count(0);
+    }
     let t = held(s);
     let n = s.len();
-    let left = text::count_marks(s);
+    let left = text::count(63, s);
     if 10000 <= out.len() {
         return Listed::Count(list(aim, t, n, left, 0, out, 0));
     }
@@ -179,23 +188,44 @@ pub fn list_iban(s: &[u8], out: &mut [u16]) -> Listed
     if !is_wet_iban(s) {
         return Listed::Refused(Refusal::Byte(refusal::nowhere()));
     }
-    if 4 < text::count_marks(s) {
+    if 4 < text::count(63, s) {
         return Listed::Refused(Refusal::Marks(refusal::nowhere()));
     }
-    let none = models::rules(0);
-    let groups = none.groups;
-    list_into(Aim { iban: true, groups }, s, out)
+    let model = models::rules(0);
+    list_into(
+        Aim {
+            iban: true,
+            mendable: true,
+            model,
+            ends: 0,
+        },
+        s,
+        out,
+    )
 }
 
-// Whether the fillings of a text have the model's form: its first one, by 0, tells of all.
-fn can_be_formed(model: Model, s: &[u8]) -> bool
+// What is listed of a text under a model: the fillings have their parts where the first one, by 0, has them.
+fn aimed(model: Model, s: &[u8]) -> Aim
     requires { ⌜ length (now s) ≤ 22 ⌝ }
-    ensures { λ r. ⌜ r ≡ formed model (fill (now (s .entry)) 0) ⌝ }
+    ensures { λ r. ⌜ r ≡ aimFrom model (partsFound model (fill (now (s .entry)) 0)) ⌝ }
 {
     let n = s.len();
     let mut t = [0u8; 22];
     filled(s, 0, &mut t);
-    reference::is_formed(model, &t[..n])
+    match reference::parts(model, &t[..n]) {
+        Found::At(ends) => Aim {
+            iban: false,
+            mendable: true,
+            model,
+            ends,
+        },
+        Found::Nothing => Aim {
+            iban: false,
+            mendable: false,
+            model,
+            ends: 0,
+        },
+    }
 }
 
 // The listing under a model: 7, then 15.
@@ -207,18 +237,7 @@ fn list_model(model: Model, s: &[u8], out: &mut [u16]) -> Listed
     if !handled {
         return Listed::Refused(Refusal::Model(refusal::nowhere()));
     }
-    if !can_be_formed(model, s) {
-        return Listed::Count(0);
-    }
-    let groups = model.groups;
-    list_into(
-        Aim {
-            iban: false,
-            groups,
-        },
-        s,
-        out,
-    )
+    list_into(aimed(model, s), s, out)
 }
 
 // The listing under a model's number: 5, then what the model says.
@@ -242,7 +261,7 @@ pub fn list_reference(model: &[u8], s: &[u8], out: &mut [u16]) -> Listed
     if !text::all_of(Class::WetReference, s) {
         return Listed::Refused(Refusal::Byte(refusal::nowhere()));
     }
-    if 4 < text::count_marks(s) {
+    if 4 < text::count(63, s) {
         return Listed::Refused(Refusal::Marks(refusal::nowhere()));
     }
     list_numbered(models::number(model), s, out)

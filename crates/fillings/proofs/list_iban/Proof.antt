@@ -25,15 +25,15 @@ returns-3 c = (
   rw (c .nowhere3 .ensures)
       (entered _ _ _ _ (eq-eqb _ _ (c .before .before .before .before .before .if1 .left))
       (entered _ _ _ _ (sym (c .before .before .before .before .is-wet-iban .ensures) ∙ not-false _ (c .before .before .before .if2 .left))
-      (left _ _ _ _ (lt-leb (marks (c .before .before .before .before .before .before .before .before .args .s .now)) 4 (omega (arith, c .before .before .count-marks .ensures))) refl))),
+      (left _ _ _ _ (lt-leb (marks (c .before .before .before .before .before .before .before .before .args .s .now)) 4 (omega (arith, c .before .before .count .ensures))) refl))),
   refl,
 )
 
 returns-4 : tie.Need-returns-4
 returns-4 c =
-    iban-listed _ _ _ _ _ refl (c .before .before .before .before .before .before .before .before .before .before .if1 .left)
-    (sym (c .before .before .before .before .before .before .before .before .before .is-wet-iban .ensures) ∙ not-false _ (c .before .before .before .before .before .before .before .before .if2 .left))
-    (omega (arith, c .before .before .before .before .before .before .before .count-marks .ensures))
+    iban-listed _ _ _ _ _ refl refl (c .before .before .before .before .before .before .before .before .before .if1 .left)
+    (sym (c .before .before .before .before .before .before .before .before .is-wet-iban .ensures) ∙ not-false _ (c .before .before .before .before .before .before .before .if2 .left))
+    (omega (arith, c .before .before .before .before .before .before .count .ensures))
     (c .before .before .list-into .ensures)
 
 pub list-iban-spec : {M : Type 1} → statement M

@@ -24,7 +24,7 @@ returns-3 c = (
   rw (c .nowhere3 .ensures)
       (entered _ _ _ _ (le-leb _ _ (c .before .before .before .before .before .if1 .left))
       (entered _ _ _ _ (sym (c .before .before .before .before .all-of .ensures) ∙ not-false _ (c .before .before .before .if2 .left))
-      (left _ _ _ _ (lt-leb (marks (c .before .before .before .before .before .before .before .before .before .args .s .now)) 4 (omega (arith, c .before .before .count-marks .ensures))) refl))),
+      (left _ _ _ _ (lt-leb (marks (c .before .before .before .before .before .before .before .before .before .args .s .now)) 4 (omega (arith, c .before .before .count .ensures))) refl))),
   refl,
 )
 
@@ -34,7 +34,7 @@ returns-4 c =
     rw (sym (c .before .before .before .before .number .ensures)) (
       entered _ _ _ _ (le-leb (length (a .s .now)) 22 (omega arith))
           (entered _ _ _ _ (sym (c .before .before .before .before .before .before .before .before .all-of .ensures) ∙ not-false _ (c .before .before .before .before .before .before .before .if2 .left))
-          (entered _ _ _ _ (le-leb (marks (a .s .now)) 4 (omega (arith, c .before .before .before .before .before .before .count-marks .ensures))) (c .before .before .list-numbered .ensures .0))),
+          (entered _ _ _ _ (le-leb (marks (a .s .now)) 4 (omega (arith, c .before .before .before .before .before .before .count .ensures))) (c .before .before .list-numbered .ensures .0))),
       c .before .before .list-numbered .ensures .1,
     )
 
