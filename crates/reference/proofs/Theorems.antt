@@ -9,8 +9,8 @@ use native.Mathlib.Omega.{arith}
 use lib.Dec.{leb}
 use lib.ListN.{length}
 use Rattle.refusal.specs.Only.{Only, defined-only}
-use Rattle.refusal.specs.Verdict.{onlyIf, andThen, Within}
-use Rattle.refusal.proofs.Verdicts.{both-pass, pass-both, test-holds, then-within, only-within}
+use Rattle.refusal.specs.Verdict.{onlyIf, Within}
+use Rattle.refusal.proofs.Verdicts.{both-pass, test-holds, then-within, only-within}
 use Rattle.text.specs.Bytes.{bytesVerdict}
 use Rattle.text.specs.declared.Class.the-variants.{Reference}
 use Rattle.text.specs.declared.Found.{Found}
