@@ -8,14 +8,16 @@ use Prim.Native.Nat.{ℕ}
 use native.Mathlib.Omega.{arith}
 use lib.Dec.{eqb}
 use lib.ListN.{length}
+use borrow.Author.Tests.{eq-eqb}
 use Rattle.refusal.specs.Only.{Only, defined-only}
 use Rattle.refusal.specs.Verdict.{onlyIf, andThen, Within}
-use Rattle.refusal.proofs.Verdicts.{both-pass, pass-both, test-holds, then-within, only-within}
-use Rattle.text.specs.Bytes.{allOf}
+use Rattle.refusal.proofs.Verdicts.{passed, met, both-pass, pass-both, test-holds, then-within, only-within}
+use Rattle.text.specs.Bytes.{allOf, bytesVerdict}
 use Rattle.text.specs.declared.Class.the-variants.{Digits, Account}
 use Rattle.text.proofs.Laws.{both-true, and-second, all-passes, passes-all, bytes-within}
 use Rattle.account.specs.Account.{ibanFormed, ibanPasses, oibPasses}
 use Rattle.account.specs.Answers.{isIban, ibanCheckVerdict, ibanVerdict, oibVerdict}
+use Rattle.account.proofs.Laws.{formed-length, formed-permitted}
 
 -- ---------------------------------------------------------------------------
 -- Nothing is refused exactly when
@@ -34,6 +36,13 @@ both-exactly v w a b p q = (
 -- form and check refuse nothing exactly when a text is `HR` and nineteen digits, and its check holds
 pub iban-accepted-exactly : (s : List ℕ) → (ibanCheckVerdict s ≡ 0) ↔ (isIban s ≡ true)
 iban-accepted-exactly s = both-exactly _ _ (ibanFormed s) (ibanPasses s) (test-exactly (ibanFormed s) 5 refl) (test-exactly (ibanPasses s) 6 refl)
+
+-- so does the whole verdict of a field: an IBAN's bytes and length are right
+pub iban-field-exactly : (s : List ℕ) → (ibanVerdict s ≡ 0) ↔ (isIban s ≡ true)
+iban-field-exactly s = (
+  λ e. iban-accepted-exactly s .0 (both-pass (onlyIf (eqb (length s) 21) 4) _ (both-pass (bytesVerdict Account s) _ e .1) .1),
+  λ e. let f = both-true (ibanFormed s) (ibanPasses s) e .0 in sym (passed _ _ _ (formed-permitted s f) (met _ 4 _ _ (eq-eqb (length s) 21 (formed-length s f)) (sym (iban-accepted-exactly s .1 e)))),
+)
 
 -- an OIB is accepted exactly when it is eleven digits that pass
 pub oib-accepted-exactly : (s : List ℕ) → (oibVerdict s ≡ 0) ↔ ((allOf Digits s && (eqb (length s) 11 && oibPasses s)) ≡ true)

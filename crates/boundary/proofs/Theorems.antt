@@ -5,21 +5,15 @@ use mathlib.Core.Bool.{Bool, true, false, cond, _&&_}
 use mathlib.Core.List.{List, []}
 use Prim.Native.Nat.{ℕ, zero, suc, _+_, _-_, _<_}
 use native.Mathlib.Omega.{arith}
-use lib.Dec.{leb}
 use lib.ListN.{length, take, drop}
-use lib.Seq.{length-take-le, take-all, drop-drop}
-use Rattle.refusal.specs.Refusal.{numberOf, refusalOf, numbers-tell-all, isAccepted}
+use Rattle.refusal.specs.Refusal.{numberOf, refusalOf}
+use Rattle.refusal.proofs.Theorems.{numbers-tell-all}
 use Rattle.refusal.specs.declared.Answer.{Answer}
 use Rattle.refusal.specs.declared.Answer.the-variants.{Accepted, Refused}
 use Rattle.refusal.specs.declared.Refusal.{Refusal}
 use Rattle.refusal.specs.declared.Refusal.the-variants.{Size, Ends, Byte, Length, Form, Check, Model, Parts, Digit, Misplaced, Date, Orders, Sum, Unfinished, Room, Marks, Beyond}
-use Rattle.text.specs.Bytes.{firstBad}
-use Rattle.text.specs.Split.{split}
-use Rattle.text.specs.declared.Class.the-variants as class
-use Rattle.text.specs.declared.Found.{Found}
-use Rattle.text.specs.declared.Found.the-variants.{At, Nothing}
-use Rattle.slip.specs.Slip.{slipAnswer, pieceOf, fieldOf}
-use Rattle.slip.proofs.Laws.{split-at, split-whole}
+use Rattle.slip.specs.Slip.{fieldPart, fieldOf}
+use Rattle.slip.proofs.Laws.{field-stands}
 use Rattle.wage_line.specs.declared.Typed.{Typed}
 use Rattle.wage_line.specs.declared.Typed.the-variants as typed
 use Rattle.wage_line.specs.Line.{typedOf, queried, placeOf}
@@ -28,11 +22,10 @@ use Rattle.judge.specs.declared.Condition.the-variants as condition
 use Rattle.judge.specs.declared.Judge.{Judge}
 use Rattle.judge.specs.Judge.{stageOf}
 use Rattle.boundary.specs.declared.Told.{Told}
-use Rattle.boundary.specs.declared.Part.{Part}
+use Rattle.text.specs.declared.Part.{Part}
 use Rattle.boundary.specs.Told.{refusal, toldOf}
 use Rattle.boundary.specs.Record.{placeIn, conditionOf, conditionTold, judgeOf, recordOf}
-use Rattle.boundary.specs.Parts.{noPart, startOf, fieldPart, partIn, placePart}
-use Rattle.boundary.proofs.Laws.{start-first, start-behind}
+use Rattle.boundary.specs.Parts.{noPart, partIn, placePart}
 
 -- ---------------------------------------------------------------------------
 -- Answers
@@ -96,35 +89,9 @@ record-told-back j = rw (condition-told-back (j .condition))
 abbrev bytesOf : Part → List ℕ → List ℕ
 bytesOf p s = take (p .length) (drop (p .start) s)
 
--- the piece at a place stands where it begins, as long as it is
-pub piece-stands : (k : ℕ) (s : List ℕ) → take (length (pieceOf k (split 10 s))) (drop (startOf k (split 10 s)) s) ≡ pieceOf k (split 10 s)
-unfolding pieceOf
-piece-stands zero s = go (firstBad class.Line s) refl
-  where
-    go : (f : Found) → firstBad class.Line s ≡ f → take (length (pieceOf 0 (split 10 s))) (drop (startOf 0 (split 10 s)) s) ≡ pieceOf 0 (split 10 s)
-    go (At i) e =
-        let d = split-at s i e in
-        rw (start-first (split 10 s), d .1, length-take-le i s (omega (arith, d .0)))
-    go Nothing e = rw (start-first (split 10 s), split-whole s e) (take-all (length s) s (omega arith))
-piece-stands (suc k) s = go (firstBad class.Line s) refl (λ t. piece-stands k t)
-  where
-    go :
-        (f : Found) → firstBad class.Line s ≡ f → ((t : List ℕ) → take (length (pieceOf k (split 10 t))) (drop (startOf k (split 10 t)) t) ≡ pieceOf k (split 10 t))
-        → take (length (pieceOf (suc k) (split 10 s))) (drop (startOf (suc k) (split 10 s)) s) ≡ pieceOf (suc k) (split 10 s)
-    go (At i) e on =
-        let d = split-at s i e in
-        let t = drop (i + 1) s in
-        rw (d .1, start-behind s t i k (omega (arith, d .0)), ← (drop-drop (startOf k (split 10 t)) (i + 1) s)) (on t)
-    go Nothing e on = rw (split-whole s e)
-
 -- the part that is told of a slip's field is the field that is handed back
-pub part-is-field : (s : List ℕ) (n : ℕ) → take (fieldPart s n .length) (drop (fieldPart s n .start) s) ≡ fieldOf s n
-unfolding fieldPart fieldOf
-part-is-field s n = go (leb 4 n && (leb n 14 && isAccepted (slipAnswer s)))
-  where
-    go : (b : Bool) → bytesOf (cond b (record { start = startOf (n - 1) (split 10 s); length = length (pieceOf (n - 1) (split 10 s)) }) noPart) s ≡ cond b (pieceOf (n - 1) (split 10 s)) []
-    go true = piece-stands (n - 1) s
-    go false = refl
+pub part-is-field : (s : List ℕ) (n : ℕ) → bytesOf (fieldPart s n) s ≡ fieldOf s n
+part-is-field s n = field-stands s n .1
 
 -- the part that is told of a wage line's place is the place that is handed back
 pub part-is-place : (s : List ℕ) (n : ℕ) → take (placePart s n .length) (drop (placePart s n .start) s) ≡ placeOf s n

@@ -2,6 +2,7 @@
 -- acceptance; then all else but what it tells is 0.
 use Prim.Native.Nat.{ℕ}
 use Rattle.refusal.specs.Refusal.{none, numberOf, placeOf, neededOf}
+use Rattle.refusal.specs.Verdict.{answerIn}
 use Rattle.refusal.specs.declared.Answer.{Answer}
 use Rattle.refusal.specs.declared.Answer.the-variants as answer
 use Rattle.refusal.specs.declared.Refusal.{Refusal}
@@ -31,6 +32,10 @@ refusal r = record { number = numberOf r; line = placeOf r .line; field = placeO
 unfoldable pub toldOf : Answer → Told
 toldOf answer.Accepted = accepted
 toldOf (answer.Refused r) = refusal r
+
+-- a verdict, told of no place
+abbrev pub verdictTold : ℕ → Told
+verdictTold v = toldOf (answerIn 0 v)
 
 -- an answer with a value: 0 where it is a refusal
 abbrev pub valued : Told → ℕ → Valued

@@ -3,13 +3,11 @@
 // Number 0 is acceptance, 1 to 17 are document 01's refusals. Nothing is lost: `numbers-tell-all` of the crate refusal.
 // A record of any numbers stands for a judge: one that the judge did not make gets an answer too.
 ghost use mathlib.Core.Path.{_≡_};
-ghost use lib.ListN.{getD, take};
-ghost use Rattle.refusal.specs.Refusal.{refusalOf, isAccepted};
-ghost use Rattle.text.specs.Split.{split};
-ghost use Rattle.slip.specs.Slip.{slipAnswer};
-ghost use Rattle.boundary.specs.Told.{accepted, refusal, toldOf, madeOf, listedOf, centsTold, writtenOf, endedOf, valued};
+ghost use lib.ListN.{take};
+ghost use Rattle.refusal.specs.Refusal.{refusalOf};
+ghost use Rattle.boundary.specs.Told.{accepted, refusal, toldOf, verdictTold, madeOf, listedOf, centsTold, writtenOf, endedOf, valued};
 ghost use Rattle.boundary.specs.Record.{conditionOf, judgeOf, recordOf, conditionTold};
-ghost use Rattle.boundary.specs.Parts.{startOf, fieldPart, placePart, givenOf};
+ghost use Rattle.boundary.specs.Parts.{placePart, givenOf};
 use check_digits::Made;
 use fillings::Listed;
 use judge::Condition;
@@ -23,8 +21,7 @@ use refusal::Refusal;
 use slip::Amount;
 use slip_writer::Written;
 use sums::Sum;
-use text::Class;
-use text::Found;
+use text::Part;
 use wage_line::Typed;
 
 // ---------------------------------------------------------------------------
@@ -95,6 +92,13 @@ pub fn tell(a: Answer) -> Told
         Answer::Accepted => accept(),
         Answer::Refused(r) => refuse(r),
     }
+}
+
+// A verdict, told of no place: a 3 tells its byte.
+pub fn tell_verdict(verdict: usize) -> Told
+    ensures { λ r. ⌜ r ≡ verdictTold verdict ⌝ }
+{
+    tell(refusal::answer_in(verdict, 0))
 }
 
 // Acceptance with a value.
@@ -316,73 +320,6 @@ pub fn record_from(j: Judge) -> Record
 // ---------------------------------------------------------------------------
 // Parts
 
-// A part of lent bytes.
-#[repr(C)]
-pub struct Part {
-    pub start: usize,
-    pub length: usize,
-}
-
-// Where the piece at a place begins, counted from 0.
-fn piece_start(s: &[u8], k: usize) -> usize
-    ensures { λ r. ⌜ r ≡ startOf k (split 10 (now (s .entry))) ⌝ }
-{
-    let mut left = k;
-    let mut at: usize = 0;
-    while 0 < left {
-        match text::first_bad(Class::Line, &s[at..]) {
-            Found::At(i) => {
-                left -= 1;
-                at += i + 1;
-            }
-            Found::Nothing => {
-                return at;
-            }
-        }
-    }
-    at
-}
-
-// Whether a slip is accepted.
-fn is_accepted(s: &[u8]) -> bool
-    ensures { λ r. ⌜ r ≡ isAccepted (slipAnswer (now (s .entry))) ⌝ }
-{
-    match slip::read(s) {
-        Answer::Accepted => true,
-        Answer::Refused(_) => false,
-    }
-}
-
-// Where a field of an accepted slip stands, 4 to 14; else no part.
-pub fn field_part(s: &[u8], number: usize) -> Part
-    ensures { λ r. ⌜ r ≡ fieldPart (now (s .entry)) number ⌝ }
-{
-    if number < 4 {
-        return Part {
-            start: 0,
-            length: 0,
-        };
-    }
-    if 14 < number {
-        return Part {
-            start: 0,
-            length: 0,
-        };
-    }
-    if !is_accepted(s) {
-        return Part {
-            start: 0,
-            length: 0,
-        };
-    }
-    let start = piece_start(s, number - 1);
-    let field = slip::field(s, number);
-    Part {
-        start,
-        length: field.len(),
-    }
-}
-
 // Where a place of a wage line stands; else no part.
 pub fn place_part(line: &[u8], field: usize) -> Part
     ensures { λ r. ⌜ r ≡ placePart (now (line .entry)) field ⌝ }
@@ -401,16 +338,6 @@ pub fn place_part(line: &[u8], field: usize) -> Part
     }
 }
 
-// How many bytes a field has; 0 past the last.
-fn size_at(sizes: &[usize], k: usize) -> usize
-    ensures { λ r. ⌜ r ≡ getD (now (sizes .entry)) k 0 ⌝ }
-{
-    if sizes.len() <= k {
-        return 0;
-    }
-    sizes[k]
-}
-
 // The front of a text, as far as it goes.
 fn front(s: &[u8], n: usize) -> &[u8]
     ensures { λ r. ⌜ now r ≡ take n (now (s .entry)) ⌝ }
@@ -425,5 +352,8 @@ fn front(s: &[u8], n: usize) -> &[u8]
 pub fn given<'a>(text: &'a [u8], sizes: &[usize], k: usize) -> &'a [u8]
     ensures { λ r. ⌜ now r ≡ givenOf (now (sizes .entry)) (now (text .entry)) k ⌝ }
 {
-    front(wage_draft::text_behind(text, sizes, k), size_at(sizes, k))
+    front(
+        wage_draft::text_behind(text, sizes, k),
+        wage_draft::size_at(sizes, k),
+    )
 }

@@ -7,18 +7,19 @@ use mathlib.Core.Bool.{Bool, true, _&&_}
 use mathlib.Core.List.{List, [], _∷_, _++_}
 use lib.Dec.{eqb}
 use Rattle.refusal.specs.Refusal.{answerNumber}
-use Rattle.text.specs.Bytes.{firstBad, allOf, same}
+use Rattle.refusal.specs.Verdict.{verdictNumber}
+use Rattle.text.specs.Bytes.{firstBad, bytesVerdict, allOf, countOf, same}
 use Rattle.text.specs.Digits.{digitsOf, valueFrom, digitsText}
 use Rattle.text.specs.Split.{split}
 use Rattle.check_digits.specs.CheckDigit.{weighted, carriedOver, checkDigit, passes}
 use Rattle.account.specs.Account.{ibanPasses, oibPasses}
-use Rattle.account.specs.Answers.{ibanAnswer, oibAnswer}
+use Rattle.account.specs.Answers.{ibanVerdict, oibVerdict}
 use Rattle.models.specs.Models.{modelOf, specialOf}
 use Rattle.reference.specs.Parts.{partsOf, partsFit, formed, joined, groupRight, groupsRight}
-use Rattle.reference.specs.Answers.{obeyAnswer, referenceAnswer}
+use Rattle.reference.specs.Answers.{referenceVerdict}
 use Rattle.characters.specs.Characters.{firstWrong, characters}
-use Rattle.slip_fields.specs.Fields.{fieldAnswer}
-use Rattle.slip.specs.Slip.{countOf, fieldsAnswer, slipAnswer}
+use Rattle.slip_fields.specs.Fields.{fieldVerdict}
+use Rattle.slip.specs.Slip.{fieldsAnswer, slipAnswer}
 use Rattle.slip_writer.specs.Writer.{joinLines, slipText}
 
 -- ---------------------------------------------------------------------------
@@ -89,9 +90,9 @@ data Case : Type 0 where
 
 -- the answer is the expected one
 unfoldable holds : Case → Bool
-holds (iban s n) = eqb (answerNumber (ibanAnswer s)) n
-holds (oib s n) = eqb (answerNumber (oibAnswer s)) n
-holds (reference m ps n) = eqb (answerNumber (referenceAnswer m (dashed ps))) n
+holds (iban s n) = eqb (verdictNumber (ibanVerdict s)) n
+holds (oib s n) = eqb (verdictNumber (oibVerdict s)) n
+holds (reference m ps n) = eqb (verdictNumber (referenceVerdict m (dashed ps))) n
 holds (slip s n) = eqb (answerNumber (slipAnswer s)) n
 
 unfoldable allHold : List Case → Bool
@@ -123,5 +124,5 @@ starred =
 
 -- the claim
 starred-cases-hold : allHold starred ≡ true
-unfolding starred allHold holds HR dashed digitsText firstBad allOf digitsOf valueFrom split weighted carriedOver checkDigit passes ibanPasses oibPasses modelOf specialOf partsOf partsFit formed joined groupRight groupsRight obeyAnswer printed slipText joinLines same firstWrong characters fieldAnswer countOf fieldsAnswer slipAnswer
+unfolding starred allHold holds HR dashed digitsText firstBad bytesVerdict allOf digitsOf valueFrom split weighted carriedOver checkDigit passes ibanPasses oibPasses modelOf specialOf partsOf partsFit formed joined groupRight groupsRight printed slipText joinLines same firstWrong characters fieldVerdict countOf fieldsAnswer slipAnswer
 starred-cases-hold = refl

@@ -12,12 +12,14 @@ use check::same;
 use check_digits::Made;
 use check_digits::Rule;
 use fillings::Listed;
-use libc::STDOUT_FILENO;
 use refusal::Answer;
 use refusal::Refusal;
 use slip_writer::Written;
 use text::Class;
 use text::Found;
+use words::front;
+use words::say;
+use words::say_number;
 
 fn main() {
     let mut input = [0u8; 262144];
@@ -39,14 +41,6 @@ fn find(s: &[u8], b: u8) -> usize
     i
 }
 
-// What stands before a place.
-fn front(s: &[u8], i: usize) -> &[u8] {
-    if i < s.len() {
-        return &s[..i];
-    }
-    s
-}
-
 // What stands after a place.
 fn beyond(s: &[u8], i: usize) -> &[u8] {
     if i < s.len() {
@@ -66,14 +60,6 @@ fn answer_all(s: &[u8]) {
     }
 }
 
-fn say(s: &[u8]) {
-    io::write_all(STDOUT_FILENO, s);
-}
-
-fn say_number(n: usize) {
-    io::print_decimal(STDOUT_FILENO, n as u64);
-}
-
 // Writes a line back with its answer.
 fn answer(line: &[u8]) {
     say(line);
@@ -85,16 +71,17 @@ fn answer(line: &[u8]) {
 
 fn answer_verb(verb: &[u8], rest: &[u8]) {
     if same(verb, b"iban") {
-        judged(account::iban(rest));
+        judged(refusal::answer_in(account::iban(rest), 0));
         return;
     }
     if same(verb, b"oib") {
-        judged(account::oib(rest));
+        judged(refusal::answer_in(account::oib(rest), 0));
         return;
     }
     if same(verb, b"ref") {
         let m = find(rest, 32);
-        judged(reference::reference(front(rest, m), beyond(rest, m)));
+        let verdict = reference::reference(front(rest, m), beyond(rest, m));
+        judged(refusal::answer_in(verdict, 0));
         return;
     }
     answer_digits(verb, rest);

@@ -13,11 +13,10 @@ use lib.Seq.{drop-cons, drop-length}
 use borrow.Author.Tests.{ne-eqb, lt-leb, le-leb, ltb-true, ltb-false}
 use Rattle.text.specs.Bytes.{later}
 use Rattle.text.specs.declared.Found.the-variants.{At, Nothing}
-use Rattle.text.proofs.Laws.{taken, left, both-true, shifted, shifted-zero, shifted-later}
-use Rattle.refusal.specs.Refusal.{none, byteAt}
-use Rattle.refusal.specs.declared.Answer.the-variants.{Accepted, Refused}
-use Rattle.refusal.specs.declared.Refusal.the-variants.{Length}
-use Rattle.characters.specs.Answers.{textAnswer}
+use Rattle.text.proofs.Laws.{taken, left, both-true, shifted, shifted-zero, shifted-later, Below, below-later}
+use Rattle.refusal.specs.Verdict.{wrongAt}
+use Rattle.refusal.proofs.Verdicts.{refused}
+use Rattle.characters.specs.Answers.{charactersVerdict}
 use Rattle.characters.specs.Characters.{isSingle, afterC4, afterC5, isPair, isCompleted, firstWrong, characters}
 
 -- ---------------------------------------------------------------------------
@@ -156,19 +155,39 @@ module _ (s : List ℕ) (i n : ℕ) (p : Passed s i n) where
         }
 
 -- ---------------------------------------------------------------------------
+-- Where the scan stops: within the text
+
+-- what the scan for characters finds
+pub wrong-below : (s : List ℕ) → Below (length s) (firstWrong s)
+unfolding firstWrong
+wrong-below [] = tt
+wrong-below (b ∷ []) = go (isSingle b)
+  where
+    go : (t : Bool) → Below 1 (cond t Nothing (At 0))
+    go true = tt
+    go false = omega arith
+wrong-below (b ∷ (c ∷ s)) = go (isSingle b) (isPair b c) (wrong-below (c ∷ s)) (wrong-below s)
+  where
+    go : (t u : Bool) → Below (suc (length s)) (firstWrong (c ∷ s)) → Below (length s) (firstWrong s) →
+        Below (suc (suc (length s))) (cond t (later (firstWrong (c ∷ s))) (cond u (later (later (firstWrong s))) (At 0)))
+    go true u f g = below-later (suc (length s)) (firstWrong (c ∷ s)) f
+    go false true f g = below-later (suc (length s)) (later (firstWrong s)) (below-later (length s) (firstWrong s) g)
+    go false false f g = omega arith
+
+-- ---------------------------------------------------------------------------
 -- The answers, by what the scan came to
 
 -- 3, told of the byte
-pub wrong-told : (most : ℕ) (s : List ℕ) (i : ℕ) → firstWrong s ≡ At i → byteAt i ≡ textAnswer most s
-wrong-told most s i e = rw e
+pub wrong-told : (most : ℕ) (s : List ℕ) (i : ℕ) → firstWrong s ≡ At i → wrongAt i ≡ charactersVerdict most s
+wrong-told most s i e = rw e (refused (wrongAt i) _ (wrongAt i) (λ z. omega arith) refl)
 
 module _ (most n : ℕ) (s : List ℕ) (e : (firstWrong s ≡ Nothing) × (characters s ≡ n)) where
   -- 4
-  pub long-told : most < n → Refused (Length none) ≡ textAnswer most s
+  pub long-told : most < n → 4 ≡ charactersVerdict most s
   long-told h = rw (e .0, e .1, lt-leb n most h)
 
   -- not too many characters
-  pub short-accepted : n ≤ most → Accepted ≡ textAnswer most s
+  pub short-accepted : n ≤ most → 0 ≡ charactersVerdict most s
   short-accepted h = rw (e .0, e .1, le-leb n most h)
 
 -- ---------------------------------------------------------------------------

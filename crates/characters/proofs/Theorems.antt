@@ -10,16 +10,13 @@ use lib.Dec.{eqb, leb}
 use lib.ListN.{length, getD}
 use borrow.Author.Tests.{leb-true, le-leb, eqb-true}
 use Rattle.refusal.specs.Only.{Only, defined-only}
-use Rattle.refusal.specs.Refusal.{none}
-use Rattle.refusal.specs.declared.Answer.{Answer}
-use Rattle.refusal.specs.declared.Answer.the-variants.{Accepted, Refused}
-use Rattle.refusal.specs.declared.Refusal.{Refusal}
-use Rattle.refusal.specs.declared.Refusal.the-variants.{Length}
-use Rattle.text.specs.Bytes.{later}
+use Rattle.refusal.proofs.Verdicts.{both-pass, test-holds}
+use Rattle.text.specs.Bytes.{later, found}
+use Rattle.text.proofs.Laws.{nothing-found}
 use Rattle.text.specs.declared.Found.{Found}
 use Rattle.text.specs.declared.Found.the-variants.{At, Nothing}
 use Rattle.characters.specs.Characters.{isSingle, afterC4, afterC5, isPair, firstWrong, characters}
-use Rattle.characters.specs.Answers.{textFrom, textAnswer}
+use Rattle.characters.specs.Answers.{charactersVerdict}
 use Rattle.characters.proofs.Laws.{single-passed, single-counted, pair-passed, pair-counted}
 
 -- ---------------------------------------------------------------------------
@@ -77,18 +74,12 @@ permitted-exactly s = (is-permitted s, nothing-wrong)
 -- ---------------------------------------------------------------------------
 -- Accepted exactly when
 
--- a choice accepts only where its test holds
-accepts : (r : Refusal) (b : Bool) → cond b Accepted (Refused r) ≡ Accepted → b ≡ true
-accepts r true e = refl
-accepts r false e = let z : _≡_ {A = ℕ} 0 1 = cc in absurd (omega arith)
-
 -- a text is accepted exactly when nothing in it is wrong and its characters are not too many
-pub accepted-exactly : (most : ℕ) (s : List ℕ) → (textAnswer most s ≡ Accepted) ↔ ((firstWrong s ≡ Nothing) × (characters s ≤ most))
-accepted-exactly most s = go (firstWrong s)
-  where
-    go : (f : Found) → (textFrom most s f ≡ Accepted) ↔ ((f ≡ Nothing) × (characters s ≤ most))
-    go (At i) = (λ e. let z : _≡_ {A = ℕ} 0 1 = cc in absurd (omega arith), λ h. let e = h .0 in let z : _≡_ {A = ℕ} 0 1 = cc in absurd (omega arith))
-    go Nothing = (λ e. (refl, leb-true (characters s) most (accepts (Length none) (leb (characters s) most) e)), λ h. rw (le-leb (characters s) most (h .1)))
+pub accepted-exactly : (most : ℕ) (s : List ℕ) → (charactersVerdict most s ≡ 0) ↔ ((firstWrong s ≡ Nothing) × (characters s ≤ most))
+accepted-exactly most s = (
+  λ e. let h = both-pass (found (firstWrong s)) _ e in (nothing-found (firstWrong s) (h .0), leb-true (characters s) most (test-holds _ 4 refl (h .1))),
+  λ h. rw (h .0, le-leb (characters s) most (h .1)),
+)
 
 -- ---------------------------------------------------------------------------
 -- Characters against bytes
@@ -153,8 +144,8 @@ no-line-feed = stands-nowhere 10 line-feed-in-none
 -- Any two answers that the contract allows are equal
 
 -- of a text field
-pub judge-only : (most : ℕ) (s : List ℕ) → Only (λ (r : Answer). r ≡ textAnswer most s)
-judge-only most s = defined-only (textAnswer most s)
+pub judge-only : (most : ℕ) (s : List ℕ) → Only (λ (r : ℕ). r ≡ charactersVerdict most s)
+judge-only most s = defined-only (charactersVerdict most s)
 
 -- ---------------------------------------------------------------------------
 -- "Thirty Ž in field 4 pass; thirty-one give 4"
@@ -165,11 +156,11 @@ manyŽ zero = []
 manyŽ (suc n) = 197 ∷ (189 ∷ manyŽ n)
 
 -- thirty are accepted
-pub thirty-accepted : textAnswer 30 (manyŽ 30) ≡ Accepted
+pub thirty-accepted : charactersVerdict 30 (manyŽ 30) ≡ 0
 unfolding manyŽ firstWrong characters
 thirty-accepted = refl
 
 -- thirty-one are 4
-pub thirty-one-refused : textAnswer 30 (manyŽ 31) ≡ Refused (Length none)
+pub thirty-one-refused : charactersVerdict 30 (manyŽ 31) ≡ 4
 unfolding manyŽ firstWrong characters
 thirty-one-refused = refl

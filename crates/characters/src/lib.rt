@@ -2,21 +2,8 @@
 //
 // Document 01, "The slip's fourteen fields", last paragraph.
 ghost use mathlib.Core.Path.{_≡_};
-ghost use Rattle.text.specs.Bytes.{isLetter};
 ghost use Rattle.characters.specs.Characters.{isSmallLetter, isSign, isSingle, afterC4, afterC5, isPair, isCompleted};
-ghost use Rattle.characters.specs.Answers.{textAnswer};
-use refusal::Answer;
-use refusal::Refusal;
-
-// Whether a byte is a letter, A to Z.
-fn is_letter(b: u8) -> bool
-    ensures { λ r. ⌜ r ≡ isLetter b ⌝ }
-{
-    if b < 65 {
-        return false;
-    }
-    b <= 90
-}
+ghost use Rattle.characters.specs.Answers.{charactersVerdict};
 
 // Whether a byte is a letter, a to z.
 fn is_small_letter(b: u8) -> bool
@@ -57,7 +44,7 @@ fn is_single(b: u8) -> bool
     if text::is_digit(b) {
         return true;
     }
-    if is_letter(b) {
+    if text::is_letter(b) {
         return true;
     }
     if is_small_letter(b) {
@@ -127,9 +114,9 @@ fn is_completed(b: u8, s: &[u8], at: usize) -> bool
     is_pair(b, s[at])
 }
 
-// A text field of at most `most` characters: 3 with its byte, then 4.
-pub fn judge(most: usize, s: &[u8]) -> Answer
-    ensures { λ r. ⌜ r ≡ textAnswer most (now (s .entry)) ⌝ }
+// A text field of at most `most` characters: 3 with its byte, then 4; a verdict.
+pub fn judge(most: usize, s: &[u8]) -> usize
+    ensures { λ r. ⌜ r ≡ charactersVerdict most (now (s .entry)) ⌝ }
 {
     let mut n: usize = 0;
     let mut i = 0;
@@ -140,14 +127,14 @@ pub fn judge(most: usize, s: &[u8]) -> Answer
         } else {
             let second = i + 1;
             if !is_completed(s[i], s, second) {
-                return refusal::byte_at(i);
+                return 32 + i;
             }
             n += 1;
             i += 2;
         }
     }
     if n > most {
-        return Answer::Refused(Refusal::Length(refusal::nowhere()));
+        return 4;
     }
-    Answer::Accepted
+    0
 }

@@ -7,30 +7,30 @@ ghost use mathlib.Core.Bool.{cond};
 ghost use lib.Dec.{eqb};
 ghost use lib.ListN.{length};
 ghost use Rattle.check_digits.specs.Answers.{checkAnswer, makeAnswer};
-ghost use Rattle.account.specs.Answers.{ibanAnswer, oibAnswer, isIban};
-ghost use Rattle.reference.specs.Answers.{referenceAnswer};
+ghost use Rattle.account.specs.Answers.{ibanVerdict, oibVerdict, isIban};
+ghost use Rattle.reference.specs.Answers.{referenceVerdict};
 ghost use Rattle.fillings.specs.Fillings.{fillings};
 ghost use Rattle.fillings.specs.Wet.{ibanListing, referenceListing, referenceFillings};
 ghost use Rattle.fillings.specs.Answers as fillings;
 ghost use Rattle.fillings.specs.Answers.{filledAnswer, filledBy};
-ghost use Rattle.slip.specs.Slip.{slipAnswer, centsOf};
+ghost use Rattle.slip.specs.Slip.{slipAnswer, fieldPart, centsOf};
 ghost use Rattle.wage_writer.specs.Writer.{labelAnswer, labelDraft, orderAnswer, orderDraft, groupAnswer, groupDraft, closingAnswer};
 ghost use Rattle.wage_draft.specs.Draft.{bareLine};
 ghost use Rattle.wage_draft.specs.Fields.{fieldsOf};
 ghost use Rattle.judge.specs.Judge.{begun, stepped, steps, ended};
 ghost use Rattle.wage_line.specs.Pieces.{pieces};
 ghost use Rattle.wage_file.specs.File.{fileAnswer};
-ghost use Rattle.boundary.specs.Told.{toldOf, madeOf, listedOf, centsTold, endedOf, noRule, valued};
+ghost use Rattle.boundary.specs.Told.{toldOf, verdictTold, madeOf, listedOf, centsTold, endedOf, noRule, valued};
 ghost use Rattle.boundary.specs.Record.{judgeOf, recordOf};
-ghost use Rattle.boundary.specs.Parts.{fieldPart, placePart};
+ghost use Rattle.boundary.specs.Parts.{placePart};
 ghost use Rattle.desk.specs.Writes.{elevenOf, WritesSlipGiven, WritesLine};
 use boundary::Ended;
-use boundary::Part;
 use boundary::Record;
 use boundary::Told;
 use boundary::Valued;
 use check_digits::Rule;
 use refusal::Refusal;
+use text::Part;
 use wage_line::LineType;
 
 // ---------------------------------------------------------------------------
@@ -67,25 +67,25 @@ pub extern "C" fn lanecockle_make_digit(rule: u32, digits: &[u8]) -> Valued
 // An IBAN.
 #[no_mangle]
 pub extern "C" fn lanecockle_iban(text: &[u8]) -> Told
-    ensures { λ r. ⌜ r ≡ toldOf (ibanAnswer (now (text .entry))) ⌝ }
+    ensures { λ r. ⌜ r ≡ verdictTold (ibanVerdict (now (text .entry))) ⌝ }
 {
-    boundary::tell(account::iban(text))
+    boundary::tell_verdict(account::iban(text))
 }
 
 // An OIB.
 #[no_mangle]
 pub extern "C" fn lanecockle_oib(text: &[u8]) -> Told
-    ensures { λ r. ⌜ r ≡ toldOf (oibAnswer (now (text .entry))) ⌝ }
+    ensures { λ r. ⌜ r ≡ verdictTold (oibVerdict (now (text .entry))) ⌝ }
 {
-    boundary::tell(account::oib(text))
+    boundary::tell_verdict(account::oib(text))
 }
 
 // A reference under its model.
 #[no_mangle]
 pub extern "C" fn lanecockle_reference(model: &[u8], text: &[u8]) -> Told
-    ensures { λ r. ⌜ r ≡ toldOf (referenceAnswer (now (model .entry)) (now (text .entry))) ⌝ }
+    ensures { λ r. ⌜ r ≡ verdictTold (referenceVerdict (now (model .entry)) (now (text .entry))) ⌝ }
 {
-    boundary::tell(reference::reference(model, text))
+    boundary::tell_verdict(reference::reference(model, text))
 }
 
 // ---------------------------------------------------------------------------
@@ -131,7 +131,7 @@ pub extern "C" fn lanecockle_slip_read(slip: &[u8]) -> Told
 pub extern "C" fn lanecockle_slip_field(slip: &[u8], number: usize) -> Part
     ensures { λ r. ⌜ r ≡ fieldPart (now (slip .entry)) number ⌝ }
 {
-    boundary::field_part(slip, number)
+    slip::part(slip, number)
 }
 
 // The amount of an accepted slip in cents.

@@ -4,8 +4,10 @@
 // A line of any length is kept by `line` as far as a listing can tell it from another; proofs/Theorems.antt says that
 // the kept line gets the whole line's answer.
 use fillings::Listed;
-use libc::STDOUT_FILENO;
 use line::Seen;
+use words::front;
+use words::say;
+use words::say_number;
 
 // A line as far as it was read, and whether there may be more.
 struct Progress {
@@ -50,22 +52,6 @@ fn read_line(head: &mut [u8], tail: &mut [u8]) -> Seen {
         turns -= 1;
     }
     seen
-}
-
-// The first n bytes.
-fn front(s: &[u8], n: usize) -> &[u8] {
-    if n < s.len() {
-        return &s[..n];
-    }
-    s
-}
-
-fn say(s: &[u8]) {
-    io::write_all(STDOUT_FILENO, s);
-}
-
-fn say_number(n: usize) {
-    io::print_decimal(STDOUT_FILENO, n as u64);
 }
 
 // Answers the line that was kept: no line feed is 1.

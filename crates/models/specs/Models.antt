@@ -4,10 +4,7 @@ use mathlib.Core.Bool.{true, false, cond, _&&_}
 use mathlib.Core.List.{List, [], _∷_}
 use lib.Dec.{eqb}
 use lib.ListN.{length, getD}
-use Rattle.refusal.specs.Refusal.{none}
-use Rattle.refusal.specs.declared.Answer.{Answer}
-use Rattle.refusal.specs.declared.Answer.the-variants.{Accepted, Refused}
-use Rattle.refusal.specs.declared.Refusal.the-variants.{Form, Model as Unhandled}
+use Rattle.refusal.specs.Verdict.{onlyIf}
 use Rattle.text.specs.Digits.{twoDigits}
 use Rattle.text.specs.declared.Found.{Found}
 use Rattle.text.specs.declared.Found.the-variants.{At, Nothing}
@@ -89,9 +86,10 @@ modelOf n =
 -- ---------------------------------------------------------------------------
 -- What judging a model's text answers: "`HR` and two digits, else 5 (never 3 or 4); then 7"
 
-abbrev pub modelFrom : Found → Answer
-modelFrom (At n) = cond (modelOf n .handled) Accepted (Refused (Unhandled none))
-modelFrom Nothing = Refused (Form none)
+-- of a model's number
+abbrev pub modelFrom : Found → ℕ
+modelFrom (At n) = onlyIf (modelOf n .handled) 7
+modelFrom Nothing = 5
 
-abbrev pub modelAnswer : List ℕ → Answer
-modelAnswer s = modelFrom (modelNumber s)
+abbrev pub modelVerdict : List ℕ → ℕ
+modelVerdict s = modelFrom (modelNumber s)

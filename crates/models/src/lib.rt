@@ -4,10 +4,8 @@
 // whoever judges a reference goes by the value that it gives.
 ghost use mathlib.Core.Path.{_≡_};
 ghost use Prim.Native.Nat.{_≤_, _<_, _+_};
-ghost use Rattle.models.specs.Models.{model, plain, over, modelNumber, modelOf, specialOf, modelAnswer};
+ghost use Rattle.models.specs.Models.{model, plain, over, modelNumber, modelOf, specialOf, modelVerdict};
 use check_digits::Rule;
-use refusal::Answer;
-use refusal::Refusal;
 use text::Found;
 
 // A check group: how many parts stand before it, how many it joins, and the rule that its last digit obeys.
@@ -131,17 +129,17 @@ fn special(n: usize) -> Model
 }
 
 // A model's text: 5, then 7 where it is not handled.
-pub fn judge(s: &[u8]) -> Answer
-    ensures { λ r. ⌜ r ≡ modelAnswer (now (s .entry)) ⌝ }
+pub fn judge(s: &[u8]) -> usize
+    ensures { λ r. ⌜ r ≡ modelVerdict (now (s .entry)) ⌝ }
 {
     match number(s) {
         Found::At(n) => {
             let m = rules(n);
             if m.handled {
-                return Answer::Accepted;
+                return 0;
             }
-            Answer::Refused(Refusal::Model(refusal::nowhere()))
+            7
         }
-        Found::Nothing => Answer::Refused(Refusal::Form(refusal::nowhere())),
+        Found::Nothing => 5,
     }
 }

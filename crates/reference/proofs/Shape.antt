@@ -1,10 +1,10 @@
--- A reference's shape: where its hyphens are, and that all else is digits. Whether a text is formed, and where its parts stand, depends
--- on its shape alone; what a listing of fillings asks of each filling is then its groups.
+-- A reference's shape: where its hyphens are, and that all else is digits. Whether a text is formed, and where its parts end, depends on its
+-- shape alone: what is found of one filling of a wet text holds of all.
 -- Assumes nothing.
 use mathlib.Core.Path.{_≡_, refl, sym, ap, _∙_}
 use mathlib.Core.Bool.{Bool, true, false, cond, _&&_}
 use mathlib.Core.List.{List, [], _∷_}
-use Prim.Native.Nat.{ℕ, zero, suc}
+use Prim.Native.Nat.{ℕ, suc, _+_}
 use lib.Dec.{eqb}
 use lib.ListN.{length}
 use native.Mathlib.Omega.{arith}
@@ -14,10 +14,8 @@ use Rattle.text.specs.declared.Class.the-variants.{Digits}
 use Rattle.text.proofs.Laws.{digit-bounds}
 use Rattle.models.specs.declared.Model.{Model}
 use Rattle.text.specs.Split.{longer, split}
-use Rattle.reference.specs.Parts.{partsOf, partsFit, formed, groupsRight}
-use Rattle.reference.specs.Groups.{afterHyphens, groupsHold}
-use Rattle.reference.specs.Answers.{obeys}
-use Rattle.reference.proofs.Stretches.{formed-groups}
+use Rattle.reference.specs.Parts.{partsOf, partsFit, formed}
+use Rattle.reference.specs.Ends.{endsFrom, partsFound}
 
 -- ---------------------------------------------------------------------------
 -- The shape
@@ -37,7 +35,7 @@ shapesOf (p ∷ ps) = shapeOf p ∷ shapesOf ps
 -- ---------------------------------------------------------------------------
 -- What the shape keeps
 
-pub shape-length : (s : List ℕ) → length (shapeOf s) ≡ length s
+shape-length : (s : List ℕ) → length (shapeOf s) ≡ length s
 unfolding shapeOf
 shape-length [] = refl
 shape-length (b ∷ s) = ap suc (shape-length s)
@@ -95,31 +93,19 @@ shapes-fit (l ∷ []) (p ∷ ps) = refl
 shapes-fit (l ∷ (m ∷ ls)) (p ∷ ps) = rw (shape-digits p, shape-length p, shapes-fit ls ps)
 
 -- a text is formed where its shape is
-pub shape-formed : (model : Model) (s : List ℕ) → formed model (shapeOf s) ≡ formed model s
+shape-formed : (model : Model) (s : List ℕ) → formed model (shapeOf s) ≡ formed model s
 unfolding formed
 shape-formed model s = rw (shape-parts s, shapes-length (partsOf s), shapes-fit (model .lengths) (partsOf s))
 
--- so texts of one shape are both formed, or neither
-pub same-shape-formed : (model : Model) (s t : List ℕ) → shapeOf s ≡ shapeOf t → formed model s ≡ formed model t
-same-shape-formed model s t e = sym (shape-formed model s) ∙ ap (formed model) e ∙ shape-formed model t
+-- and its parts end where those of its shape do
+shapes-end : (at : ℕ) (ps : List (List ℕ)) → endsFrom at (shapesOf ps) ≡ endsFrom at ps
+unfolding shapesOf endsFrom
+shapes-end at [] = refl
+shapes-end at (p ∷ ps) = rw (shape-length p, shapes-end (at + length p + 1) ps)
 
--- hyphens stand where they stand in the shape
-pub shape-after : (k : ℕ) (s : List ℕ) → afterHyphens k (shapeOf s) ≡ afterHyphens k s
-unfolding shapeOf afterHyphens
-shape-after zero s = refl
-shape-after (suc k) [] = refl
-shape-after (suc k) (b ∷ s) = rw (shape-hyphen b, shape-after k s, shape-after (suc k) s)
-
-pub same-shape-after : (k : ℕ) (s t : List ℕ) → shapeOf s ≡ shapeOf t → afterHyphens k s ≡ afterHyphens k t
-same-shape-after k s t e = sym (shape-after k s) ∙ ap (afterHyphens k) e ∙ shape-after k t
-
--- ---------------------------------------------------------------------------
--- A model obeyed
-
--- a text is accepted by its model where it is formed and its groups hold
-pub obeys-groups : (model : Model) (s : List ℕ) → obeys model s ≡ (formed model s && groupsHold (model .groups) s)
-obeys-groups model s = go (formed model s) refl
+-- so in texts of one shape the same is found
+pub same-shape-found : (model : Model) (s t : List ℕ) → shapeOf s ≡ shapeOf t → partsFound model s ≡ partsFound model t
+same-shape-found model s t e = sym (found s) ∙ ap (partsFound model) e ∙ found t
   where
-    go : (t : Bool) → formed model s ≡ t → (t && groupsRight (model .groups) (partsOf s)) ≡ (t && groupsHold (model .groups) s)
-    go true e = sym (formed-groups model s e)
-    go false e = refl
+    found : (s : List ℕ) → partsFound model (shapeOf s) ≡ partsFound model s
+    found s = rw (shape-formed model s, shape-parts s, shapes-end 0 (partsOf s))

@@ -1,254 +1,245 @@
--- The parts of a text are stretches of it, in which hyphens do not count: so a formed text's check groups hold (specs/Groups.antt) where
--- their parts pass (specs/Parts.antt).
+-- The ends of parts unpacked (specs/Ends.antt), and check groups as stretches of the text between them, in which hyphens do not count: so
+-- what `obeysAt` asks of a formed text is what `partsRight` asks of its parts (specs/Parts.antt).
 -- Assumes nothing.
 use mathlib.Core.Path.{_≡_, refl, sym, ap, _∙_}
-use mathlib.Core.Bool.{Bool, true, false, cond, _&&_, false≢true}
-use mathlib.Core.List.{List, [], _∷_, _++_}
-use mathlib.Core.Logic.{_⊎_, inl, inr, ⊎-elim}
-use Prim.Native.Nat.{ℕ, zero, suc, _+_, _-_, _<_}
+use mathlib.Core.Bool.{Bool, true, false, cond, not, _&&_, _||_, and-true, and-false}
+use mathlib.Core.List.{List, [], _∷_, _++_, append-assoc, append-nil}
+use Prim.Native.Nat.{ℕ, zero, suc, _+_, _*_, _-_, _/_, _≤_, _<_, _^_}
+use native.Mathlib.Numerals.{add-one}
 use native.Mathlib.Omega.{arith}
-use lib.Dec.{eqb, leb, ltb}
-use lib.ListN.{length, take, drop}
-use lib.Seq.{drop-nil, take-nil}
-use borrow.Author.Tests.{ne-eqb, eqb-true, ltb-true}
-use Rattle.text.specs.Bytes.{isDigit, allOf, later}
+use native.Mathlib.Nat.{zero-add, suc-add, pow-succ', zero-div, div-div-eq-div-mul}
+use lib.Dec.{eqb, leb, ltb, eqb·suc-zero, leb·zero}
+use lib.ListN.{length, take, drop, getD, length-append, length-take, length-drop, drop-of-length-le}
+use lib.Seq.{take-nil, take-all, take-length, take-append-seam, take-append-add, drop-append-add, drop-drop, getD-append-add, append-snoc, drop-cons}
+use borrow.Author.Tests.{ne-eqb, lt-ltb, le-leb, lt-leb, ltb-true, ltb-false, leb-true, leb-false}
 use Rattle.text.specs.Digits.{digitsOf}
-use Rattle.text.specs.declared.Class.the-variants.{Digits}
-use Rattle.text.specs.declared.Found.{Found}
-use Rattle.text.specs.declared.Found.the-variants.{At, Nothing}
-use Rattle.text.proofs.Laws.{both-true}
+use Rattle.text.proofs.Laws.{digits-append, to-the-end}
 use Rattle.check_digits.specs.declared.Rule.{Rule}
 use Rattle.check_digits.specs.CheckDigit.{checkDigit, passes}
-use Rattle.check_digits.proofs.Theorems.{passes-snoc}
 use Rattle.models.specs.declared.Group.{Group}
 use Rattle.models.specs.declared.Model.{Model}
-use Rattle.text.specs.Split.{longer, split}
-use Rattle.reference.specs.Parts.{partsOf, partsFit, formed, joined, present, groupRight, groupsRight}
-use Rattle.reference.specs.Groups.{afterHyphens, stretchHolds, before, headHolds, heldFrom, groupHolds, groupsHold}
-use Rattle.reference.proofs.Readers.{first-part}
+use Rattle.reference.specs.Parts.{partsOf, formed, joined, present, groupRight, groupsRight, partsRight}
+use Rattle.reference.specs.Ends.{endsFrom, endsOf, endOf, startOf, upTo, countFits, stretchRight, groupAt, groupsAt, obeysAt}
+use Rattle.reference.proofs.Pieces.{bound, spanOf, Solid, bound-parts, short-span, formed-solid}
+
+-- ---------------------------------------------------------------------------
+-- The ends, unpacked
+
+-- the ends behind the first
+end-next : (k a x : ℕ) → a < 1024 → endOf (suc k) (a + 1024 * x) ≡ endOf k x
+end-next k a x h =
+    let e : (a + 1024 * x) / 1024 ≡ x = omega arith in
+    rw (pow-succ' 1024 k, ← (div-div-eq-div-mul (a + 1024 * x) 1024 (1024 ^ k)), e)
+
+-- a part ends where it does
+end-there : (k at : ℕ) (ps : List (List ℕ)) → k < length ps → at + spanOf ps ≤ 1024 → endOf k (endsFrom at ps) ≡ at + length (bound (take (suc k) ps))
+unfolding endsFrom spanOf bound
+end-there k at [] h g = absurd (omega arith)
+end-there zero at (p ∷ ps) h g = omega arith
+end-there (suc k) at (p ∷ []) h g = absurd (omega arith)
+end-there (suc k) at (p ∷ (q ∷ ps)) h g =
+    end-next k (at + length p) _ (omega arith) ∙ end-there k (at + length p + 1) (q ∷ ps) (omega arith) (omega arith)
+    ∙ rw (length-append p (45 ∷ bound (q ∷ take k ps))) (omega arith)
+
+-- a part that is not there has no end
+end-gone : (k at : ℕ) (ps : List (List ℕ)) → length ps ≤ k → at + spanOf ps ≤ 1024 → endOf k (endsFrom at ps) ≡ 0
+unfolding endsFrom spanOf
+end-gone k at [] h g = rw (zero-div (1024 ^ k))
+end-gone zero at (p ∷ ps) h g = absurd (omega arith)
+end-gone (suc k) at (p ∷ ps) h g = end-next k (at + length p) _ (omega arith) ∙ end-gone k (at + length p + 1) ps (omega arith) (omega arith)
 
 -- ---------------------------------------------------------------------------
 -- Parts of the text are stretches of it
 
--- no part is empty
-abbrev pub Solid : List (List ℕ) → Type 0
-Solid [] = Unit
-Solid (p ∷ ps) = (0 < length p) × Solid ps
+-- the first parts stand at the front
+bound-front : (k : ℕ) (ps : List (List ℕ)) → take (length (bound (take (suc k) ps))) (bound ps) ≡ bound (take (suc k) ps)
+unfolding bound
+bound-front k [] = refl
+bound-front zero (p ∷ []) = take-length p
+bound-front zero (p ∷ (q ∷ ps)) = take-append-seam p (45 ∷ bound (q ∷ ps))
+bound-front (suc k) (p ∷ []) = take-length p
+bound-front (suc k) (p ∷ (q ∷ ps)) =
+    rw (length-append p (45 ∷ bound (q ∷ take k ps)), take-append-add p (45 ∷ bound (q ∷ ps)))
+    (ap (λ (l : List ℕ). p ++ (45 ∷ l)) (bound-front k (q ∷ ps)))
 
-solid-drop : (k : ℕ) (ps : List (List ℕ)) → Solid ps → Solid (drop k ps)
-solid-drop zero ps h = h
-solid-drop (suc k) [] h = h
-solid-drop (suc k) (p ∷ ps) h = solid-drop k ps (h .1)
+-- a text from a byte a up to a byte e is parts with their hyphens
+pub record Stretch (t : List ℕ) (a e : ℕ) (ps : List (List ℕ)) : Type 0 where
+  forward : a ≤ e
+  within : e ≤ length t
+  content : take (e - a) (drop a t) ≡ bound ps
+
+-- solid parts have bytes
+bound-some : (ps : List (List ℕ)) → Solid ps → 0 < length ps → 0 < length (bound ps)
+unfolding bound
+bound-some [] s h = absurd (omega arith)
+bound-some (p ∷ []) s h = s .0
+bound-some (p ∷ (q ∷ ps)) s h = rw (length-append p (45 ∷ bound (q ∷ ps))) (omega arith)
 
 solid-take : (k : ℕ) (ps : List (List ℕ)) → Solid ps → Solid (take k ps)
 solid-take zero ps h = tt
 solid-take (suc k) [] h = h
 solid-take (suc k) (p ∷ ps) h = (h .0, solid-take k ps (h .1))
 
--- a part that fits is digits, not empty, and those after it fit
-pub fit-first : (l m : ℕ) (ls p : List ℕ) (ps : List (List ℕ)) → partsFit (l ∷ (m ∷ ls)) (p ∷ ps) ≡ true → (allOf Digits p ≡ true) × (0 < length p) × (partsFit ls ps ≡ true)
-unfolding partsFit
-fit-first l m ls p ps e =
-    let d = both-true (leb (length p) m) (partsFit ls ps) in
-    let c = both-true (leb l (length p)) (leb (length p) m && partsFit ls ps) in
-    let b = both-true (ltb 0 (length p)) (leb l (length p) && (leb (length p) m && partsFit ls ps)) in
-    let a = both-true (allOf Digits p) (ltb 0 (length p) && (leb l (length p) && (leb (length p) m && partsFit ls ps))) e in
-    (a .0, ltb-true 0 (length p) (b (a .1) .0), d (c (b (a .1) .1) .1) .1)
+solid-drop : (k : ℕ) (ps : List (List ℕ)) → Solid ps → Solid (drop k ps)
+solid-drop zero ps h = h
+solid-drop (suc k) [] h = h
+solid-drop (suc k) (p ∷ ps) h = solid-drop k ps (h .1)
 
--- parts that fit are not empty
-pub fit-solid : (lengths : List ℕ) (ps : List (List ℕ)) → partsFit lengths ps ≡ true → Solid ps
-unfolding partsFit
-fit-solid lengths [] e = tt
-fit-solid [] (p ∷ ps) e = absurd (false≢true e)
-fit-solid (l ∷ []) (p ∷ ps) e = absurd (false≢true e)
-fit-solid (l ∷ (m ∷ ls)) (p ∷ ps) e = let w = fit-first l m ls p ps e in (w .1, fit-solid ls ps (w .2))
+-- the end of part k is some byte, where it is there
+end-some : (k at : ℕ) (ps : List (List ℕ)) → Solid ps → at + spanOf ps ≤ 1024 → k < length ps → endOf k (endsFrom at ps) ≡ 0 → ⊥
+end-some k at ps s g h e = omega (arith, end-there k at ps h g, bound-some (take (suc k) ps) (solid-take (suc k) ps s) (omega (arith, length-take (suc k) ps)))
 
--- a byte more at the front of the first part leaves those after it
-drop-longer : (b k : ℕ) (ps : List (List ℕ)) → drop (suc k) (longer b ps) ≡ drop (suc k) ps
-drop-longer b k [] = drop-nil k
-drop-longer b k (p ∷ ps) = refl
+-- a part behind another begins where it does without it
+start-next :
+    (k at : ℕ) (p : List ℕ) (ps : List (List ℕ)) → at + length p < 1024 →
+    cond (eqb (suc k) 0) at (endOf (suc k - 1) (endsFrom at (p ∷ ps)) + 1) ≡ cond (eqb k 0) (at + length p + 1) (endOf (k - 1) (endsFrom (at + length p + 1) ps) + 1)
+unfolding endsFrom
+start-next zero at p ps h = omega arith
+start-next (suc k) at p ps h =
+    let x : suc (suc k) - 1 ≡ suc k = omega arith in
+    let y : suc k - 1 ≡ k = omega arith in
+    rw (x, y, eqb·suc-zero (suc k), eqb·suc-zero k, end-next k (at + length p) (endsFrom (at + length p + 1) ps) h)
 
--- the text from a place on has the parts ps
-abbrev From : List (List ℕ) → List ℕ → Found → Type 0
-From ps s (At a) = split 45 (drop a s) ≡ ps
-From ps s Nothing = ps ≡ []
-
--- a byte more before a place
-from-later : (b : ℕ) (s : List ℕ) (ps : List (List ℕ)) (f : Found) → From ps s f → From ps (b ∷ s) (later f)
-from-later b s ps (At a) h = h
-from-later b s ps Nothing h = h
-
--- after k hyphens come the parts after k
-after-from : (k : ℕ) (s : List ℕ) → From (drop k (split 45 s)) s (afterHyphens k s)
-unfolding afterHyphens split
-after-from zero s = refl
-after-from (suc k) [] = drop-nil k
-after-from (suc k) (b ∷ s) = go (eqb b 45) (after-from k s) (after-from (suc k) s)
+-- parts from the k-th on, of a text in which they begin at a byte
+stretched :
+    (k j at : ℕ) (ps : List (List ℕ)) (t : List ℕ) → k < length ps → at + spanOf ps ≤ 1024 → Solid ps → drop at t ≡ bound ps → length t ≡ at + length (bound ps) →
+    Stretch t (cond (eqb k 0) at (endOf (k - 1) (endsFrom at ps) + 1)) (upTo (endOf (k + j) (endsFrom at ps)) t) (take (suc j) (drop k ps))
+unfolding endsFrom spanOf bound
+stretched zero j at ps t h g s d n = rw (zero-add j) (go (ltb j (length ps)) refl)
   where
-    go : (h : Bool) → From (drop k (split 45 s)) s (afterHyphens k s) → From (drop (suc k) (split 45 s)) s (afterHyphens (suc k) s) → From (drop (suc k) (cond h ([] ∷ split 45 s) (longer b (split 45 s)))) (b ∷ s) (later (cond h (afterHyphens k s) (afterHyphens (suc k) s)))
-    go true f g = from-later b s (drop k (split 45 s)) (afterHyphens k s) f
-    go false f g = rw (drop-longer b k (split 45 s)) (from-later b s (drop (suc k) (split 45 s)) (afterHyphens (suc k) s) g)
-
--- the text before the hyphen before a place has the parts qs
-abbrev Upto : List (List ℕ) → List ℕ → Found → Type 0
-Upto qs s (At e) = (0 < e) × (split 45 (take (e - 1) s) ≡ qs)
-Upto qs s Nothing = split 45 s ≡ qs
-
--- a byte more before a place, which changes the parts from qs to rs
-upto-later : (b : ℕ) (s : List ℕ) (qs rs : List (List ℕ)) (f : Found) → ((t : List ℕ) → split 45 t ≡ qs → split 45 (b ∷ t) ≡ rs) → Upto qs s f → Upto rs (b ∷ s) (later f)
-upto-later b s qs rs (At zero) g h = absurd (omega arith)
-upto-later b s qs rs (At (suc e)) g h =
-    let m : suc (suc e) - 1 ≡ suc e = omega arith in
-    let n : suc e - 1 ≡ e = omega arith in
-    (omega arith, rw m (g (take e s) (rw n at (h .1))))
-upto-later b s qs rs Nothing g h = g s h
-
--- and those up to it
-take-longer : (b k : ℕ) (ps : List (List ℕ)) → longer b (take (suc k) ps) ≡ take (suc k) (longer b ps)
-take-longer b k [] = ap (λ (l : List (List ℕ)). (b ∷ []) ∷ l) (sym (take-nil k))
-take-longer b k (p ∷ ps) = refl
-
--- before the hyphen after them stand the first parts
-after-upto : (j : ℕ) (s : List ℕ) → Upto (take (suc j) (split 45 s)) s (afterHyphens (suc j) s)
-unfolding afterHyphens split
-after-upto j [] = ap (λ (l : List (List ℕ)). [] ∷ l) (sym (take-nil j))
-after-upto zero (b ∷ s) = go (eqb b 45) refl (after-upto zero s)
-  where
-    go : (h : Bool) → eqb b 45 ≡ h → Upto (take 1 (split 45 s)) s (afterHyphens 1 s) → Upto (take 1 (cond h ([] ∷ split 45 s) (longer b (split 45 s)))) (b ∷ s) (later (cond h (At 0) (afterHyphens 1 s)))
-    go true e f = (omega arith, refl)
-    go false e f = upto-later b s (take 1 (split 45 s)) (take 1 (longer b (split 45 s))) (afterHyphens 1 s) (λ t g. rw (e, g) (take-longer b 0 (split 45 s))) f
-after-upto (suc j) (b ∷ s) = go (eqb b 45) refl (after-upto j s) (after-upto (suc j) s)
-  where
-    go : (h : Bool) → eqb b 45 ≡ h → Upto (take (suc j) (split 45 s)) s (afterHyphens (suc j) s) → Upto (take (suc (suc j)) (split 45 s)) s (afterHyphens (suc (suc j)) s) →
-        Upto (take (suc (suc j)) (cond h ([] ∷ split 45 s) (longer b (split 45 s)))) (b ∷ s) (later (cond h (afterHyphens (suc j) s) (afterHyphens (suc (suc j)) s)))
-    go true e f g = upto-later b s (take (suc j) (split 45 s)) ([] ∷ take (suc j) (split 45 s)) (afterHyphens (suc j) s) (λ t i. rw (e, i)) f
-    go false e f g = upto-later b s (take (suc (suc j)) (split 45 s)) (take (suc (suc j)) (longer b (split 45 s))) (afterHyphens (suc (suc j)) s) (λ t i. rw (e, i) (take-longer b (suc j) (split 45 s))) g
+    go : (b : Bool) → ltb j (length ps) ≡ b → Stretch t at (upTo (endOf j (endsFrom at ps)) t) (take (suc j) ps)
+    go true e =
+        let l = ltb-true j (length ps) e in
+        let x = length (bound (take (suc j) ps)) in
+        let y : at + x - at ≡ x = omega arith in
+        let f = bound-front j ps in
+        rw (ne-eqb _ 0 (end-some j at ps s g l), end-there j at ps l g)
+        (record { forward = omega arith; within = omega (arith, ap length f, length-take x (bound ps)); content = rw (y, d) f })
+    go false e =
+        let l = ltb-false j (length ps) e in
+        rw (end-gone j at ps l g)
+        (record { forward = omega arith; within = omega arith; content = to-the-end at t ∙ d ∙ ap bound (sym (take-all (suc j) ps (omega arith))) })
+stretched (suc k) j at [] t h g s d n = absurd (omega arith)
+stretched (suc k) j at (p ∷ []) t h g s d n = absurd (omega arith)
+stretched (suc k) j at (p ∷ (q ∷ ps)) t h g s d n =
+    let m : at + length p + 1 ≡ at + (length p + 1) = omega arith in
+    let d′ : drop (at + length p + 1) t ≡ bound (q ∷ ps) = rw m (sym (drop-drop (length p + 1) at t) ∙ ap (drop (length p + 1)) d ∙ drop-append-add p (45 ∷ bound (q ∷ ps)) 1) in
+    rw (start-next k at p (q ∷ ps) (omega arith), suc-add k j, end-next (k + j) (at + length p) (endsFrom (at + length p + 1) (q ∷ ps)) (omega arith))
+    (stretched k j (at + length p + 1) (q ∷ ps) t (omega arith) (omega arith) (s .1) d′ (omega (arith, length-append p (45 ∷ bound (q ∷ ps)))))
 
 -- ---------------------------------------------------------------------------
 -- Hyphens inside a stretch do not count
 
--- two texts that end in one byte, after the same digits
-record Ends (s t : List ℕ) : Type 0 where
-  before₁ : List ℕ
-  before₂ : List ℕ
-  last : ℕ
-  ends₁ : s ≡ before₁ ++ (last ∷ [])
-  ends₂ : t ≡ before₂ ++ (last ∷ [])
-  same : digitsOf before₁ ≡ digitsOf before₂
+-- a text passes by the digits of its front, and by what stands behind it
+passes-behind : (rule : Rule) (p t : List ℕ) → 0 < length t → passes rule (p ++ t) ≡ eqb (getD t (length t - 1) 0) (48 + checkDigit rule (digitsOf p ++ digitsOf (take (length t - 1) t)))
+unfolding passes
+passes-behind rule p t h =
+    let n : length (p ++ t) - 1 ≡ length p + (length t - 1) = omega (arith, length-append p t) in
+    rw (lt-ltb 0 (length (p ++ t)) (omega (arith, length-append p t)), n, getD-append-add p t (length t - 1) 0, take-append-add p t (length t - 1), digits-append p (take (length t - 1) t))
 
--- such texts pass alike
-ends-pass : (rule : Rule) (s t : List ℕ) → Ends s t → passes rule s ≡ passes rule t
-ends-pass rule s t w =
-    ap (passes rule) (w .ends₁)
-    ∙ passes-snoc rule (w .before₁) (w .last)
-    ∙ ap (λ (ds : List ℕ). eqb (w .last) (48 + checkDigit rule ds)) (w .same)
-    ∙ sym (ap (passes rule) (w .ends₂) ∙ passes-snoc rule (w .before₂) (w .last))
+-- parts with their hyphens pass where the parts joined do, behind any front
+bound-passes : (rule : Rule) (f : List ℕ) (ps : List (List ℕ)) → Solid ps → 0 < length ps → passes rule (f ++ bound ps) ≡ passes rule (f ++ joined ps)
+unfolding bound joined digitsOf
+bound-passes rule f [] s h = absurd (omega arith)
+bound-passes rule f (p ∷ []) s h = rw (append-nil p)
+bound-passes rule f (p ∷ (q ∷ ps)) s h =
+    let b = bound (q ∷ ps) in
+    let l = bound-some (q ∷ ps) (s .1) (omega arith) in
+    let d : digitsOf (f ++ p ++ (45 ∷ [])) ≡ digitsOf (f ++ p) = digits-append (f ++ p) (45 ∷ []) ∙ append-nil (digitsOf (f ++ p)) in
+    ap (passes rule) (sym (append-assoc f p (45 ∷ b)) ∙ sym (append-snoc (f ++ p) 45 b))
+    ∙ passes-behind rule (f ++ p ++ (45 ∷ [])) b l
+    ∙ rw d (sym (passes-behind rule (f ++ p) b l))
+    ∙ bound-passes rule (f ++ p) (q ∷ ps) (s .1) (omega arith)
+    ∙ ap (passes rule) (append-assoc f p (joined (q ∷ ps)))
 
--- a byte more before both
-more-before : (b : ℕ) (s t : List ℕ) → Ends s t → Ends (b ∷ s) (b ∷ t)
-unfolding digitsOf
-more-before b s t w = record {
-  before₁ = b ∷ w .before₁;
-  before₂ = b ∷ w .before₂;
-  last = w .last;
-  ends₁ = ap (λ (l : List ℕ). b ∷ l) (w .ends₁);
-  ends₂ = ap (λ (l : List ℕ). b ∷ l) (w .ends₂);
-  same = ap (λ (l : List ℕ). cond (isDigit b) ((b - 48) ∷ l) l) (w .same);
-}
+-- ---------------------------------------------------------------------------
+-- Groups
 
--- a hyphen more before one
-hyphen-before : (b : ℕ) (s t : List ℕ) → b ≡ 45 → Ends s t → Ends (b ∷ s) t
-unfolding digitsOf
-hyphen-before b s t e w = record {
-  before₁ = b ∷ w .before₁;
-  before₂ = w .before₂;
-  last = w .last;
-  ends₁ = ap (λ (l : List ℕ). b ∷ l) (w .ends₁);
-  ends₂ = w .ends₂;
-  same = rw e (w .same);
-}
-
--- a text of one byte
-one-ends : (b : ℕ) (s : List ℕ) → length s ≡ 0 → Ends (b ∷ s) (b ∷ joined (split 45 s))
-unfolding joined split
-one-ends b (c ∷ s) h = absurd (omega arith)
-one-ends b [] h = record { before₁ = []; before₂ = []; last = b; ends₁ = refl; ends₂ = refl; same = refl }
-
--- a byte more at the front of the first part is one before all
-joined-longer : (b : ℕ) (ps : List (List ℕ)) → joined (longer b ps) ≡ b ∷ joined ps
-unfolding joined
-joined-longer b [] = refl
-joined-longer b (p ∷ ps) = refl
-
--- a text of solid parts is not empty
-solid-some : (s : List ℕ) → Solid (split 45 s) → length s ≡ 0 → ⊥
-unfolding split
-solid-some [] h e = omega arith
-solid-some (b ∷ s) h e = omega arith
-
--- a text ends as its parts joined do, where no part after the first is empty
-parts-end : (s : List ℕ) → Solid (drop 1 (split 45 s)) → (length s ≡ 0) ⊎ Ends s (joined (split 45 s))
-unfolding split joined
-parts-end [] h = inl refl
-parts-end (b ∷ s) h = inr (go (eqb b 45) refl h (parts-end s))
-  where
-    go : (t : Bool) → eqb b 45 ≡ t → Solid (drop 1 (cond t ([] ∷ split 45 s) (longer b (split 45 s)))) → (Solid (drop 1 (split 45 s)) → (length s ≡ 0) ⊎ Ends s (joined (split 45 s))) → Ends (b ∷ s) (joined (cond t ([] ∷ split 45 s) (longer b (split 45 s))))
-    go true e g f = ⊎-elim (λ (z : length s ≡ 0). absurd (solid-some s g z)) (hyphen-before b s (joined (split 45 s)) (eqb-true b 45 e)) (f (solid-drop 1 (split 45 s) g))
-    go false e g f = rw (joined-longer b (split 45 s)) (⊎-elim (one-ends b s) (more-before b s (joined (split 45 s))) (f (rw (drop-longer b 0 (split 45 s)) at g)))
-
--- a stretch of solid parts passes where the parts joined do
-stretch-right : (g : Group) (s : List ℕ) → Solid (split 45 s) → stretchHolds (g .rule) s ≡ groupRight g (split 45 s)
+-- a group of parts that are there passes
+group-there : (g : Group) (ps : List (List ℕ)) → Solid ps → 0 < length ps → passes (g .rule) (bound ps) ≡ groupRight g ps
 unfolding groupRight
-stretch-right g s h =
-    rw (ne-eqb (length s) 0 (solid-some s h))
-    (⊎-elim (λ (z : length s ≡ 0). absurd (solid-some s h z)) (ends-pass (g .rule) s (joined (split 45 s))) (parts-end s (solid-drop 1 (split 45 s) h))
-    ∙ rw (first-part s .2))
+group-there g [] s h = absurd (omega arith)
+group-there g (p ∷ ps) s h = bound-passes (g .rule) [] (p ∷ ps) s h
 
--- the head of a text of solid parts passes where the parts that it joins do
-head-right : (g : Group) (j : ℕ) (s : List ℕ) → Solid (split 45 s) → headHolds (g .rule) j s ≡ groupRight g (take j (split 45 s))
-unfolding groupRight afterHyphens
-head-right g zero s h = refl
-head-right g (suc j) s h = go (afterHyphens (suc j) s) (after-upto j s)
+module _ (g : Group) (ps : List (List ℕ)) (s : Solid ps) (h : spanOf ps ≤ 1024) where
+  -- a group is right where its stretch is
+  group-right : groupAt g (endsFrom 0 ps) (bound ps) ≡ groupRight g (present g ps)
+  unfolding groupRight
+  group-right = go (g .skipped) (g .joins)
+    where
+      go : (k j : ℕ) →
+          cond (eqb j 0 || eqb (endOf k (endsFrom 0 ps)) 0) true (stretchRight (g .rule) (startOf k (endsFrom 0 ps)) (upTo (endOf (k + j - 1) (endsFrom 0 ps)) (bound ps)) (bound ps))
+          ≡ groupRight g (take j (drop k ps))
+      go k zero = refl
+      go k (suc j) = there (ltb k (length ps)) refl
+        where
+          there : (b : Bool) → ltb k (length ps) ≡ b →
+              cond (eqb (suc j) 0 || eqb (endOf k (endsFrom 0 ps)) 0) true (stretchRight (g .rule) (startOf k (endsFrom 0 ps)) (upTo (endOf (k + suc j - 1) (endsFrom 0 ps)) (bound ps)) (bound ps))
+              ≡ groupRight g (take (suc j) (drop k ps))
+          there true e =
+              let l = ltb-true k (length ps) e in
+              let w = stretched k j 0 ps (bound ps) l (omega arith) s refl (omega arith) in
+              let x : k + suc j - 1 ≡ k + j = omega arith in
+              rw (eqb·suc-zero j, ne-eqb _ 0 (end-some k 0 ps s (omega arith) l), x, le-leb _ _ (w .forward), le-leb _ _ (w .within), w .content)
+              (group-there g (take (suc j) (drop k ps)) (solid-take (suc j) (drop k ps) (solid-drop k ps s)) (omega (arith, length-take (suc j) (drop k ps), length-drop k ps)))
+          there false e =
+              let l = ltb-false k (length ps) e in
+              rw (eqb·suc-zero j, end-gone k 0 ps l (omega arith), drop-of-length-le ps l)
+
+groups-right : (gs : List Group) (ps : List (List ℕ)) → Solid ps → spanOf ps ≤ 1024 → groupsAt gs (endsFrom 0 ps) (bound ps) ≡ groupsRight gs ps
+unfolding groupsAt groupsRight
+groups-right [] ps s h = refl
+groups-right (g ∷ gs) ps s h = rw (group-right g ps s h, groups-right gs ps s h)
+
+pub parts-span : (s : List ℕ) → length s < 1024 → spanOf (partsOf s) ≤ 1024
+unfolding partsOf spanOf
+parts-span [] h = omega arith
+parts-span (b ∷ s) h = omega (arith, short-span (b ∷ s) 0 (omega arith))
+
+-- the groups one after the other
+module _ (gs : List Group) (ends : ℕ) (s : List ℕ) (i : ℕ) where
+  module _ (d : Group) (h : i < length gs) where
+    pub groups-on : groupAt (getD gs i d) ends s ≡ true → groupsAt (drop i gs) ends s ≡ groupsAt (drop (i + 1) gs) ends s
+    unfolding groupsAt
+    groups-on e = rw (drop-cons gs i d h, e, add-one i)
+
+    pub groups-stop : groupAt (getD gs i d) ends s ≡ false → false ≡ groupsAt (drop i gs) ends s
+    unfolding groupsAt
+    groups-stop e = rw (drop-cons gs i d h, e)
+
+  pub groups-end : length gs ≤ i → true ≡ groupsAt (drop i gs) ends s
+  unfolding groupsAt
+  groups-end h = rw (drop-of-length-le gs h)
+
+-- what is asked of a formed text by the ends of its parts is what is asked of its parts
+pub obeys-at : (model : Model) (s : List ℕ) → length s < 1024 → formed model s ≡ true → obeysAt model (endsOf s) s ≡ partsRight model (partsOf s)
+unfolding obeysAt
+obeys-at model s h e =
+    ap (groupsAt (model .groups) (endsOf s)) (sym (bound-parts s))
+    ∙ groups-right (model .groups) (partsOf s) (formed-solid model s e) (parts-span s h)
+
+-- ---------------------------------------------------------------------------
+-- The number of parts
+
+-- there is no part k where there are no more than k
+count-ends : (k : ℕ) (ps : List (List ℕ)) → Solid ps → spanOf ps ≤ 1024 → eqb (endOf k (endsFrom 0 ps)) 0 ≡ leb (length ps) k
+count-ends k ps s h = go (ltb k (length ps)) refl
   where
-    go : (f : Found) → Upto (take (suc j) (split 45 s)) s f → stretchHolds (g .rule) (before s f) ≡ groupRight g (take (suc j) (split 45 s))
-    go (At e) u = stretch-right g (take (e - 1) s) (rw (u .1) (solid-take (suc j) (split 45 s) h)) ∙ ap (groupRight g) (u .1)
-    go Nothing u = stretch-right g s h ∙ ap (groupRight g) u
+    go : (b : Bool) → ltb k (length ps) ≡ b → eqb (endOf k (endsFrom 0 ps)) 0 ≡ leb (length ps) k
+    go true e = let l = ltb-true k (length ps) e in ne-eqb _ 0 (end-some k 0 ps s (omega arith) l) ∙ sym (lt-leb (length ps) k l)
+    go false e = let l = ltb-false k (length ps) e in rw (end-gone k 0 ps l (omega arith), le-leb (length ps) k l)
 
--- a text with no byte has no group that fails
-head-of-none : (rule : Rule) (j : ℕ) → headHolds rule j [] ≡ true
-unfolding afterHyphens
-head-of-none rule zero = refl
-head-of-none rule (suc j) = refl
-
-none-held : (g : Group) (k : ℕ) → heldFrom g [] (afterHyphens k []) ≡ true
-unfolding afterHyphens
-none-held g zero = head-of-none (g .rule) (g .joins)
-none-held g (suc k) = refl
-
--- a group holds where its parts that are present pass
-pub group-right : (g : Group) (s : List ℕ) → Solid (partsOf s) → groupHolds g s ≡ groupRight g (present g (partsOf s))
-unfolding partsOf groupRight
-group-right g [] h = none-held g (g .skipped) ∙ rw (drop-nil (g .skipped), take-nil (g .joins))
-group-right g (b ∷ s) h = go (afterHyphens (g .skipped) (b ∷ s)) (after-from (g .skipped) (b ∷ s))
+-- as many as a model asks
+pub count-right : (fewest most : ℕ) (ps : List (List ℕ)) → Solid ps → spanOf ps ≤ 1024 → countFits fewest most (endsFrom 0 ps) ≡ (leb fewest (length ps) && leb (length ps) most)
+count-right zero most ps s h = rw (count-ends most ps s h, leb·zero (length ps)) (and-true (leb (length ps) most))
+count-right (suc n) most ps s h =
+    let x : suc n - 1 ≡ n = omega arith in
+    rw (x, count-ends most ps s h, count-ends n ps s h, eqb·suc-zero n) (go (leb (length ps) n) refl)
   where
-    go : (f : Found) → From (drop (g .skipped) (split 45 (b ∷ s))) (b ∷ s) f → heldFrom g (b ∷ s) f ≡ groupRight g (take (g .joins) (drop (g .skipped) (split 45 (b ∷ s))))
-    go (At a) e = head-right g (g .joins) (drop a (b ∷ s)) (rw e (solid-drop (g .skipped) (split 45 (b ∷ s)) h)) ∙ ap (λ (ps : List (List ℕ)). groupRight g (take (g .joins) ps)) e
-    go Nothing e = rw (e, take-nil (g .joins))
+    go : (b : Bool) → leb (length ps) n ≡ b → (leb (length ps) most && not b) ≡ (leb (suc n) (length ps) && leb (length ps) most)
+    go true e = let l = leb-true (length ps) n e in rw (lt-leb (suc n) (length ps) (omega arith)) (and-false (leb (length ps) most))
+    go false e = let l = leb-false (length ps) n e in rw (le-leb (suc n) (length ps) l) (and-true (leb (length ps) most))
 
--- each of the groups, likewise
-pub groups-right : (gs : List Group) (s : List ℕ) → Solid (partsOf s) → groupsHold gs s ≡ groupsRight gs (partsOf s)
-unfolding groupsHold groupsRight
-groups-right [] s h = refl
-groups-right (g ∷ gs) s h = rw (group-right g s h, groups-right gs s h)
-
--- the parts of a formed text fit
-pub formed-fit : (model : Model) (s : List ℕ) → formed model s ≡ true → partsFit (model .lengths) (partsOf s) ≡ true
-unfolding formed
-formed-fit model s e =
-    let n = length (partsOf s) in
-    let f = both-true (leb (model .fewest) n) (leb n (model .most) && partsFit (model .lengths) (partsOf s)) e .1 in
-    both-true (leb n (model .most)) (partsFit (model .lengths) (partsOf s)) f .1
-
--- so the groups of a formed text hold where its parts pass
-pub formed-groups : (model : Model) (s : List ℕ) → formed model s ≡ true → groupsHold (model .groups) s ≡ groupsRight (model .groups) (partsOf s)
-formed-groups model s e = groups-right (model .groups) s (fit-solid (model .lengths) (partsOf s) (formed-fit model s e))
+-- parts that are solid have ends
+pub ends-some : (ps : List (List ℕ)) → Solid ps → spanOf ps ≤ 1024 → 0 < length ps → endsFrom 0 ps ≡ 0 → ⊥
+ends-some ps s h g e = end-some 0 0 ps s (omega arith) g (ap (endOf 0) e)

@@ -2,39 +2,48 @@
 -- Assumes nothing.
 use mathlib.Core.Path.{_≡_, refl, sym}
 use mathlib.Core.Logic.{_↔_, ⊎-elim}
-use mathlib.Core.Bool.{Bool, true, false, cond, _&&_}
+use mathlib.Core.Bool.{Bool, true, _&&_}
 use mathlib.Core.List.{List, [], _∷_, List·Memᴰ, List·Memᴰ·head, List·Memᴰ·tail, List·Memᴰ·not-nil, List·Memᴰ·cases-cons}
 use Prim.Native.Nat.{ℕ}
 use native.Mathlib.Omega.{arith}
+use lib.Dec.{leb}
+use lib.ListN.{length}
 use Rattle.refusal.specs.Only.{Only, defined-only}
-use Rattle.refusal.specs.Refusal.{none, Tells}
-use Rattle.refusal.specs.declared.Answer.{Answer}
-use Rattle.refusal.specs.declared.Answer.the-variants.{Accepted, Refused}
-use Rattle.refusal.specs.declared.Refusal.the-variants.{Parts, Digit}
-use Rattle.refusal.proofs.Tells.{tells-only}
-use Rattle.text.specs.Bytes.{trimmed}
-use Rattle.text.proofs.Laws.{both-true, and-second}
+use Rattle.refusal.specs.Verdict.{onlyIf, andThen, Within}
+use Rattle.refusal.proofs.Verdicts.{both-pass, pass-both, test-holds, then-within, only-within}
+use Rattle.text.specs.Bytes.{bytesVerdict}
+use Rattle.text.specs.declared.Class.the-variants.{Reference}
+use Rattle.text.specs.declared.Found.{Found}
+use Rattle.text.specs.declared.Found.the-variants.{At, Nothing}
+use Rattle.text.proofs.Laws.{both-true, and-second, all-passes, bytes-within}
 use Rattle.check_digits.specs.CheckDigit.{passes}
 use Rattle.models.specs.declared.Group.{Group}
 use Rattle.models.specs.declared.Model.{Model}
-use Rattle.models.specs.Models.{modelOf}
-use Rattle.reference.specs.declared.Stripped.{Stripped}
-use Rattle.reference.specs.Parts.{partsOf, formed, joined, present, groupRight, groupsRight}
-use Rattle.reference.specs.Groups.{groupsHold}
-use Rattle.reference.specs.Answers.{obeyAnswer, obeys, modelAnswer, referenceAnswer, bareOf}
+use Rattle.models.specs.Models.{modelNumber, modelOf}
+use Rattle.reference.specs.Parts.{partsOf, formed, joined, present, groupRight, groupsRight, partsRight, obeys}
+use Rattle.reference.specs.Ends.{partsFound, obeysAt}
+use Rattle.reference.specs.Answers.{textVerdict, modelledVerdict, numberVerdict, referenceVerdict}
+use Rattle.reference.proofs.Pieces.{formed-bytes}
 
 -- ---------------------------------------------------------------------------
 -- Accepted exactly when
 
--- a text is accepted exactly when it is formed and its groups are right
-pub accepted-obeys : (model : Model) (s : List ℕ) → (obeyAnswer model s ≡ Accepted) ↔ (obeys model s ≡ true)
-unfolding obeyAnswer
-accepted-obeys model s = go (formed model s) (groupsRight (model .groups) (partsOf s))
+-- a text is accepted exactly when it has at most 22 bytes and obeys its model
+pub accepted-obeys : (model : Model) (s : List ℕ) → (textVerdict model s ≡ 0) ↔ ((leb (length s) 22 && obeys model s) ≡ true)
+accepted-obeys model s = (λ e. accepted e, λ e. obeyed e)
   where
-    go : (f g : Bool) → (cond f (cond g Accepted (Refused (Digit none))) (Refused (Parts none)) ≡ Accepted) ↔ ((f && g) ≡ true)
-    go true true = (λ e. refl, λ e. refl)
-    go true false = (λ e. cc, λ e. cc)
-    go false g = (λ e. cc, λ e. cc)
+    accepted : textVerdict model s ≡ 0 → (leb (length s) 22 && obeys model s) ≡ true
+    accepted e =
+        let a = both-pass (bytesVerdict Reference s) _ e in
+        let b = both-pass (onlyIf (leb (length s) 22) 4) _ (a .1) in
+        let c = both-pass (onlyIf (formed model s) 8) _ (b .1) in
+        rw (test-holds (leb (length s) 22) 4 refl (b .0), test-holds (formed model s) 8 refl (c .0), test-holds (partsRight model (partsOf s)) 9 refl (c .1))
+
+    obeyed : (leb (length s) 22 && obeys model s) ≡ true → textVerdict model s ≡ 0
+    obeyed e =
+        let a = both-true (leb (length s) 22) (obeys model s) e in
+        let b = both-true (formed model s) (partsRight model (partsOf s)) (a .1) in
+        rw (all-passes Reference s (formed-bytes model s (b .0)), a .0, b .0, b .1)
 
 -- ---------------------------------------------------------------------------
 -- Every group
@@ -68,22 +77,39 @@ every-groups-right (g ∷ gs) ps h =
     (sym (every-groups-right gs ps (λ k m. h k (List·Memᴰ·tail m)))))
 
 -- ---------------------------------------------------------------------------
+-- A 3's byte is one of the text's
+
+module _ (s : List ℕ) where
+  pub modelled-within : (model : Model) → Within (length s) (modelledVerdict model s)
+  modelled-within model =
+      let n = length s in
+      let only = only-within n in
+      then-within n _ _ (only (model .handled) 7 (omega arith))
+      (then-within n _ _ (bytes-within Reference s)
+      (then-within n _ _ (only (leb n 22) 4 (omega arith))
+      (then-within n _ _ (only (formed model s) 8 (omega arith)) (only (partsRight model (partsOf s)) 9 (omega arith)))))
+
+  number-within : (f : Found) → Within (length s) (numberVerdict s f)
+  number-within (At n) = modelled-within (modelOf n)
+  number-within Nothing = omega arith
+
+  pub reference-within : (m : List ℕ) → Within (length s) (referenceVerdict m s)
+  reference-within m = number-within (modelNumber m)
+
+-- ---------------------------------------------------------------------------
 -- Any two answers that a contract allows are equal
 
-pub reference-only : (m s : List ℕ) → Only (λ (r : Answer). r ≡ referenceAnswer m s)
-reference-only m s = defined-only (referenceAnswer m s)
+pub reference-only : (m s : List ℕ) → Only (λ (r : ℕ). r ≡ referenceVerdict m s)
+reference-only m s = defined-only (referenceVerdict m s)
 
-pub numbered-only : (n : ℕ) (s : List ℕ) → Only (λ (r : Answer). r ≡ modelAnswer s (modelOf n))
-numbered-only n s = defined-only (modelAnswer s (modelOf n))
+pub numbered-only : (n : ℕ) (s : List ℕ) → Only (λ (r : ℕ). r ≡ modelledVerdict (modelOf n) s)
+numbered-only n s = defined-only (modelledVerdict (modelOf n) s)
 
-pub bare-only : (s : List ℕ) → Only (λ (r : Stripped). r ≡ bareOf s)
-bare-only s = defined-only (bareOf s)
+pub parts-only : (model : Model) (s : List ℕ) → Only (λ (r : Found). r ≡ partsFound model s)
+parts-only model s = defined-only (partsFound model s)
 
-pub tell-only : (n : ℕ) (s : List ℕ) → Only (λ (r : ℕ). Tells r (modelAnswer (trimmed s) (modelOf n)))
-tell-only n s = tells-only (modelAnswer (trimmed s) (modelOf n))
+pub obeys-at-only : (model : Model) (ends : ℕ) (s : List ℕ) → Only (λ (r : Bool). r ≡ obeysAt model ends s)
+obeys-at-only model ends s = defined-only (obeysAt model ends s)
 
-pub is-formed-only : (model : Model) (s : List ℕ) → Only (λ (r : Bool). r ≡ formed model s)
-is-formed-only model s = defined-only (formed model s)
-
-pub groups-hold-only : (gs : List Group) (s : List ℕ) → Only (λ (r : Bool). r ≡ groupsHold gs s)
-groups-hold-only gs s = defined-only (groupsHold gs s)
+pub obeys-only : (model : Model) (s : List ℕ) → Only (λ (r : Bool). r ≡ obeys model s)
+obeys-only model s = defined-only (obeys model s)

@@ -1,5 +1,4 @@
 -- The definitions of the crate `reference`.
 pub mod Parts
+pub mod Ends
 pub mod Answers
-pub mod Readers
-pub mod Groups

@@ -22,14 +22,16 @@ partsOf (b ∷ s) = split 45 (b ∷ s)
 -- ---------------------------------------------------------------------------
 -- Number and lengths of parts (8)
 
--- each part is digits, not empty, of a length that the model gives its place: least, most, least, most ..
+-- a part of n digits is not empty, and of a length between least and most
+abbrev pub lengthFits : ℕ → ℕ → ℕ → Bool
+lengthFits least most n = ltb 0 n && (leb least n && leb n most)
+
+-- each part is digits, of a length that the model gives its place: least, most, least, most ..
 unfoldable pub partsFit : List ℕ → List (List ℕ) → Bool
 partsFit lengths [] = true
 partsFit [] (p ∷ ps) = false
 partsFit (least ∷ []) (p ∷ ps) = false
-partsFit (least ∷ (most ∷ lengths)) (p ∷ ps) =
-    allOf Digits p &&
-    (ltb 0 (length p) && (leb least (length p) && (leb (length p) most && partsFit lengths ps)))
+partsFit (least ∷ (most ∷ lengths)) (p ∷ ps) = allOf Digits p && (lengthFits least most (length p) && partsFit lengths ps)
 
 -- as many parts as the model asks, each of its length
 unfoldable pub formed : Model → List ℕ → Bool
@@ -40,6 +42,7 @@ formed model s =
 -- ---------------------------------------------------------------------------
 -- Check groups (9)
 
+-- parts one after the other, without the hyphens
 unfoldable pub joined : List (List ℕ) → List ℕ
 joined [] = []
 joined (p ∷ ps) = p ++ joined ps
@@ -53,6 +56,18 @@ unfoldable pub groupRight : Group → List (List ℕ) → Bool
 groupRight g [] = true
 groupRight g (p ∷ ps) = passes (g .rule) (joined (p ∷ ps))
 
+-- every group
 unfoldable pub groupsRight : List Group → List (List ℕ) → Bool
 groupsRight [] ps = true
 groupsRight (g ∷ gs) ps = groupRight g (present g ps) && groupsRight gs ps
+
+-- ---------------------------------------------------------------------------
+-- Both
+
+-- what is asked of parts that have their number and lengths
+abbrev pub partsRight : Model → List (List ℕ) → Bool
+partsRight model ps = groupsRight (model .groups) ps
+
+-- "obeying the model": a text of parts that are right
+abbrev pub obeys : Model → List ℕ → Bool
+obeys model s = formed model s && partsRight model (partsOf s)

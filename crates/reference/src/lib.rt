@@ -1,48 +1,21 @@
 // References: the parts of a text, its check groups, and what judging a reference answers.
 //
 // Document 01, "Reference models". A model is the value that `models` gives. The digit reader and the part reader
-// call each other, as 01 asks; what a listing asks again and again, the check groups, is loops.
+// call each other, as 01 asks; where the parts end is one number, a digit of base 1024 for each end, which a listing
+// of fillings carries: all its fillings have their parts at the same places.
 ghost use mathlib.Core.Path.{_≡_};
-ghost use mathlib.Core.Bool.{cond, _&&_};
-ghost use mathlib.Core.List.{[]};
-ghost use lib.Dec.{leb};
-ghost use Rattle.reference.specs.Parts.{formed};
-ghost use Rattle.reference.specs.Groups.{afterHyphens, hyphensIn, foundAt, hyphensOf, stretchHolds, groupHolds, groupsHold};
-ghost use Rattle.reference.specs.Readers.{fitsNext, Roomy, partRead, digitRead, partsIn, extentOf, partsFound, hyphensBetween};
-ghost use Rattle.reference.specs.Answers.{groupsAnswer, unformedAnswer, textAnswer, modelAnswer, referenceAnswer, bareOf, bareAnswer};
+ghost use Prim.Native.Nat.{_≤_, _<_, _+_};
+ghost use lib.ListN.{length};
+ghost use Rattle.text.specs.Split.{split};
 ghost use Rattle.models.specs.Models.{modelOf};
-ghost use Rattle.refusal.specs.Refusal.{Tells};
-ghost use Rattle.text.specs.Bytes.{firstBad, allOf, beforeBlank, trimmed};
+ghost use Rattle.reference.specs.Parts.{obeys};
+ghost use Rattle.reference.specs.Ends.{partRead, digitRead, endOf, countFits, partsFound, startOf, stretchRight, groupAt, obeysAt};
+ghost use Rattle.reference.specs.Answers.{textVerdict, modelledVerdict, referenceVerdict};
 use check_digits::Rule;
 use models::Group;
 use models::Model;
-use refusal::Answer;
-use refusal::Refusal;
 use text::Class;
 use text::Found;
-
-// Where a text's hyphens stand: how many there are, and the places after the first and after the second; 0 where there is none.
-pub struct Hyphens {
-    pub count: usize,
-    pub first: usize,
-    pub second: usize,
-}
-
-// A text without the blanks at its end: the place of its first byte that is no reference's, or else its size.
-pub enum Stripped {
-    Wrong(usize),
-    Size(usize),
-}
-
-fn stand(count: usize, first: usize, second: usize) -> Hyphens
-    ensures { λ r. ⌜ r ≡ record { count = count; first = first; second = second } ⌝ }
-{
-    Hyphens {
-        count,
-        first,
-        second,
-    }
-}
 
 // ---------------------------------------------------------------------------
 // Parts
@@ -54,50 +27,35 @@ fn wide(b: u8) -> usize
     b as usize
 }
 
-// Whether a part of n digits, not empty, fits the next lengths, least and most.
-fn fits(lengths: &[u8], n: usize) -> bool
-    ensures { λ r. ⌜ r ≡ fitsNext (now (lengths .entry)) n ⌝ }
-{
-    if lengths.len() < 2 {
-        return false;
-    }
-    if n == 0 {
-        return false;
-    }
-    if n < wide(lengths[0]) {
-        return false;
-    }
-    n <= wide(lengths[1])
-}
-
-// The sizes with that of the last part, where it fits; else 0.
-fn ended(lengths: &[u8], n: usize, sizes: usize) -> usize
-    requires { ⌜ Roomy (now lengths) sizes ⌝ }
-    ensures { λ r. ⌜ r ≡ digitRead (now (lengths .entry)) n sizes [] ⌝ }
-{
-    if fits(lengths, n) {
-        return sizes * 256 + n;
-    }
-    0
-}
-
-// Reads a part, the first of what is left: its digits, where the model has lengths for it. Answers the sizes of the parts, with
-// those read before, each a digit of base 256, or 0 where one does not fit: a number, since an enum would be handed up through memory.
-// A blank ends the text: what stands behind it is the caller's to judge.
-fn part(s: &[u8], lengths: &[u8], sizes: usize) -> usize
-    requires { ⌜ Roomy (now lengths) sizes ⌝ }
-    ensures { λ r. ⌜ r ≡ partRead (now (lengths .entry)) sizes (beforeBlank (now (s .entry))) ⌝ }
+// Reads a part, which begins at the byte `at`, and those behind it: its digits, and where it ends its length is judged.
+// Answers where they end, or 0 where one does not fit: a number, since an enum would be handed up through memory.
+fn part(s: &[u8], lengths: &[u8], at: usize) -> usize
+    requires { ⌜ (at + length (now s) < 1024) × (length (now lengths) ≤ 8) ⌝ }
+    ensures { λ r. ⌜ r ≡ partRead (now (lengths .entry)) at (split 45 (now (s .entry))) ⌝ }
 {
     if lengths.len() < 2 {
         return 0;
     }
-    digit(s, lengths, sizes)
+    let ends = digit(s, &lengths[2..], at);
+    let end = ends % 1024;
+    if end <= at {
+        return 0;
+    }
+    let n = end - at;
+    if n < wide(lengths[0]) {
+        return 0;
+    }
+    if wide(lengths[1]) < n {
+        return 0;
+    }
+    ends
 }
 
-// Reads the digits of a part, one after the other; a hyphen hands over to the reading of the next part.
-fn digit(s: &[u8], lengths: &[u8], sizes: usize) -> usize
-    requires { ⌜ Roomy (now lengths) sizes ⌝ }
-    ensures { λ r. ⌜ r ≡ digitRead (now (lengths .entry)) 0 sizes (beforeBlank (now (s .entry))) ⌝ }
+// Reads the digits of a part, one after the other; a hyphen hands over to the reading of the next part, for which the
+// lengths are. Answers where the parts end, or 0.
+fn digit(s: &[u8], lengths: &[u8], at: usize) -> usize
+    requires { ⌜ (at + length (now s) < 1024) × (length (now lengths) ≤ 6) ⌝ }
+    ensures { λ r. ⌜ r ≡ digitRead (now (lengths .entry)) at (split 45 (now (s .entry))) ⌝ }
 {
     let mut n = 0;
     while n < s.len() {
@@ -105,173 +63,106 @@ fn digit(s: &[u8], lengths: &[u8], sizes: usize) -> usize
         if text::is_digit(b) {
             n += 1;
         } else {
-            if b == 32 {
-                return ended(lengths, n, sizes);
-            }
             if b != 45 {
                 return 0;
             }
-            if fits(lengths, n) {
-                return part(&s[n + 1..], &lengths[2..], sizes * 256 + n);
+            let rest = part(&s[n + 1..], lengths, at + n + 1);
+            if rest == 0 {
+                return 0;
             }
-            return 0;
+            return at + n + 1024 * rest;
         }
     }
-    ended(lengths, n, sizes)
+    at + n
 }
 
-// How many parts there are, by their sizes.
-fn parts_in(sizes: usize) -> usize
-    ensures { λ r. ⌜ r ≡ partsIn sizes ⌝ }
+// The end of a part, counted from 0; 0 where there is no such part.
+fn end_of(k: usize, ends: usize) -> usize
+    ensures { λ r. ⌜ r ≡ endOf k ends ⌝ }
 {
-    if sizes < 256 {
-        return 1;
+    if 6 < k {
+        return 0;
     }
-    if sizes < 65536 {
-        return 2;
+    match k {
+        0 => ends % 1024,
+        1 => ends / 1024 % 1024,
+        2 => ends / 1048576 % 1024,
+        3 => ends / 1073741824 % 1024,
+        4 => ends / 1099511627776 % 1024,
+        5 => ends / 1125899906842624 % 1024,
+        _ => ends / 1152921504606846976 % 1024,
     }
-    if sizes < 16777216 {
-        return 3;
-    }
-    4
 }
 
-// How many bytes parts of such sizes have, with the hyphens between them.
-fn extent(sizes: usize) -> usize
-    ensures { λ r. ⌜ r ≡ extentOf sizes ⌝ }
+// Whether there are as many parts as a model asks.
+fn count_fits(fewest: usize, most: usize, ends: usize) -> bool
+    ensures { λ r. ⌜ r ≡ countFits fewest most ends ⌝ }
 {
-    if sizes < 256 {
-        return sizes;
+    if end_of(most, ends) != 0 {
+        return false;
     }
-    if sizes < 65536 {
-        return sizes / 256 + 1 + sizes % 256;
+    if fewest == 0 {
+        return true;
     }
-    if sizes < 16777216 {
-        return sizes / 65536 + 1 + sizes / 256 % 256 + 1 + sizes % 256;
-    }
-    sizes / 16777216 + 1 + sizes / 65536 % 256 + 1 + sizes / 256 % 256 + 1 + sizes % 256
+    end_of(fewest - 1, ends) != 0
 }
 
-// The sizes of the parts before a text's first blank, where they are those that the model asks, each of its length; else 0.
-fn parts(model: Model, s: &[u8]) -> usize
-    ensures { λ r. ⌜ r ≡ partsFound model (beforeBlank (now (s .entry))) ⌝ }
+// Where the parts of a text end, if they are those that the model asks, each of its length: four of 255 digits at most.
+pub fn parts(model: Model, s: &[u8]) -> Found
+    ensures { λ r. ⌜ r ≡ partsFound model (now (s .entry)) ⌝ }
 {
     let fewest = model.fewest;
     let most = model.most;
     let lengths = model.lengths;
-    let sizes = part(s, &lengths, 0);
-    if sizes == 0 {
-        return 0;
-    }
-    if within(parts_in(sizes), wide(fewest), wide(most)) {
-        return sizes;
-    }
-    0
-}
-
-// Where hyphens stand between parts of such sizes.
-fn between(sizes: usize) -> Hyphens
-    ensures { λ r. ⌜ r ≡ hyphensBetween sizes ⌝ }
-{
-    if sizes < 256 {
-        return stand(0, 0, 0);
-    }
-    if sizes < 65536 {
-        return stand(1, sizes / 256 + 1, 0);
-    }
-    if sizes < 16777216 {
-        let first = sizes / 65536 + 1;
-        return stand(2, first, first + sizes / 256 % 256 + 1);
-    }
-    let first = sizes / 16777216 + 1;
-    stand(3, first, first + sizes / 65536 % 256 + 1)
-}
-
-// Whether a text has the parts that the model asks, each of its length.
-pub fn is_formed(model: Model, s: &[u8]) -> bool
-    ensures { λ r. ⌜ r ≡ formed model (now (s .entry)) ⌝ }
-{
-    let fewest = model.fewest;
     if s.len() == 0 {
-        return fewest == 0;
+        if fewest == 0 {
+            return Found::At(0);
+        }
+        return Found::Nothing;
     }
-    let sizes = parts(model, s);
-    if sizes == 0 {
-        return false;
+    if 1023 < s.len() {
+        return Found::Nothing;
     }
-    extent(sizes) == s.len()
-}
-
-// Whether n lies between two numbers.
-fn within(n: usize, least: usize, most: usize) -> bool
-    ensures { λ r. ⌜ r ≡ (leb least n && leb n most) ⌝ }
-{
-    if n < least {
-        return false;
+    let ends = part(s, &lengths, 0);
+    if ends == 0 {
+        return Found::Nothing;
     }
-    n <= most
+    if count_fits(wide(fewest), wide(most), ends) {
+        return Found::At(ends);
+    }
+    Found::Nothing
 }
 
 // ---------------------------------------------------------------------------
 // Check groups
 
-// The place after the first k hyphens of a text, looked for from its beginning.
-fn seek(s: &[u8], k: usize) -> Found
-    ensures { λ r. ⌜ r ≡ afterHyphens k (now (s .entry)) ⌝ }
+// The byte at which a part begins.
+fn start_of(k: usize, ends: usize) -> usize
+    ensures { λ r. ⌜ r ≡ startOf k ends ⌝ }
 {
     if k == 0 {
-        return Found::At(0);
+        return 0;
     }
-    let mut left = k;
-    let mut i = 0;
-    while i < s.len() {
-        if s[i] == 45 {
-            if left == 1 {
-                return Found::At(i + 1);
-            }
-            left -= 1;
-            i += 1;
-        } else {
-            i += 1;
-        }
-    }
-    Found::Nothing
+    end_of(k - 1, ends) + 1
 }
 
-// The place after the first k hyphens of a text: it is known of the first two.
-fn after(h: Hyphens, s: &[u8], k: usize) -> Found
-    requires { ⌜ h ≡ hyphensOf (now s) ⌝ }
-    ensures { λ r. ⌜ r ≡ afterHyphens k (now (s .entry)) ⌝ }
+// Whether the stretch of a text between two bytes ends in its check digit.
+fn stretch_right(rule: Rule, a: usize, e: usize, s: &[u8]) -> bool
+    ensures { λ r. ⌜ r ≡ stretchRight rule a e (now (s .entry)) ⌝ }
 {
-    let count = h.count;
-    let first = h.first;
-    let second = h.second;
-    if count < k {
-        return Found::Nothing;
+    if e < a {
+        return false;
     }
-    match k {
-        0 => Found::At(0),
-        1 => Found::At(first),
-        2 => Found::At(second),
-        _ => seek(s, k),
+    if s.len() < e {
+        return false;
     }
+    check_digits::ends_right(rule, &s[a..e])
 }
 
-// Whether a stretch of text ends in its check digit; with no byte there is no part, and it is not checked.
-fn stretch_holds(rule: Rule, s: &[u8]) -> bool
-    ensures { λ r. ⌜ r ≡ stretchHolds rule (now (s .entry)) ⌝ }
-{
-    if s.len() == 0 {
-        return true;
-    }
-    check_digits::ends_right(rule, s)
-}
-
-// Whether a group ends in its check digit; with no part present it is not checked, and where a part is missing it goes on to the
-// end of the text.
-fn group_holds(g: Group, h: Hyphens, s: &[u8]) -> bool
-    requires { ⌜ h ≡ hyphensOf (now s) ⌝ }
-    ensures { λ r. ⌜ r ≡ groupHolds g (now (s .entry)) ⌝ }
+// Whether a group ends in its check digit; with no part present it is not checked, and where a part is missing it goes
+// on to the end of the text.
+fn group_at(g: Group, ends: usize, s: &[u8]) -> bool
+    ensures { λ r. ⌜ r ≡ groupAt g ends (now (s .entry)) ⌝ }
 {
     let skipped = wide(g.skipped);
     let joins = wide(g.joins);
@@ -279,24 +170,26 @@ fn group_holds(g: Group, h: Hyphens, s: &[u8]) -> bool
     if joins == 0 {
         return true;
     }
-    match after(h, s, skipped) {
-        Found::At(a) => match after(h, s, skipped + joins) {
-            Found::At(e) => stretch_holds(rule, &s[a..e - 1]),
-            Found::Nothing => stretch_holds(rule, &s[a..]),
-        },
-        Found::Nothing => true,
+    if end_of(skipped, ends) == 0 {
+        return true;
     }
+    let a = start_of(skipped, ends);
+    let e = end_of(skipped + joins - 1, ends);
+    if e == 0 {
+        return stretch_right(rule, a, s.len(), s);
+    }
+    stretch_right(rule, a, e, s)
 }
 
-// Whether each of a model's groups does, in a text whose hyphens stand so.
-fn all_hold(groups: [Group; 4], h: Hyphens, s: &[u8]) -> bool
-    requires { ⌜ h ≡ hyphensOf (now s) ⌝ }
-    ensures { λ r. ⌜ r ≡ groupsHold groups (now (s .entry)) ⌝ }
+// Whether a text whose parts end so has all that its model asks of a formed one: each group ends in its check digit.
+pub fn obeys_at(model: Model, ends: usize, s: &[u8]) -> bool
+    ensures { λ r. ⌜ r ≡ obeysAt model ends (now (s .entry)) ⌝ }
 {
+    let groups = model.groups;
     let mut i: usize = 0;
     while i < 4 {
         let g = groups[i];
-        if !group_holds(g, h, s) {
+        if !group_at(g, ends, s) {
             return false;
         }
         i += 1;
@@ -304,212 +197,64 @@ fn all_hold(groups: [Group; 4], h: Hyphens, s: &[u8]) -> bool
     true
 }
 
-// How many hyphens a text has.
-fn count_hyphens(s: &[u8]) -> usize
-    ensures { λ r. ⌜ r ≡ hyphensIn (now (s .entry)) ⌝ }
+// Whether a text obeys a model: its parts, and their check groups.
+pub fn obeys(model: Model, s: &[u8]) -> bool
+    ensures { λ r. ⌜ r ≡ obeys model (now (s .entry)) ⌝ }
 {
-    let mut n = 0;
-    let mut i = 0;
-    while i < s.len() {
-        if s[i] == 45 {
-            n += 1;
-            i += 1;
-        } else {
-            i += 1;
-        }
+    match parts(model, s) {
+        Found::At(ends) => obeys_at(model, ends, s),
+        Found::Nothing => false,
     }
-    n
-}
-
-// A place that was found; 0 for none.
-fn found(f: Found) -> usize
-    ensures { λ r. ⌜ r ≡ foundAt f ⌝ }
-{
-    match f {
-        Found::At(p) => p,
-        Found::Nothing => 0,
-    }
-}
-
-// Where a text's hyphens stand.
-fn standing(s: &[u8]) -> Hyphens
-    ensures { λ r. ⌜ r ≡ hyphensOf (now (s .entry)) ⌝ }
-{
-    stand(count_hyphens(s), found(seek(s, 1)), found(seek(s, 2)))
-}
-
-// Whether each of a model's groups ends in its check digit.
-pub fn groups_hold(groups: [Group; 4], s: &[u8]) -> bool
-    ensures { λ r. ⌜ r ≡ groupsHold groups (now (s .entry)) ⌝ }
-{
-    all_hold(groups, standing(s), s)
 }
 
 // ---------------------------------------------------------------------------
 // Answers
 
-// 9 where a check group fails, in a text whose hyphens stand so.
-fn checked(groups: [Group; 4], h: Hyphens, s: &[u8]) -> Answer
-    requires { ⌜ h ≡ hyphensOf (now s) ⌝ }
-    ensures { λ r. ⌜ r ≡ groupsAnswer groups (now (s .entry)) ⌝ }
-{
-    if all_hold(groups, h, s) {
-        return Answer::Accepted;
-    }
-    Answer::Refused(Refusal::Digit(refusal::nowhere()))
-}
-
-// What an unformed text is refused for: 3 with its byte, then 4, 8.
-fn unformed(s: &[u8]) -> Answer
-    ensures { λ r. ⌜ r ≡ unformedAnswer (now (s .entry)) (firstBad Class.Reference (now (s .entry))) ⌝ }
-{
-    match text::first_bad(Class::Reference, s) {
-        Found::At(i) => refusal::byte_at(i),
-        Found::Nothing => {
-            if 22 < s.len() {
-                return Answer::Refused(Refusal::Length(refusal::nowhere()));
-            }
-            Answer::Refused(Refusal::Parts(refusal::nowhere()))
-        }
-    }
-}
-
 // A reference's text under a handled model: 3 with its byte, then 4, 8, 9. What is formed has no byte for 3, so that
-// only what is not is looked through for one; an empty text has no group to check.
-fn judged_text(model: Model, s: &[u8]) -> Answer
-    ensures { λ r. ⌜ r ≡ textAnswer model (now (s .entry)) (firstBad Class.Reference (now (s .entry))) ⌝ }
+// only what is not is looked through for one.
+fn judged(model: Model, s: &[u8]) -> usize
+    ensures { λ r. ⌜ r ≡ textVerdict model (now (s .entry)) ⌝ }
 {
-    let fewest = model.fewest;
-    if s.len() == 0 {
-        if fewest == 0 {
-            return Answer::Accepted;
-        }
-        return Answer::Refused(Refusal::Parts(refusal::nowhere()));
-    }
-    let sizes = parts(model, s);
-    if sizes == 0 {
-        return unformed(s);
-    }
-    if extent(sizes) != s.len() {
-        return unformed(s);
-    }
-    if 22 < s.len() {
-        return Answer::Refused(Refusal::Length(refusal::nowhere()));
-    }
-    let groups = model.groups;
-    checked(groups, between(sizes), s)
-}
-
-// A reference by its model's number: 7, then 3 with its byte, 4, 8 and 9.
-pub fn numbered(n: usize, s: &[u8]) -> Answer
-    ensures { λ r. ⌜ r ≡ modelAnswer (now (s .entry)) (modelOf n) ⌝ }
-{
-    let m = models::rules(n);
-    if !m.handled {
-        return Answer::Refused(Refusal::Model(refusal::nowhere()));
-    }
-    judged_text(m, s)
-}
-
-// ---------------------------------------------------------------------------
-// Blanks at the end
-//
-// A wage line's reference has blanks behind it. They are what stands behind its parts, so that no byte is looked at for where they
-// begin; and what is refused is told as a number.
-
-// What a blank after n bytes of a reference ends: the text, where blanks alone stand behind it.
-fn ended_at(n: usize, rest: &[u8]) -> Stripped
-    ensures { λ r. ⌜ r ≡ cond (allOf Class.Blanks (now (rest .entry))) (Stripped.Size n) (Stripped.Wrong n) ⌝ }
-{
-    if text::all_blank(rest) {
-        return Stripped::Size(n);
-    }
-    Stripped::Wrong(n)
-}
-
-// What a text is without the blanks at its end.
-pub fn bare(s: &[u8]) -> Stripped
-    ensures { λ r. ⌜ r ≡ bareOf (now (s .entry)) ⌝ }
-{
-    let mut i = 0;
-    while i < s.len() {
-        let b = s[i];
-        if b == 32 {
-            return ended_at(i, &s[i + 1..]);
-        }
-        if !text::permitted(Class::Reference, b) {
-            return Stripped::Wrong(i);
-        }
-        i += 1;
-    }
-    Stripped::Size(i)
-}
-
-// What a text that has not the parts of a model is told for, without the blanks at its end: 3 with its byte, then 4, 8; an empty one
-// is right where the model asks for no part.
-fn tell_unformed(fewest: u8, s: &[u8]) -> usize
-    ensures { λ r. ⌜ Tells r (bareAnswer fewest (bareOf (now (s .entry)))) ⌝ }
-{
-    match bare(s) {
-        Stripped::Wrong(i) => 32 + i,
-        Stripped::Size(n) => {
-            if 22 < n {
+    match parts(model, s) {
+        Found::At(ends) => {
+            if 22 < s.len() {
                 return 4;
             }
-            if n != 0 {
-                return 8;
-            }
-            if fewest == 0 {
+            if obeys_at(model, ends, s) {
                 return 0;
+            }
+            9
+        }
+        Found::Nothing => {
+            let bad = text::judge(Class::Reference, s);
+            if bad != 0 {
+                return bad;
+            }
+            if 22 < s.len() {
+                return 4;
             }
             8
         }
     }
 }
 
-// A text without the blanks at its end, under a handled model: 3 with its byte, then 4, 8, 9.
-fn tell_text(model: Model, s: &[u8]) -> usize
-    ensures { λ r. ⌜ Tells r (textAnswer model (trimmed (now (s .entry))) (firstBad Class.Reference (trimmed (now (s .entry))))) ⌝ }
-{
-    let fewest = model.fewest;
-    let sizes = parts(model, s);
-    if sizes == 0 {
-        return tell_unformed(fewest, s);
-    }
-    let end = extent(sizes);
-    if !text::all_blank(&s[end..]) {
-        return 32 + end;
-    }
-    if 22 < end {
-        return 4;
-    }
-    let groups = model.groups;
-    if all_hold(groups, between(sizes), &s[0..end]) {
-        return 0;
-    }
-    9
-}
-
-// A text without the blanks at its end, by its model's number: what `numbered` answers of it, told as a number.
-pub fn tell(n: usize, s: &[u8]) -> usize
-    ensures { λ r. ⌜ Tells r (modelAnswer (trimmed (now (s .entry))) (modelOf n)) ⌝ }
+// A reference by its model's number: 7, then 3 with its byte, 4, 8 and 9.
+pub fn numbered(n: usize, s: &[u8]) -> usize
+    ensures { λ r. ⌜ r ≡ modelledVerdict (modelOf n) (now (s .entry)) ⌝ }
 {
     let m = models::rules(n);
     if !m.handled {
         return 7;
     }
-    tell_text(m, s)
+    judged(m, s)
 }
 
-// ---------------------------------------------------------------------------
-// By a model's text
-
 // A reference by its model's text: 5 and 7 of the model, then 3 with its byte, 4, 8 and 9 of the reference.
-pub fn reference(model: &[u8], s: &[u8]) -> Answer
-    ensures { λ r. ⌜ r ≡ referenceAnswer (now (model .entry)) (now (s .entry)) ⌝ }
+pub fn reference(model: &[u8], s: &[u8]) -> usize
+    ensures { λ r. ⌜ r ≡ referenceVerdict (now (model .entry)) (now (s .entry)) ⌝ }
 {
     match models::number(model) {
         Found::At(n) => numbered(n, s),
-        Found::Nothing => Answer::Refused(Refusal::Form(refusal::nowhere())),
+        Found::Nothing => 5,
     }
 }

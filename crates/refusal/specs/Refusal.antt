@@ -110,3 +110,8 @@ answerNumber (Refused r) = numberOf r
 abbrev pub isAccepted : Answer → Bool
 isAccepted Accepted = true
 isAccepted (Refused r) = false
+
+-- the first refusal stands
+abbrev pub firstOf : Answer → Answer → Answer
+firstOf Accepted rest = rest
+firstOf (Refused r) rest = Refused r

@@ -40,6 +40,10 @@ answerOf v field byte = cond (eqb v 0) Accepted (Refused (refusalOf (verdictNumb
 abbrev pub answerAt : ℕ → ℕ → ℕ → Answer
 answerAt field start v = answerOf v field (start + verdictByte v)
 
+-- of a field, the byte counted within it
+abbrev pub answerIn : ℕ → ℕ → Answer
+answerIn field v = answerOf v field (verdictByte v)
+
 -- a 3's byte lies within a text of n bytes
 abbrev pub Within : ℕ → ℕ → Type 0
 Within n v = v < 32 + n

@@ -5,7 +5,7 @@
 // no place answers a verdict (specs/Verdict.antt), and whoever knows the place makes an answer of it.
 ghost use mathlib.Core.Path.{_≡_};
 ghost use Rattle.refusal.specs.Refusal.{none, numberOf, placeOf, neededOf, refusalOf, moved, inLine, isAccepted};
-ghost use Rattle.refusal.specs.Verdict.{verdictByte, verdictNumber, answerOf};
+ghost use Rattle.refusal.specs.Verdict.{verdictByte, verdictNumber, answerOf, answerIn};
 
 // Where a refusal stands. Lines and fields count from 1, bytes from 0; 0 stands for "none".
 pub struct Place {
@@ -216,4 +216,11 @@ pub fn answer_of(verdict: usize, field: usize, byte: usize) -> Answer
         byte,
     };
     Answer::Refused(made(number_of(verdict), place, 0))
+}
+
+// A verdict told of a field, the byte counted within it.
+pub fn answer_in(verdict: usize, field: usize) -> Answer
+    ensures { λ r. ⌜ r ≡ answerIn field verdict ⌝ }
+{
+    answer_of(verdict, field, byte_of(verdict))
 }

@@ -6,31 +6,27 @@ use mathlib.Core.List.{List, [], _∷_}
 use Prim.Native.Nat.{ℕ, zero, suc, _+_, _-_, _≤_, _<_}
 use native.Mathlib.Numerals.{add-one}
 use native.Mathlib.Omega.{arith}
-use native.Mathlib.Nat.{add-zero}
+use native.Mathlib.Nat.{zero-add, add-zero}
 use lib.Dec.{eqb, leb}
 use lib.ListN.{length, take, drop, getD, length-drop}
-use lib.Seq.{drop-cons, drop-drop, drop-length, length-take-le}
+use lib.Seq.{drop-drop, length-take-le, take-all}
 use borrow.Author.Tests.{ne-eqb, eq-eqb, le-leb, lt-leb}
-use Rattle.refusal.specs.Refusal.{none, placeOf, isAccepted}
+use Rattle.refusal.specs.Refusal.{none, isAccepted, firstOf}
+use Rattle.refusal.specs.Verdict.{answerAt}
 use Rattle.refusal.specs.declared.Answer.{Answer}
 use Rattle.refusal.specs.declared.Answer.the-variants.{Accepted, Refused}
 use Rattle.refusal.specs.declared.Refusal.{Refusal}
 use Rattle.refusal.specs.declared.Refusal.the-variants.{Size, Ends}
-use Rattle.text.specs.Bytes.{permits, later, firstBad, same}
+use Rattle.text.specs.Bytes.{permits, later, firstBad, countOf}
 use Rattle.text.specs.declared.Class.{Class}
-use Rattle.text.specs.declared.Class.the-variants.{Digits, Line, Letters}
+use Rattle.text.specs.declared.Class.the-variants.{Line}
 use Rattle.text.specs.declared.Found.{Found}
 use Rattle.text.specs.declared.Found.the-variants.{At, Nothing}
+use Rattle.text.specs.declared.Part.{Part}
 use Rattle.text.specs.Split.{longer, split}
-use Rattle.text.proofs.ByteWithin.{Below, below-later, bad-below, Within, within-one, found-within}
 use Rattle.text.proofs.Laws.{to-the-end, left, entered, and-first, and-second}
-use Rattle.characters.specs.Characters.{isSingle, isPair, firstWrong, characters}
-use Rattle.characters.specs.Answers.{textFrom}
-use Rattle.account.proofs.ByteWithin.{iban-within}
-use Rattle.models.proofs.ByteWithin.{model-within}
-use Rattle.reference.proofs.ByteWithin.{reference-within}
-use Rattle.slip_fields.specs.Fields.{fieldAnswer, hrvhub30, eur, amountFrom, purposeFrom, mostOf}
-use Rattle.slip.specs.Slip.{countOf, slipEnds, judged, fieldsAnswer, slipAnswer, pieceOf, fieldOf}
+use Rattle.slip_fields.specs.Fields.{fieldVerdict}
+use Rattle.slip.specs.Slip.{slipEnds, fieldsAnswer, slipAnswer, pieceOf, startOf, piecePart, isHanded, fieldPart, fieldOf}
 
 -- ---------------------------------------------------------------------------
 -- The pieces between the bytes c
@@ -86,23 +82,7 @@ pub split-whole : (s : List ℕ) → firstBad Line s ≡ Nothing → split 10 s 
 split-whole s e = rw e at (divided 10 Line (λ b. refl) s)
 
 -- ---------------------------------------------------------------------------
--- Line feeds, from place i on
-
-module _ (s : List ℕ) (i n : ℕ) (h : i < length s) where
-  -- one more where one stands
-  pub ends-more : getD s i 0 ≡ 10 → n + countOf 10 (drop i s) ≡ n + 1 + countOf 10 (drop (i + 1) s)
-  unfolding countOf
-  ends-more e = rw (drop-cons s i 0 h, add-one i, e) (omega arith)
-
-  -- none more where another byte stands
-  pub ends-same : (getD s i 0 ≡ 10 → ⊥) → n + countOf 10 (drop i s) ≡ n + countOf 10 (drop (i + 1) s)
-  unfolding countOf
-  ends-same e = rw (drop-cons s i 0 h, add-one i, ne-eqb (getD s i 0) 10 e)
-
--- none left at the end
-pub ends-end : (s : List ℕ) (i n : ℕ) → length s ≤ i → i ≤ length s → n ≡ n + countOf 10 (drop i s)
-unfolding countOf
-ends-end s i n h g = let e : i ≡ length s = omega arith in rw (e, drop-length) (sym (add-zero n))
+-- Line feeds
 
 -- a text with no byte has no line feed
 pub no-byte-no-end : (s : List ℕ) → length s ≡ 0 → countOf 10 s ≡ 14 → ⊥
@@ -138,82 +118,83 @@ module _ (s : List ℕ) (at : ℕ) where
   pub last-piece : firstBad Line (take (length s - at) (drop at s)) ≡ Nothing → split 10 (drop at s) ≡ drop at s ∷ []
   last-piece e = split-whole (drop at s) (rw (to-the-end at s) at e)
 
--- the piece at a place is that of the rest one place before
-pub piece-on : (p : List ℕ) (ps qs : List (List ℕ)) (k : ℕ) → 0 < k → qs ≡ p ∷ ps → pieceOf k qs ≡ pieceOf (k - 1) ps
-unfolding pieceOf
-piece-on p ps qs zero h e = absurd (omega arith)
-piece-on p ps qs (suc k) h e = rw e (ap (λ (j : ℕ). pieceOf j ps) (omega arith))
-
--- past the last piece there is nothing
-pub piece-past : (p : List ℕ) (qs : List (List ℕ)) (k : ℕ) → 0 < k → qs ≡ p ∷ [] → [] ≡ pieceOf k qs
-unfolding pieceOf
-piece-past p qs zero h e = absurd (omega arith)
-piece-past p qs (suc k) h e = rw e
-
--- and the one at 0 is the first
-pub piece-here : (p : List ℕ) (ps qs : List (List ℕ)) → qs ≡ p ∷ ps → p ≡ pieceOf 0 qs
-unfolding pieceOf
-piece-here p ps qs e = rw e
-
--- with none left to count, the first piece from `at` on is the one
-pub piece-found : (s r : List ℕ) (at k left : ℕ) → left ≤ 0 → r ≡ pieceOf 0 (split 10 (take (length s - at) (drop at s))) → pieceOf k (split 10 s) ≡ pieceOf left (split 10 (drop at s)) → r ≡ pieceOf k (split 10 s)
-piece-found s r at k left h e f =
-    let z : left ≡ 0 = omega arith in
-    (rw (to-the-end at s) at e) ∙ sym (rw z at f)
-
 -- ---------------------------------------------------------------------------
--- The byte of a field's refusal
+-- Where a piece stands
 
--- what the scan for characters finds
-wrong-below : (s : List ℕ) → Below (length s) (firstWrong s)
-unfolding firstWrong
-wrong-below [] = tt
-wrong-below (b ∷ []) = go (isSingle b)
+-- with pieces behind a first one of i bytes
+start-behind : (s t : List ℕ) (i k : ℕ) → i ≤ length s → startOf (suc k) (take i s ∷ split 10 t) ≡ i + 1 + startOf k (split 10 t)
+unfolding startOf
+start-behind s t i k h = rw (first-piece 10 t .2, length-take-le i s h)
+
+-- a part further on in the text
+abbrev pub behind : ℕ → Part → Part
+behind n p = record { start = n + p .start; length = p .length }
+
+-- nothing further on
+pub behind-none : (p : Part) → p ≡ behind 0 p
+behind-none p = rw (zero-add (p .start))
+
+-- past the end of a text without a line feed there is no piece
+piece-past : (s : List ℕ) (k : ℕ) → 0 < k → firstBad Line s ≡ Nothing → piecePart k (split 10 s) ≡ record { start = 0; length = 0 }
+unfolding startOf pieceOf
+piece-past s zero h e = absurd (omega arith)
+piece-past s (suc k) h e = rw (split-whole s e)
+
+-- behind its first line feed stand the others
+piece-on : (s : List ℕ) (k i : ℕ) → 0 < k → firstBad Line s ≡ At i → piecePart k (split 10 s) ≡ behind (i + 1) (piecePart (k - 1) (split 10 (drop (i + 1) s)))
+unfolding pieceOf
+piece-on s zero i h e = absurd (omega arith)
+piece-on s (suc k) i h e =
+    let d = split-at s i e in
+    let z : suc k - 1 ≡ k = omega arith in
+    rw (d .1, start-behind s (drop (i + 1) s) i k (omega (arith, d .0)), z)
+
+-- the piece that is `left` pieces on from place `at`
+module _ (s : List ℕ) (at left : ℕ) where
+  -- a line feed: one piece fewer
+  pub piece-again :
+      (i : ℕ) → 0 < left → firstBad Line (take (length s - at) (drop at s)) ≡ At i
+      → behind at (piecePart left (split 10 (drop at s))) ≡ behind (at + (i + 1)) (piecePart (left - 1) (split 10 (drop (at + (i + 1)) s)))
+  piece-again i h e =
+      let q : at + (i + 1 + startOf (left - 1) (split 10 (drop (at + (i + 1)) s))) ≡ at + (i + 1) + startOf (left - 1) (split 10 (drop (at + (i + 1)) s)) = omega arith in
+      ap (behind at) (piece-on (drop at s) left i h (rw (to-the-end at s) at e)) ∙ rw (drop-drop (i + 1) at s, q)
+
+  -- none: it has no byte
+  pub piece-none : 0 < left → firstBad Line (take (length s - at) (drop at s)) ≡ Nothing → record { start = at; length = 0 } ≡ behind at (piecePart left (split 10 (drop at s)))
+  piece-none h e = base ∙ ap (behind at) (sym (piece-past (drop at s) left h (rw (to-the-end at s) at e)))
+    where
+      base : record { start = at; length = 0 } ≡ behind at (record { start = 0; length = 0 })
+      base = rw (add-zero at)
+
+  -- it is the first
+  pub piece-here :
+      (r : ℕ) → left ≤ 0 → r ≡ length (pieceOf 0 (split 10 (take (length s - at) (drop at s))))
+      → record { start = at; length = r } ≡ behind at (piecePart left (split 10 (drop at s)))
+  unfolding startOf
+  piece-here r h e = let z : left ≡ 0 = omega arith in rw (z, e, to-the-end at s, add-zero at)
+
+-- its bytes are the piece's, and lie within the text
+abbrev pub Stands : List ℕ → List ℕ → Part → Type 0
+Stands s piece p = (p .start + p .length ≤ length s) × (take (p .length) (drop (p .start) s) ≡ piece)
+
+pub piece-stands : (k : ℕ) (s : List ℕ) → Stands s (pieceOf k (split 10 s)) (piecePart k (split 10 s))
+unfolding pieceOf startOf
+piece-stands zero s = go (firstBad Line s) refl
   where
-    go : (t : Bool) → Below 1 (cond t Nothing (At 0))
-    go true = tt
-    go false = omega arith
-wrong-below (b ∷ (c ∷ s)) = go (isSingle b) (isPair b c) (wrong-below (c ∷ s)) (wrong-below s)
+    go : (f : Found) → firstBad Line s ≡ f → Stands s (pieceOf 0 (split 10 s)) (piecePart 0 (split 10 s))
+    go (At i) e =
+        let d = split-at s i e in
+        rw (d .1, length-take-le i s (omega (arith, d .0))) (omega (arith, d .0), refl)
+    go Nothing e = rw (split-whole s e) (omega arith, take-all (length s) s (omega arith))
+piece-stands (suc k) s = go (firstBad Line s) refl (λ t. piece-stands k t)
   where
-    go : (t u : Bool) → Below (suc (length s)) (firstWrong (c ∷ s)) → Below (length s) (firstWrong s) →
-        Below (suc (suc (length s))) (cond t (later (firstWrong (c ∷ s))) (cond u (later (later (firstWrong s))) (At 0)))
-    go true u f g = below-later (suc (length s)) (firstWrong (c ∷ s)) f
-    go false true f g = below-later (suc (length s)) (later (firstWrong s)) (below-later (length s) (firstWrong s) g)
-    go false false f g = omega arith
-
--- each kind of field refuses at a byte that a scan found, or at 0
-module _ (s : List ℕ) where
-  -- a refusal that tells no byte
-  nowhere-within : 0 ≤ length s
-  nowhere-within = omega arith
-
-  -- field 3
-  amount-within : Within (length s) (amountFrom s (firstBad Digits s))
-  amount-within = found-within (length s) (amountFrom s) (λ i h. omega arith) (within-one (length s) (eqb (length s) 15) _ _ tt nowhere-within) (firstBad Digits s) (bad-below Digits s)
-
-  -- field 13
-  purpose-within : Within (length s) (purposeFrom s (firstBad Letters s))
-  purpose-within = found-within (length s) (purposeFrom s) (λ i h. omega arith) (within-one (length s) (eqb (length s) 0 || eqb (length s) 4) _ _ tt nowhere-within) (firstBad Letters s) (bad-below Letters s)
-
-  -- fields 4 to 9 and 14
-  text-within : (most : ℕ) → Within (length s) (textFrom most s (firstWrong s))
-  text-within most = found-within (length s) (textFrom most s) (λ i h. omega arith) (within-one (length s) (leb (characters s) most) _ _ tt nowhere-within) (firstWrong s) (wrong-below s)
-
-  -- so every field does
-  field-within : (n : ℕ) (m : List ℕ) → Within (length s) (fieldAnswer n m s)
-  unfolding fieldAnswer
-  field-within n m =
-      within-one (length s) (eqb n 1) _ _ (within-one (length s) (same hrvhub30 s) _ _ tt nowhere-within)
-      (within-one (length s) (eqb n 2) _ _ (within-one (length s) (same eur s) _ _ tt nowhere-within)
-      (within-one (length s) (eqb n 3) _ _ amount-within
-      (within-one (length s) (eqb n 10) _ _ (iban-within s)
-      (within-one (length s) (eqb n 11) _ _ (model-within (length s) s)
-      (within-one (length s) (eqb n 12) _ _ (reference-within s m)
-      (within-one (length s) (eqb n 13) _ _ purpose-within (text-within (mostOf n))))))))
-
--- the byte of a field's refusal is at most the field's length
-pub byte-within : (n : ℕ) (m s : List ℕ) (r : Refusal) → fieldAnswer n m s ≡ Refused r → placeOf r .byte ≤ length s
-byte-within n m s r e = rw e at (field-within s n m)
+    go : (f : Found) → firstBad Line s ≡ f → ((t : List ℕ) → Stands t (pieceOf k (split 10 t)) (piecePart k (split 10 t))) → Stands s (pieceOf (suc k) (split 10 s)) (piecePart (suc k) (split 10 s))
+    go (At i) e on =
+        let d = split-at s i e in
+        let t = drop (i + 1) s in
+        rw (d .1, start-behind s t i k (omega (arith, d .0)), ← (drop-drop (startOf k (split 10 t)) (i + 1) s))
+        (omega (arith, on t .0, d .0, length-drop (i + 1) s), on t .1)
+    go Nothing e on = rw (split-whole s e) (omega arith, refl)
 
 -- ---------------------------------------------------------------------------
 -- Fields, from place `at` on
@@ -231,19 +212,9 @@ pub record Reached (s : List ℕ) (n before end at : ℕ) : Type 0 where
   pub whole : fieldsAnswer 1 0 [] (split 10 s) ≡ fieldsAnswer n at (part before end s) (split 10 (drop at s))
 
 -- a piece and what follows it
-fields-step : (n start : ℕ) (m p t : List ℕ) → fieldsAnswer n start m (p ∷ split 10 t) ≡ judged n start (fieldAnswer n m p) (fieldsAnswer (n + 1) (start + length p + 1) p (split 10 t))
+fields-step : (n start : ℕ) (m p t : List ℕ) → fieldsAnswer n start m (p ∷ split 10 t) ≡ firstOf (answerAt n start (fieldVerdict n m p)) (fieldsAnswer (n + 1) (start + length p + 1) p (split 10 t))
 unfolding fieldsAnswer
 fields-step n start m p t = rw (first-piece 10 t .2)
-
--- what follows an accepted field is the answer
-pub judged-on : (n start : ℕ) (a rest : Answer) → judged n start a Accepted ≡ Accepted → judged n start a rest ≡ rest
-judged-on n start Accepted rest e = refl
-judged-on n start (Refused r) rest e = let z : _≡_ {A = ℕ} 0 1 = cc in absurd (omega arith)
-
--- a refused field is the answer
-pub judged-there : (n start : ℕ) (a rest : Answer) (q : Refusal) → judged n start a Accepted ≡ Refused q → judged n start a rest ≡ Refused q
-judged-there n start Accepted rest q e = let z : _≡_ {A = ℕ} 0 1 = cc in absurd (omega arith)
-judged-there n start (Refused r) rest q e = e
 
 -- the first field
 pub reached-first : (s : List ℕ) → Reached s 1 0 0 0
@@ -260,7 +231,7 @@ module _ (s : List ℕ) (n before end at : ℕ) (w : Reached s n before end at) 
     reached-length = let z : at + i - at ≡ i = omega arith in rw z (length-take-le i (drop at s) (omega (arith, reached-ends, length-drop at s)))
 
     -- the answer is its answer and that of what follows
-    reached-field : fieldsAnswer 1 0 [] (split 10 s) ≡ judged n at (fieldAnswer n (part before end s) (part at (at + i) s)) (fieldsAnswer (n + 1) (at + i + 1) (part at (at + i) s) (split 10 (drop (at + i + 1) s)))
+    reached-field : fieldsAnswer 1 0 [] (split 10 s) ≡ firstOf (answerAt n at (fieldVerdict n (part before end s) (part at (at + i) s))) (fieldsAnswer (n + 1) (at + i + 1) (part at (at + i) s) (split 10 (drop (at + i + 1) s)))
     reached-field =
         let z : at + i - at ≡ i = omega arith in
         let y : at + (i + 1) ≡ at + i + 1 = omega arith in
@@ -269,7 +240,7 @@ module _ (s : List ℕ) (n before end at : ℕ) (w : Reached s n before end at) 
         let d : split 10 (drop at s) ≡ p ∷ split 10 (drop (at + i + 1) s) = next-piece s at i (w .within) e .1 ∙ rw (z, y) in
         w .whole ∙ (ap (fieldsAnswer n at m) d ∙ (fields-step n at m p (drop (at + i + 1) s) ∙ rw reached-length))
 
-    module _ (r : Answer) (j : r ≡ judged n at (fieldAnswer n (part before end s) (part at (at + i) s)) Accepted) where
+    module _ (r : Answer) (j : r ≡ answerAt n at (fieldVerdict n (part before end s) (part at (at + i) s))) where
       -- accepted: on to the next field
       pub reached-next : r ≡ Accepted → Reached s (n + 1) at (at + i) (at + i + 1)
       reached-next a =
@@ -278,12 +249,12 @@ module _ (s : List ℕ) (n before end at : ℕ) (w : Reached s n before end at) 
             fewer = omega (arith, w .fewer);
             ordered = omega arith;
             passed = omega (arith, reached-ends);
-            whole = reached-field ∙ judged-on n at (fieldAnswer n (part before end s) (part at (at + i) s)) (fieldsAnswer (n + 1) (at + i + 1) (part at (at + i) s) (split 10 (drop (at + i + 1) s))) (sym j ∙ a);
+            whole = reached-field ∙ rw (sym j ∙ a);
           }
 
       -- refused: that is the answer
       pub reached-refusal : (q : Refusal) → r ≡ Refused q → Refused q ≡ fieldsAnswer 1 0 [] (split 10 s)
-      reached-refusal q a = sym (reached-field ∙ judged-there n at (fieldAnswer n (part before end s) (part at (at + i) s)) (fieldsAnswer (n + 1) (at + i + 1) (part at (at + i) s) (split 10 (drop (at + i + 1) s))) q (sym j ∙ a))
+      reached-refusal q a = sym (reached-field ∙ rw (sym j ∙ a))
 
   -- no further line feed: every field was accepted
   pub reached-last : firstBad Line (take (length s - at) (drop at s)) ≡ Nothing → Accepted ≡ fieldsAnswer 1 0 [] (split 10 s)
@@ -309,30 +280,21 @@ module _ (s : List ℕ) where
   unfolding slipAnswer
   fields-judged r h e f = entered (leb (length s) 483) _ _ _ (le-leb (length s) 483 h) (entered (slipEnds s) _ _ _ e f)
 
+-- where a field stands, which is handed out or not
 module _ (s : List ℕ) (n : ℕ) where
-  -- fields 1 to 3 are not handed out
-  pub field-below : n < 4 → [] ≡ fieldOf s n
-  unfolding fieldOf
-  field-below h = left (leb 4 n && (leb n 14 && isAccepted (slipAnswer s))) _ _ _ (sym (and-first (leb 4 n) _ (lt-leb 4 n h))) refl
+  pub not-handed : isHanded s n ≡ false → record { start = 0; length = 0 } ≡ fieldPart s n
+  unfolding fieldPart
+  not-handed e = rw e
 
-  -- nor is an unknown one
-  pub field-above : 4 ≤ n → 14 < n → [] ≡ fieldOf s n
-  unfolding fieldOf
-  field-above g h =
-      left (leb 4 n && (leb n 14 && isAccepted (slipAnswer s))) _ _ _
-      (sym (and-second (leb 4 n) _ _ (le-leb 4 n g) (and-first (leb n 14) _ (lt-leb n 14 h)))) refl
+  pub handed : (p : Part) → 4 ≤ n → n ≤ 14 → isAccepted (slipAnswer s) ≡ true → p ≡ piecePart (n - 1) (split 10 s) → p ≡ fieldPart s n
+  unfolding fieldPart
+  handed p g h e f = entered (isHanded s n) _ _ p (rw (le-leb 4 n g, le-leb n 14 h, e)) f
 
-  module _ (g : 4 ≤ n) (h : n ≤ 14) where
-    -- of the others, acceptance decides
-    field-tested : (b : Bool) → isAccepted (slipAnswer s) ≡ b → (leb 4 n && (leb n 14 && isAccepted (slipAnswer s))) ≡ b
-    field-tested b e = sym (and-second (leb 4 n) _ _ (le-leb 4 n g) (and-second (leb n 14) _ _ (le-leb n 14 h) (sym e)))
-
-    -- none of a refused slip
-    pub field-refused : isAccepted (slipAnswer s) ≡ false → [] ≡ fieldOf s n
-    unfolding fieldOf
-    field-refused e = left (leb 4 n && (leb n 14 && isAccepted (slipAnswer s))) _ _ _ (field-tested false e) refl
-
-    -- and the piece of an accepted one
-    pub field-handed : (r : List ℕ) → isAccepted (slipAnswer s) ≡ true → r ≡ pieceOf (n - 1) (split 10 s) → r ≡ fieldOf s n
-    unfolding fieldOf
-    field-handed r e f = entered (leb 4 n && (leb n 14 && isAccepted (slipAnswer s))) _ _ _ (field-tested true e) f
+  -- it is the field
+  pub field-stands : Stands s (fieldOf s n) (fieldPart s n)
+  unfolding fieldPart fieldOf
+  field-stands = go (isHanded s n)
+    where
+      go : (b : Bool) → Stands s (cond b (pieceOf (n - 1) (split 10 s)) []) (cond b (piecePart (n - 1) (split 10 s)) (record { start = 0; length = 0 }))
+      go true = piece-stands (n - 1) s
+      go false = (omega arith, refl)

@@ -12,15 +12,19 @@ use lib.ListN.{length, getD}
 use borrow.Author.Tests.{eq-eqb, eqb-true, leb-true}
 use Rattle.refusal.specs.Only.{Only, defined-only}
 use Rattle.refusal.specs.Refusal.{none}
+use Rattle.refusal.specs.Verdict.{answerAt}
+use Rattle.refusal.proofs.Verdicts.{answer-accepted, first-both}
 use Rattle.refusal.specs.declared.Answer.{Answer}
 use Rattle.refusal.specs.declared.Answer.the-variants.{Accepted, Refused}
 use Rattle.refusal.specs.declared.Refusal.{Refusal}
 use Rattle.refusal.specs.declared.Refusal.the-variants.{Size, Ends}
+use Rattle.text.specs.Bytes.{countOf}
+use Rattle.text.specs.declared.Part.{Part}
 use Rattle.text.specs.Split.{split}
 use Rattle.text.proofs.Laws.{both-true, and-second}
-use Rattle.slip_fields.specs.Fields.{fieldAnswer}
+use Rattle.slip_fields.specs.Fields.{fieldVerdict}
 use Rattle.slip.specs.declared.Amount.{Amount}
-use Rattle.slip.specs.Slip.{centsOf, countOf, slipEnds, judged, fieldsAnswer, slipAnswer, pieceOf, fieldOf}
+use Rattle.slip.specs.Slip.{centsOf, slipEnds, fieldsAnswer, slipAnswer, pieceOf, fieldPart, fieldOf}
 use Rattle.slip.proofs.Laws.{pieces-counted, fields-judged}
 
 -- ---------------------------------------------------------------------------
@@ -39,30 +43,25 @@ pub record Right (s : List ℕ) : Type 0 where
   pub short : length s ≤ 483
   pub ends : countOf 10 s ≡ 14
   pub last : getD s (length s - 1) 0 ≡ 10
-  pub fields : (n : ℕ) → 1 ≤ n → n ≤ 14 → fieldAnswer n (textBefore s n) (fieldText s n) ≡ Accepted
+  pub fields : (n : ℕ) → 1 ≤ n → n ≤ 14 → fieldVerdict n (textBefore s n) (fieldText s n) ≡ 0
 
 -- a choice between an answer and a refusal accepts where its test holds and the answer does
 chosen : (b : Bool) (x : Answer) (q : Refusal) → cond b x (Refused q) ≡ Accepted → (b ≡ true) × (x ≡ Accepted)
 chosen true x q e = (refl, e)
 chosen false x q e = let z : _≡_ {A = ℕ} 0 1 = cc in absurd (omega arith)
 
--- a field and the rest accept where both do
-judged-both : (n start : ℕ) (a rest : Answer) → judged n start a rest ≡ Accepted → (a ≡ Accepted) × (rest ≡ Accepted)
-judged-both n start Accepted rest e = (refl, e)
-judged-both n start (Refused r) rest e = let z : _≡_ {A = ℕ} 0 1 = cc in absurd (omega arith)
-
 -- the fields of an accepted slip are each accepted, up to the last line feed
-fields-each : (n start : ℕ) (m : List ℕ) (ps : List (List ℕ)) → fieldsAnswer n start m ps ≡ Accepted → (k : ℕ) → k + 1 < length ps → fieldAnswer (n + k) (getD (m ∷ ps) k []) (getD ps k []) ≡ Accepted
+fields-each : (n start : ℕ) (m : List ℕ) (ps : List (List ℕ)) → fieldsAnswer n start m ps ≡ Accepted → (k : ℕ) → k + 1 < length ps → fieldVerdict (n + k) (getD (m ∷ ps) k []) (getD ps k []) ≡ 0
 unfolding fieldsAnswer
 fields-each n start m [] e k h = absurd (omega arith)
 fields-each n start m (p ∷ []) e k h = absurd (omega arith)
-fields-each n start m (p ∷ (q ∷ ps)) e zero h = rw (add-zero n) (judged-both n start (fieldAnswer n m p) (fieldsAnswer (n + 1) (start + length p + 1) p (q ∷ ps)) e .0)
+fields-each n start m (p ∷ (q ∷ ps)) e zero h = rw (add-zero n) (answer-accepted _ _ _ (first-both (answerAt n start (fieldVerdict n m p)) _ e .0))
 fields-each n start m (p ∷ (q ∷ ps)) e (suc k) h =
     let z : n + suc k ≡ n + 1 + k = omega arith in
-    rw z (fields-each (n + 1) (start + length p + 1) p (q ∷ ps) (judged-both n start (fieldAnswer n m p) (fieldsAnswer (n + 1) (start + length p + 1) p (q ∷ ps)) e .1) k (omega arith))
+    rw z (fields-each (n + 1) (start + length p + 1) p (q ∷ ps) (first-both (answerAt n start (fieldVerdict n m p)) _ e .1) k (omega arith))
 
 -- and where each is accepted, so are they all
-each-fields : (n start : ℕ) (m : List ℕ) (ps : List (List ℕ)) → ((k : ℕ) → k + 1 < length ps → fieldAnswer (n + k) (getD (m ∷ ps) k []) (getD ps k []) ≡ Accepted) → Accepted ≡ fieldsAnswer n start m ps
+each-fields : (n start : ℕ) (m : List ℕ) (ps : List (List ℕ)) → ((k : ℕ) → k + 1 < length ps → fieldVerdict (n + k) (getD (m ∷ ps) k []) (getD ps k []) ≡ 0) → Accepted ≡ fieldsAnswer n start m ps
 unfolding fieldsAnswer
 each-fields n start m [] f = refl
 each-fields n start m (p ∷ []) f = refl
@@ -101,6 +100,9 @@ module _ (s : List ℕ) where
 
 pub read-only : (s : List ℕ) → Only (λ (r : Answer). r ≡ slipAnswer s)
 read-only s = defined-only (slipAnswer s)
+
+pub part-only : (s : List ℕ) (n : ℕ) → Only (λ (r : Part). r ≡ fieldPart s n)
+part-only s n = defined-only (fieldPart s n)
 
 pub field-only : (s : List ℕ) (n : ℕ) → Only (λ (r : List ℕ). r ≡ fieldOf s n)
 field-only s n = defined-only (fieldOf s n)

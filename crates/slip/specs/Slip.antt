@@ -1,28 +1,25 @@
 -- Document 01, "The slip's fourteen fields": what reading a slip answers, and its fields.
-use Prim.Native.Nat.{ℕ, suc, _+_, _-_}
+use Prim.Native.Nat.{ℕ, zero, suc, _+_, _-_}
 use mathlib.Core.Bool.{Bool, cond, _&&_}
 use mathlib.Core.List.{List, [], _∷_}
 use lib.Dec.{eqb, leb}
 use lib.ListN.{length, getD}
-use Rattle.refusal.specs.Refusal.{none, placeOf, moved, isAccepted}
+use Rattle.refusal.specs.Refusal.{none, isAccepted, firstOf}
+use Rattle.refusal.specs.Verdict.{answerAt}
 use Rattle.refusal.specs.declared.Answer.{Answer}
 use Rattle.refusal.specs.declared.Answer.the-variants.{Accepted, Refused}
-use Rattle.refusal.specs.declared.Refusal.{Refusal}
 use Rattle.refusal.specs.declared.Refusal.the-variants.{Size, Ends}
+use Rattle.text.specs.declared.Part.{Part}
+use Rattle.text.specs.Bytes.{countOf}
 use Rattle.text.specs.Digits.{digitsOf, valueOf}
 use Rattle.text.specs.Split.{split}
 use Rattle.slip.specs.declared.Amount.{Amount}
 use Rattle.slip.specs.declared.Amount.the-variants as amount
 use Rattle.slip.specs.declared.Amount.the-variants.{Cents}
-use Rattle.slip_fields.specs.Fields.{fieldAnswer}
+use Rattle.slip_fields.specs.Fields.{fieldVerdict}
 
 -- ---------------------------------------------------------------------------
 -- Line ends (2)
-
--- how many bytes c
-unfoldable pub countOf : ℕ → List ℕ → ℕ
-countOf c [] = 0
-countOf c (b ∷ s) = cond (eqb b c) (suc (countOf c s)) (countOf c s)
 
 -- "exactly fourteen LF with one last"
 abbrev pub slipEnds : List ℕ → Bool
@@ -31,20 +28,11 @@ slipEnds s = eqb (countOf 10 s) 14 && eqb (getD s (length s - 1) 0) 10
 -- ---------------------------------------------------------------------------
 -- Fields in order
 
--- a refusal of field n that starts at a byte: "For 3, byte is the first offending byte; otherwise the field's first byte"
-abbrev pub told : ℕ → ℕ → Refusal → Refusal
-told n start r = moved (record { line = 0; field = n; byte = start + placeOf r .byte }) r
-
--- the first refusal stands
-abbrev pub judged : ℕ → ℕ → Answer → Answer → Answer
-judged n start Accepted rest = rest
-judged n start (Refused r) rest = Refused (told n start r)
-
 -- the pieces from field n on, which starts at a byte, after the field m; what follows the last line feed is no field
 unfoldable pub fieldsAnswer : ℕ → ℕ → List ℕ → List (List ℕ) → Answer
 fieldsAnswer n start m [] = Accepted
 fieldsAnswer n start m (p ∷ []) = Accepted
-fieldsAnswer n start m (p ∷ (q ∷ ps)) = judged n start (fieldAnswer n m p) (fieldsAnswer (n + 1) (start + length p + 1) p (q ∷ ps))
+fieldsAnswer n start m (p ∷ (q ∷ ps)) = firstOf (answerAt n start (fieldVerdict n m p)) (fieldsAnswer (n + 1) (start + length p + 1) p (q ∷ ps))
 
 -- "Above 483 bytes is 1; empty is 2. Order: 1, then 2, then fields 1 to 14"
 unfoldable pub slipAnswer : List ℕ → Answer
@@ -60,10 +48,28 @@ slipAnswer s =
 unfoldable pub pieceOf : ℕ → List (List ℕ) → List ℕ
 pieceOf k ps = getD ps k []
 
+-- a field is handed out: 4 to 14, of an accepted slip
+abbrev pub isHanded : List ℕ → ℕ → Bool
+isHanded s n = leb 4 n && (leb n 14 && isAccepted (slipAnswer s))
+
 -- "hands back each text field as the part of the lent bytes where it stands, 10 to 13 too (1 to 3 empty)"; an unknown number and a refused
 -- slip give an empty one
 unfoldable pub fieldOf : List ℕ → ℕ → List ℕ
-fieldOf s n = cond (leb 4 n && (leb n 14 && isAccepted (slipAnswer s))) (pieceOf (n - 1) (split 10 s)) []
+fieldOf s n = cond (isHanded s n) (pieceOf (n - 1) (split 10 s)) []
+
+-- where the piece at a place begins, behind the pieces before it and their line feeds
+unfoldable pub startOf : ℕ → List (List ℕ) → ℕ
+startOf zero ps = 0
+startOf (suc k) [] = 0
+startOf (suc k) (p ∷ []) = 0
+startOf (suc k) (p ∷ (q ∷ ps)) = length p + 1 + startOf k (q ∷ ps)
+
+-- the same field told as start and length
+abbrev pub piecePart : ℕ → List (List ℕ) → Part
+piecePart k ps = record { start = startOf k ps; length = length (pieceOf k ps) }
+
+unfoldable pub fieldPart : List ℕ → ℕ → Part
+fieldPart s n = cond (isHanded s n) (piecePart (n - 1) (split 10 s)) (record { start = 0; length = 0 })
 
 -- ---------------------------------------------------------------------------
 -- The amount of a slip

@@ -4,43 +4,27 @@
 // `slip_fields::judge_field`; reading goes from line feed to line feed and stops at the first refusal.
 ghost use mathlib.Core.Path.{_≡_};
 ghost use mathlib.Core.List.{[]};
-ghost use Prim.Native.Nat.{_+_, _<_, _^_};
-ghost use lib.ListN.{length};
-ghost use Rattle.refusal.specs.Refusal.{placeOf, isAccepted};
+ghost use Prim.Native.Nat.{_+_, _<_, _≤_, _^_};
+ghost use lib.ListN.{length, take, drop};
+ghost use Rattle.refusal.specs.Refusal.{isAccepted};
+ghost use Rattle.refusal.specs.Verdict.{answerAt};
 ghost use Rattle.text.specs.Split.{split};
-ghost use Rattle.slip_fields.specs.Fields.{fieldAnswer};
-ghost use Rattle.slip.specs.Slip.{countOf, slipEnds, told, judged, fieldsAnswer, slipAnswer, pieceOf, fieldOf, centsOf};
+ghost use Rattle.slip_fields.specs.Fields.{fieldVerdict};
+ghost use Rattle.slip.specs.Slip.{slipEnds, fieldsAnswer, slipAnswer, pieceOf, piecePart, fieldPart, fieldOf, centsOf};
 use refusal::Answer;
-use refusal::Place;
 use refusal::Refusal;
 use text::Class;
 use text::Found;
+use text::Part;
 
 // ---------------------------------------------------------------------------
 // The whole slip
-
-// How many line feeds a text has.
-fn count_ends(s: &[u8]) -> usize
-    ensures { λ r. ⌜ r ≡ countOf 10 (now (s .entry)) ⌝ }
-{
-    let mut n = 0;
-    let mut i = 0;
-    while i < s.len() {
-        if s[i] == 10 {
-            n += 1;
-            i += 1;
-        } else {
-            i += 1;
-        }
-    }
-    n
-}
 
 // Whether there are fourteen line feeds, one of them last.
 fn ends_right(s: &[u8]) -> bool
     ensures { λ r. ⌜ r ≡ slipEnds (now (s .entry)) ⌝ }
 {
-    if count_ends(s) != 14 {
+    if text::count(10, s) != 14 {
         return false;
     }
     if s.len() == 0 {
@@ -50,32 +34,13 @@ fn ends_right(s: &[u8]) -> bool
     s[last] == 10
 }
 
-// A refusal within a field, told of the field and of the byte in the slip.
-fn placed(r: Refusal, n: usize, start: usize) -> Refusal
-    requires { ⌜ start + placeOf r .byte < 2 ^ 64 ⌝ }
-    ensures { λ q. ⌜ q ≡ told n start r ⌝ }
-{
-    let p = refusal::told(r);
-    let byte = p.byte;
-    refusal::put(
-        r,
-        Place {
-            line: 0,
-            field: n,
-            byte: start + byte,
-        },
-    )
-}
-
 // One field, which starts at a byte, after the field before it.
 fn judge_one(n: usize, start: usize, before: &[u8], s: &[u8]) -> Answer
     requires { ⌜ start + length (now s) < 2 ^ 64 ⌝ }
-    ensures { λ r. ⌜ r ≡ judged n start (fieldAnswer n (now (before .entry)) (now (s .entry))) Answer.Accepted ⌝ }
+    ensures { λ r. ⌜ r ≡ answerAt n start (fieldVerdict n (now (before .entry)) (now (s .entry))) ⌝ }
 {
-    match slip_fields::judge_field(n, before, s) {
-        Answer::Accepted => Answer::Accepted,
-        Answer::Refused(r) => Answer::Refused(placed(r, n, start)),
-    }
+    let verdict = slip_fields::judge_field(n, before, s);
+    refusal::answer_of(verdict, n, start + refusal::byte_of(verdict))
 }
 
 // The fields in order, up to the first refusal, each from line feed to line feed.
@@ -129,25 +94,22 @@ pub fn read(s: &[u8]) -> Answer
 fn is_accepted(s: &[u8]) -> bool
     ensures { λ r. ⌜ r ≡ isAccepted (slipAnswer (now (s .entry))) ⌝ }
 {
-    match read(s) {
-        Answer::Accepted => true,
-        Answer::Refused(_) => false,
-    }
+    refusal::is_accepted(read(s))
 }
 
-// The first piece of a text: up to its first line feed, or all of it.
-fn first_piece(s: &[u8]) -> &[u8]
-    ensures { λ r. ⌜ now r ≡ pieceOf 0 (split 10 (now (s .entry))) ⌝ }
+// How many bytes the first piece of a text has: up to its first line feed, or all of them.
+fn first_length(s: &[u8]) -> usize
+    ensures { λ r. ⌜ r ≡ length (pieceOf 0 (split 10 (now (s .entry)))) ⌝ }
 {
     match text::first_bad(Class::Line, s) {
-        Found::At(i) => &s[..i],
-        Found::Nothing => s,
+        Found::At(i) => i,
+        Found::Nothing => s.len(),
     }
 }
 
-// The piece at a place, counted from 0, between line feeds; nothing past the end.
-fn piece(s: &[u8], k: usize) -> &[u8]
-    ensures { λ r. ⌜ now r ≡ pieceOf k (split 10 (now (s .entry))) ⌝ }
+// Where the piece at a place stands, counted from 0, between line feeds; past the end it has no byte.
+fn piece(s: &[u8], k: usize) -> Part
+    ensures { λ r. ⌜ r ≡ piecePart k (split 10 (now (s .entry))) ⌝ }
 {
     let mut left = k;
     let mut at: usize = 0;
@@ -158,27 +120,55 @@ fn piece(s: &[u8], k: usize) -> &[u8]
                 at += i + 1;
             }
             Found::Nothing => {
-                return &s[..0];
+                return Part {
+                    start: at,
+                    length: 0,
+                };
             }
         }
     }
-    first_piece(&s[at..])
+    Part {
+        start: at,
+        length: first_length(&s[at..]),
+    }
+}
+
+// The bytes of a part of a text.
+fn bytes(s: &[u8], p: Part) -> &[u8]
+    requires { ⌜ p .start + p .length ≤ length (now s) ⌝ }
+    ensures { λ r. ⌜ now r ≡ take (p .length) (drop (p .start) (now (s .entry))) ⌝ }
+{
+    let start = p.start;
+    let length = p.length;
+    let end = start + length;
+    &s[start..end]
+}
+
+// Where a field of an accepted slip stands, 4 to 14; else no part.
+pub fn part(s: &[u8], n: usize) -> Part
+    ensures { λ r. ⌜ r ≡ fieldPart (now (s .entry)) n ⌝ }
+{
+    let none = Part {
+        start: 0,
+        length: 0,
+    };
+    if n < 4 {
+        return none;
+    }
+    if 14 < n {
+        return none;
+    }
+    if !is_accepted(s) {
+        return none;
+    }
+    piece(s, n - 1)
 }
 
 // A field of an accepted slip, 4 to 14, as the part of the lent bytes where it stands; else an empty part.
 pub fn field(s: &[u8], n: usize) -> &[u8]
     ensures { λ r. ⌜ now r ≡ fieldOf (now (s .entry)) n ⌝ }
 {
-    if n < 4 {
-        return &s[..0];
-    }
-    if 14 < n {
-        return &s[..0];
-    }
-    if !is_accepted(s) {
-        return &s[..0];
-    }
-    piece(s, n - 1)
+    bytes(s, part(s, n))
 }
 
 // ---------------------------------------------------------------------------
@@ -195,7 +185,7 @@ pub fn cents(s: &[u8]) -> Amount
     ensures { λ r. ⌜ r ≡ centsOf (now (s .entry)) ⌝ }
 {
     match read(s) {
-        Answer::Accepted => Amount::Cents(sums::number(piece(s, 2))),
+        Answer::Accepted => Amount::Cents(sums::number(bytes(s, piece(s, 2)))),
         Answer::Refused(r) => Amount::Refused(r),
     }
 }

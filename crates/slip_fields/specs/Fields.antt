@@ -4,42 +4,39 @@ use mathlib.Core.Bool.{cond, _||_}
 use mathlib.Core.List.{List, [], _∷_}
 use lib.Dec.{eqb}
 use lib.ListN.{length}
-use Rattle.refusal.specs.Refusal.{none, byteAt}
-use Rattle.refusal.specs.declared.Answer.{Answer}
-use Rattle.refusal.specs.declared.Answer.the-variants.{Accepted, Refused}
-use Rattle.refusal.specs.declared.Refusal.the-variants.{Length, Form}
-use Rattle.text.specs.Bytes.{firstBad, same}
+use Rattle.refusal.specs.Verdict.{onlyIf, andThen}
+use Rattle.text.specs.Bytes.{bytesVerdict, same, eur}
+use Rattle.text.specs.declared.Class.{Class}
 use Rattle.text.specs.declared.Class.the-variants.{Digits, Letters}
-use Rattle.text.specs.declared.Found.{Found}
-use Rattle.text.specs.declared.Found.the-variants.{At, Nothing}
-use Rattle.characters.specs.Answers.{textAnswer}
-use Rattle.account.specs.Answers.{ibanAnswer}
-use Rattle.models.specs.Models.{modelAnswer}
-use Rattle.reference.specs.Answers.{referenceAnswer}
+use Rattle.characters.specs.Answers.{charactersVerdict}
+use Rattle.account.specs.Answers.{ibanVerdict}
+use Rattle.models.specs.Models.{modelVerdict}
+use Rattle.reference.specs.Answers.{referenceVerdict}
 
 -- ---------------------------------------------------------------------------
 -- 1 and 2: words, "only 5 applies to them"
 
-abbrev pub wordAnswer : List ℕ → List ℕ → Answer
-wordAnswer w s = cond (same w s) Accepted (Refused (Form none))
+abbrev pub wordVerdict : List ℕ → List ℕ → ℕ
+wordVerdict w s = onlyIf (same w s) 5
 
 -- `HRVHUB30`
 abbrev pub hrvhub30 : List ℕ
 hrvhub30 = 72 ∷ (82 ∷ (86 ∷ (72 ∷ (85 ∷ (66 ∷ (51 ∷ (48 ∷ [])))))))
 
--- `EUR`
-abbrev pub eur : List ℕ
-eur = 69 ∷ (85 ∷ (82 ∷ []))
-
 -- ---------------------------------------------------------------------------
+-- 3 and 13: bytes of a class, and one of two lengths
+
+-- a byte that the class does not permit is 3, another length 4
+abbrev pub sizedVerdict : Class → ℕ → ℕ → List ℕ → ℕ
+sizedVerdict k a b s = andThen (bytesVerdict k s) (onlyIf (eqb (length s) a || eqb (length s) b) 4)
+
 -- 3: "exactly fifteen digits"
+abbrev pub amountVerdict : List ℕ → ℕ
+amountVerdict s = sizedVerdict Digits 15 15 s
 
-abbrev pub amountFrom : List ℕ → Found → Answer
-amountFrom s (At i) = byteAt i
-amountFrom s Nothing = cond (eqb (length s) 15) Accepted (Refused (Length none))
-
-abbrev pub amountAnswer : List ℕ → Answer
-amountAnswer s = amountFrom s (firstBad Digits s)
+-- 13: "empty (here) or four letters; a byte not A to Z is 3, another length 4"
+abbrev pub purposeVerdict : List ℕ → ℕ
+purposeVerdict s = sizedVerdict Letters 0 4 s
 
 -- ---------------------------------------------------------------------------
 -- 4 to 9 and 14: "text of at most 30, 27, 27, 25, 25, 27 and 35 characters; may be empty here"
@@ -54,26 +51,16 @@ mostOf n =
     (cond (eqb n 9) 27 35)))))
 
 -- ---------------------------------------------------------------------------
--- 13: "empty (here) or four letters; a byte not A to Z is 3, another length 4"
-
-abbrev pub purposeFrom : List ℕ → Found → Answer
-purposeFrom s (At i) = byteAt i
-purposeFrom s Nothing = cond (eqb (length s) 0 || eqb (length s) 4) Accepted (Refused (Length none))
-
-abbrev pub purposeAnswer : List ℕ → Answer
-purposeAnswer s = purposeFrom s (firstBad Letters s)
-
--- ---------------------------------------------------------------------------
 -- Every field
 
 -- field n, where m is the field before it: 12 obeys "the model of field 11"
-unfoldable pub fieldAnswer : ℕ → List ℕ → List ℕ → Answer
-fieldAnswer n m s =
-    cond (eqb n 1) (wordAnswer hrvhub30 s)
-    (cond (eqb n 2) (wordAnswer eur s)
-    (cond (eqb n 3) (amountAnswer s)
-    (cond (eqb n 10) (ibanAnswer s)
-    (cond (eqb n 11) (modelAnswer s)
-    (cond (eqb n 12) (referenceAnswer m s)
-    (cond (eqb n 13) (purposeAnswer s)
-    (textAnswer (mostOf n) s)))))))
+unfoldable pub fieldVerdict : ℕ → List ℕ → List ℕ → ℕ
+fieldVerdict n m s =
+    cond (eqb n 1) (wordVerdict hrvhub30 s)
+    (cond (eqb n 2) (wordVerdict eur s)
+    (cond (eqb n 3) (amountVerdict s)
+    (cond (eqb n 10) (ibanVerdict s)
+    (cond (eqb n 11) (modelVerdict s)
+    (cond (eqb n 12) (referenceVerdict m s)
+    (cond (eqb n 13) (purposeVerdict s)
+    (charactersVerdict (mostOf n) s)))))))

@@ -3,53 +3,34 @@
 // Document 01, "The slip's fourteen fields". Within a field 3 with its byte, 4, 5, then 6 to 9; the byte is counted
 // within the field, and whoever knows where the field stands says so.
 ghost use mathlib.Core.Path.{_≡_};
-ghost use Rattle.slip_fields.specs.Fields.{wordAnswer, amountAnswer, mostOf, purposeAnswer, fieldAnswer};
-use refusal::Answer;
-use refusal::Refusal;
+ghost use Rattle.slip_fields.specs.Fields.{wordVerdict, sizedVerdict, mostOf, fieldVerdict};
 use text::Class;
-use text::Found;
 
 // A required word: 5.
-fn judge_word(word: &[u8], s: &[u8]) -> Answer
-    ensures { λ r. ⌜ r ≡ wordAnswer (now (word .entry)) (now (s .entry)) ⌝ }
+fn judge_word(word: &[u8], s: &[u8]) -> usize
+    ensures { λ r. ⌜ r ≡ wordVerdict (now (word .entry)) (now (s .entry)) ⌝ }
 {
     if text::is_same(word, s) {
-        return Answer::Accepted;
+        return 0;
     }
-    Answer::Refused(Refusal::Form(refusal::nowhere()))
+    5
 }
 
-// An amount, fifteen digits: 3 with its byte, 4.
-pub fn judge_amount(s: &[u8]) -> Answer
-    ensures { λ r. ⌜ r ≡ amountAnswer (now (s .entry)) ⌝ }
+// Bytes of a class, and one of two lengths: 3 with its byte, 4.
+fn judge_sized(class: Class, a: usize, b: usize, s: &[u8]) -> usize
+    ensures { λ r. ⌜ r ≡ sizedVerdict class a b (now (s .entry)) ⌝ }
 {
-    match text::first_bad(Class::Digits, s) {
-        Found::At(i) => refusal::byte_at(i),
-        Found::Nothing => {
-            if s.len() == 15 {
-                return Answer::Accepted;
-            }
-            Answer::Refused(Refusal::Length(refusal::nowhere()))
-        }
+    let bad = text::judge(class, s);
+    if bad != 0 {
+        return bad;
     }
-}
-
-// A purpose, empty or four letters: 3 with its byte, 4.
-pub fn judge_purpose(s: &[u8]) -> Answer
-    ensures { λ r. ⌜ r ≡ purposeAnswer (now (s .entry)) ⌝ }
-{
-    match text::first_bad(Class::Letters, s) {
-        Found::At(k) => refusal::byte_at(k),
-        Found::Nothing => {
-            if s.len() == 0 {
-                return Answer::Accepted;
-            }
-            if s.len() == 4 {
-                return Answer::Accepted;
-            }
-            Answer::Refused(Refusal::Length(refusal::nowhere()))
-        }
+    if s.len() == a {
+        return 0;
     }
+    if s.len() == b {
+        return 0;
+    }
+    4
 }
 
 // The most characters of a text field.
@@ -67,18 +48,18 @@ fn most_of(n: usize) -> usize
     }
 }
 
-// Field n of a slip, after the field `before` it.
-pub fn judge_field(n: usize, before: &[u8], s: &[u8]) -> Answer
-    ensures { λ r. ⌜ r ≡ fieldAnswer n (now (before .entry)) (now (s .entry)) ⌝ }
+// Field n of a slip, after the field `before` it: a verdict.
+pub fn judge_field(n: usize, before: &[u8], s: &[u8]) -> usize
+    ensures { λ r. ⌜ r ≡ fieldVerdict n (now (before .entry)) (now (s .entry)) ⌝ }
 {
     match n {
         1 => judge_word(b"HRVHUB30", s),
         2 => judge_word(b"EUR", s),
-        3 => judge_amount(s),
+        3 => judge_sized(Class::Digits, 15, 15, s),
         10 => account::iban(s),
         11 => models::judge(s),
         12 => reference::reference(before, s),
-        13 => judge_purpose(s),
+        13 => judge_sized(Class::Letters, 0, 4, s),
         _ => characters::judge(most_of(n), s),
     }
 }

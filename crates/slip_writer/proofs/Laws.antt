@@ -3,23 +3,25 @@ use mathlib.Core.Path.{_≡_, refl, sym, _∙_}
 use mathlib.Core.List.{List, [], _∷_, _++_, append-assoc}
 use Prim.Native.Nat.{ℕ, suc, _+_, _≤_, _<_}
 use native.Mathlib.Omega.{arith}
-use native.Mathlib.Nat.{zero-add, add-zero}
+use native.Mathlib.Nat.{add-zero}
 use lib.ListN.{length, set, length-append}
 use borrow.Author.Tests.{lt-ltb, le-ltb}
 use Rattle.refusal.specs.declared.Place.{Place}
 use Rattle.refusal.specs.declared.Refusal.{Refusal}
 use Rattle.refusal.specs.declared.Refusal.the-variants.{Length, Room}
 use Rattle.refusal.specs.declared.Answer.{Answer}
-use Rattle.refusal.specs.Refusal.{none, placeOf, moved}
-use Rattle.slip_fields.specs.Fields.{hrvhub30, eur, fieldAnswer}
-use Rattle.slip.specs.Slip.{judged}
+use Rattle.refusal.specs.Refusal.{none, firstOf}
+use Rattle.refusal.specs.Verdict.{answerIn}
+use Rattle.refusal.proofs.Verdicts.{first-joined}
+use Rattle.slip_fields.specs.Fields.{hrvhub30, fieldVerdict}
+use Rattle.text.specs.Bytes.{eur}
 use Rattle.slip_writer.specs.declared.Written.{Written}
 use Rattle.text.specs.Digits.{digitsText}
 use Rattle.slip_writer.specs.Writer.{joinLines, slipText, givenAnswer, roomAnswer, writeAnswer}
 use Rattle.text.specs.Stands.{Stands}
 use Rattle.text.proofs.Stands.{stands-append, stands-length}
 use Rattle.room.proofs.Digits.{digits-length}
-use Rattle.slip_writer.specs.Steps.{firstOf, three, WritesSlip, WritesAccepted}
+use Rattle.slip_writer.specs.Steps.{three, WritesSlip, WritesAccepted}
 
 -- ---------------------------------------------------------------------------
 -- Lines
@@ -125,11 +127,6 @@ abbrev pub lastOf : List ℕ → List (List ℕ) → List ℕ
 lastOf m [] = m
 lastOf m (p ∷ ps) = lastOf p ps
 
--- a refusal stands before what follows, an acceptance gives way to it
-judged-first : (n start : ℕ) (a x y : Answer) → judged n start a (firstOf x y) ≡ firstOf (judged n start a x) y
-judged-first n start Answer.Accepted x y = refl
-judged-first n start (Answer.Refused r) x y = refl
-
 -- fields after fields
 pub given-append :
     (n : ℕ) (m : List ℕ) (ps qs : List (List ℕ))
@@ -138,21 +135,18 @@ unfolding givenAnswer
 given-append n m [] qs = rw add-zero
 given-append n m (p ∷ ps) qs =
     let e : n + suc (length ps) ≡ n + 1 + length ps = omega arith in
-    rw (given-append (n + 1) p ps qs, e) (judged-first n 0 (fieldAnswer n m p) _ _)
+    rw (given-append (n + 1) p ps qs, e) (first-joined (answerIn n (fieldVerdict n m p)) _ _)
+
+-- one field
+pub one-given : (n : ℕ) (m s : List ℕ) (x : Answer) → x ≡ answerIn n (fieldVerdict n m s) → x ≡ givenAnswer n m (s ∷ [])
+unfolding givenAnswer
+one-given n m s x e = e ∙ alone (answerIn n (fieldVerdict n m s))
+  where
+    alone : (a : Answer) → a ≡ firstOf a Answer.Accepted
+    alone Answer.Accepted = refl
+    alone (Answer.Refused r) = refl
 
 module _ (n : ℕ) (m : List ℕ) {x : Answer} where
-  -- one field accepted
-  pub one-accepted : (s : List ℕ) → x ≡ fieldAnswer n m s → x ≡ Answer.Accepted → Answer.Accepted ≡ givenAnswer n m (s ∷ [])
-  unfolding givenAnswer
-  one-accepted s e g = rw (sym e ∙ g)
-
-  -- one field refused
-  pub one-refused :
-      (s : List ℕ) (r y : Refusal) (t : Place) → x ≡ fieldAnswer n m s → x ≡ Answer.Refused r → t ≡ placeOf r
-      → y ≡ moved (record { line = 0; field = n; byte = t .byte }) r → Answer.Refused y ≡ givenAnswer n m (s ∷ [])
-  unfolding givenAnswer
-  one-refused s r y t e g h k = rw (sym e ∙ g, k, h, zero-add)
-
   module _ (ps qs : List (List ℕ)) (e : x ≡ givenAnswer n m ps) where
     -- refused among the first
     pub refused-first : (r : Refusal) → x ≡ Answer.Refused r → Answer.Refused r ≡ givenAnswer n m (ps ++ qs)

@@ -4,26 +4,22 @@ use mathlib.Core.List.{List, [], _∷_}
 use Prim.Native.Nat.{ℕ, zero, suc, _+_, _≤_}
 use native.Mathlib.Omega.{arith}
 use lib.ListN.{length}
+use Rattle.refusal.specs.Verdict.{answerIn}
+use Rattle.refusal.proofs.Verdicts.{answer-accepted, first-both}
 use Rattle.refusal.specs.declared.Answer.{Answer}
-use Rattle.refusal.specs.declared.Answer.the-variants.{Accepted, Refused}
-use Rattle.slip_fields.specs.Fields.{fieldAnswer}
+use Rattle.refusal.specs.declared.Answer.the-variants.{Accepted}
+use Rattle.slip_fields.specs.Fields.{fieldVerdict}
 use Rattle.slip_fields.specs.Sizes.{sizeOf}
 use Rattle.slip_fields.proofs.Theorems.{field-size}
-use Rattle.slip.specs.Slip.{judged}
 use Rattle.slip_writer.specs.Writer.{joinLines, slipText, givenAnswer}
 use Rattle.slip_writer.specs.Steps.{eleven}
 use Rattle.slip_writer.proofs.Laws.{lines-length, slip-length}
 
--- what is accepted stands before an acceptance
-pub judged-accepted : (n start : ℕ) (a x : Answer) → judged n start a x ≡ Accepted → (a ≡ Accepted) × (x ≡ Accepted)
-judged-accepted n start Accepted x e = (refl, e)
-judged-accepted n start (Refused r) x e = let z : _≡_ {A = ℕ} 0 1 = cc in absurd (omega arith)
-
 -- of accepted fields the first is accepted, and so are those after it
 pub given-first :
-    (n : ℕ) (m p : List ℕ) (ps : List (List ℕ)) → givenAnswer n m (p ∷ ps) ≡ Accepted → (fieldAnswer n m p ≡ Accepted) × (givenAnswer (n + 1) p ps ≡ Accepted)
+    (n : ℕ) (m p : List ℕ) (ps : List (List ℕ)) → givenAnswer n m (p ∷ ps) ≡ Accepted → (fieldVerdict n m p ≡ 0) × (givenAnswer (n + 1) p ps ≡ Accepted)
 unfolding givenAnswer
-given-first n m p ps e = judged-accepted n 0 (fieldAnswer n m p) (givenAnswer (n + 1) p ps) e
+given-first n m p ps e = let h = first-both (answerIn n (fieldVerdict n m p)) _ e in (answer-accepted _ _ _ (h .0), h .1)
 
 -- the most bytes of k fields from field n on, with their line feeds
 abbrev pub sizes : ℕ → ℕ → ℕ

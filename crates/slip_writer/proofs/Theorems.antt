@@ -19,9 +19,12 @@ use Rattle.text.proofs.Laws.{both-true}
 use Rattle.text.specs.Digits.{digitsOf, valueOf, digitsText}
 use Rattle.text.specs.Split.{split}
 use Rattle.room.proofs.Digits.{digits-length, text-digits, number-back, value-below, digits-again}
-use Rattle.slip_fields.specs.Fields.{hrvhub30, eur, fieldAnswer}
+use Rattle.refusal.specs.Verdict.{answerAt}
+use Rattle.refusal.proofs.Verdicts.{answer-accepted, first-both}
+use Rattle.slip_fields.specs.Fields.{hrvhub30, fieldVerdict}
 use Rattle.slip_fields.proofs.Theorems.{no-line-feed, first-is-hrvhub30, second-is-eur, third-is-digits, hrvhub30-accepted, eur-accepted, digits-accepted, before-matters-to-12-alone}
-use Rattle.slip.specs.Slip.{countOf, slipEnds, fieldsAnswer, slipAnswer, pieceOf, fieldOf}
+use Rattle.slip.specs.Slip.{slipEnds, fieldsAnswer, slipAnswer, pieceOf, fieldOf}
+use Rattle.text.specs.Bytes.{countOf, eur}
 use Rattle.slip_writer.specs.declared.Written.{Written}
 use Rattle.slip_writer.specs.declared.Written.the-variants.{Bytes}
 use Rattle.slip_writer.specs.Writer.{joinLines, slipText, givenAnswer, afterFields, writeAnswer, leftBy}
@@ -29,7 +32,7 @@ use Rattle.slip_writer.specs.Steps.{WritesSlip}
 use Rattle.slip.specs.Slip.{amountOf}
 use Rattle.slip_writer.specs.Claims.{EachLine, none as no-line, more, linesOf, fieldsOf, ReadsBack, WritesBack}
 use Rattle.slip_writer.proofs.Laws.{slip-length}
-use Rattle.slip_writer.proofs.Sizes.{judged-accepted, given-first, given-size, sizes, sizes-eleven}
+use Rattle.slip_writer.proofs.Sizes.{given-first, given-size, sizes, sizes-eleven}
 use Rattle.slip_writer.proofs.Lines.{split-joined, count-joined, last-joined, joined-split, lines-of-text, line-at}
 
 -- ---------------------------------------------------------------------------
@@ -42,7 +45,7 @@ given-lines n m (p ∷ ps) e = let h = given-first n m p ps e in more (no-line-f
 
 -- an accepted field, and then accepted ones
 first-given :
-    (n : ℕ) (m p : List ℕ) (ps : List (List ℕ)) → fieldAnswer n m p ≡ Accepted → givenAnswer (n + 1) p ps ≡ Accepted → givenAnswer n m (p ∷ ps) ≡ Accepted
+    (n : ℕ) (m p : List ℕ) (ps : List (List ℕ)) → fieldVerdict n m p ≡ 0 → givenAnswer (n + 1) p ps ≡ Accepted → givenAnswer n m (p ∷ ps) ≡ Accepted
 unfolding givenAnswer
 first-given n m p ps e g = rw (e, g)
 
@@ -60,8 +63,8 @@ unfolding fieldsAnswer givenAnswer
 read-given n start m [] e = refl
 read-given n start m (p ∷ []) e = refl
 read-given n start m (p ∷ (q ∷ ps)) e =
-    let h = judged-accepted n start (fieldAnswer n m p) (fieldsAnswer (n + 1) (start + length p + 1) p (q ∷ ps)) e in
-    rw (h .0) (read-given (n + 1) (start + length p + 1) p (q ∷ ps) (h .1))
+    let h = first-both (answerAt n start (fieldVerdict n m p)) _ e in
+    rw (answer-accepted (fieldVerdict n m p) n _ (h .0)) (read-given (n + 1) (start + length p + 1) p (q ∷ ps) (h .1))
 
 -- the field before field 4 says nothing of it
 given-four : (m m′ : List ℕ) (ps : List (List ℕ)) → givenAnswer 4 m ps ≡ givenAnswer 4 m′ ps

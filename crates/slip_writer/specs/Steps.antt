@@ -3,15 +3,8 @@ use Prim.Native.Nat.{ℕ}
 use mathlib.Core.Path.{_≡_}
 use mathlib.Core.List.{List, [], _∷_}
 use lib.ListN.{length}
-use Rattle.refusal.specs.declared.Answer.{Answer}
-use Rattle.refusal.specs.declared.Answer.the-variants.{Accepted, Refused}
 use Rattle.slip_writer.specs.declared.Written.{Written}
 use Rattle.slip_writer.specs.Writer.{slipText, roomAnswer, writeAnswer, leftBy}
-
--- the first refusal stands
-abbrev pub firstOf : Answer → Answer → Answer
-firstOf Accepted b = b
-firstOf (Refused r) b = Refused r
 
 -- the fields of one call
 abbrev pub three : List ℕ → List ℕ → List ℕ → List (List ℕ)

@@ -5,7 +5,8 @@ ghost use mathlib.Core.Path.{_≡_};
 ghost use mathlib.Core.List.{[], _∷_};
 ghost use Prim.Native.Nat.{_+_, _≤_};
 ghost use lib.ListN.{length};
-ghost use Rattle.slip_fields.specs.Fields.{hrvhub30, eur};
+ghost use Rattle.slip_fields.specs.Fields.{hrvhub30};
+ghost use Rattle.text.specs.Bytes.{eur};
 ghost use Rattle.text.specs.Digits.{digitsText};
 ghost use Rattle.slip_writer.specs.Writer.{joinLines, slipText, givenAnswer};
 ghost use Rattle.text.specs.Stands.{Stands};
@@ -116,19 +117,7 @@ fn size_four(a: &[u8], b: &[u8], c: &[u8], d: &[u8]) -> usize
 fn judge_one(n: usize, before: &[u8], s: &[u8]) -> Answer
     ensures { λ r. ⌜ r ≡ givenAnswer n (now (before .entry)) (now (s .entry) ∷ []) ⌝ }
 {
-    match slip_fields::judge_field(n, before, s) {
-        Answer::Accepted => Answer::Accepted,
-        Answer::Refused(r) => {
-            let told = refusal::told(r);
-            let byte = told.byte;
-            let place = Place {
-                line: 0,
-                field: n,
-                byte,
-            };
-            Answer::Refused(refusal::put(r, place))
-        }
-    }
+    refusal::answer_in(slip_fields::judge_field(n, before, s), n)
 }
 
 // Three fields from field n on.

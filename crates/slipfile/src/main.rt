@@ -1,22 +1,15 @@
 // Reads a slip from standard input, of whatever size, and writes `accepted` and each field from 3 to 14 on a line of
 // its own as `number=text`, or one refusal with its place.
-use libc::STDOUT_FILENO;
 use refusal::Answer;
 use refusal::Refusal;
+use words::say;
+use words::say_number;
 
 fn main() {
     // One byte more than the longest slip: a longer input is refused for its size all the same.
     let mut input = [0u8; 484];
     let n = io::read_full(0, &mut input);
     respond(&input[..n]);
-}
-
-fn say(s: &[u8]) {
-    io::write_all(STDOUT_FILENO, s);
-}
-
-fn say_number(n: usize) {
-    io::print_decimal(STDOUT_FILENO, n as u64);
 }
 
 fn respond(s: &[u8]) {

@@ -181,13 +181,13 @@ all-passes k s e = go (firstBad k s) (all-of-nothing k s ∙ e)
     go (At i) h = absurd (false≢true h)
     go Nothing h = refl
 
+pub nothing-found : (f : Found) → found f ≡ 0 → f ≡ Nothing
+nothing-found (At i) h = absurd (omega arith)
+nothing-found Nothing h = refl
+
 pub passes-all : (k : Class) (s : List ℕ) → bytesVerdict k s ≡ 0 → allOf k s ≡ true
 unfolding bytesVerdict isNothing
-passes-all k s e = sym (all-of-nothing k s) ∙ go (firstBad k s) e
-  where
-    go : (f : Found) → found f ≡ 0 → isNothing f ≡ true
-    go (At i) h = absurd (omega arith)
-    go Nothing h = refl
+passes-all k s e = sym (all-of-nothing k s) ∙ ap isNothing (nothing-found (firstBad k s) e)
 
 -- a class permits two texts joined where it permits each
 pub all-append : (k : Class) (s t : List ℕ) → allOf k (s ++ t) ≡ (allOf k s && allOf k t)

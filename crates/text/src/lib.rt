@@ -46,6 +46,13 @@ pub enum Found {
     Nothing,
 }
 
+// A part of lent bytes: where it begins, and how many bytes it has.
+#[repr(C)]
+pub struct Part {
+    pub start: usize,
+    pub length: usize,
+}
+
 // Whether a byte is a digit.
 pub fn is_digit(b: u8) -> bool
     ensures { λ r. ⌜ r ≡ isDigit b ⌝ }

@@ -16,7 +16,7 @@ use Rattle.text.proofs.Blanks.{trimmed-shorter}
 use Rattle.account.specs.Account.{oibPasses}
 use Rattle.account.proofs.Theorems.{iban-check-within}
 use Rattle.models.specs.Models.{modelOf}
-use Rattle.reference.proofs.Laws.{modelled-within}
+use Rattle.reference.proofs.Theorems.{modelled-within}
 use Rattle.wage_contents.specs.declared.Held.{Held}
 use Rattle.wage_contents.specs.declared.Held.the-variants.{Blank, NoModel, Number}
 use Rattle.wage_contents.specs.Contents.{tested, oneOf, amongVerdict, oibPlaceVerdict, employerVerdict, dateVerdict, ibanPlaceVerdict, currencyVerdict, purposePlaceVerdict, signVerdict, heldVerdict, bareHeld, referenceHeld, descriptionVerdict, codeVerdict}
@@ -77,7 +77,7 @@ reference-within h f = omega (arith, bare h (trimmed f), trimmed-shorter f)
     bare : (k : Held) (g : List ℕ) → Within (length g) (bareHeld k g)
     bare Blank g = tested-within Reference g _ 8 (omega arith)
     bare NoModel g = omega arith
-    bare (Number n) g = modelled-within (modelOf n) g
+    bare (Number n) g = modelled-within g (modelOf n)
 
 pub description-within : (f : List ℕ) → Within (length f) (descriptionVerdict f)
 unfolding descriptionVerdict

@@ -15,8 +15,8 @@ use Rattle.text.specs.declared.Found.{Found}
 use Rattle.text.specs.declared.Found.the-variants.{At, Nothing}
 use Rattle.account.specs.Account.{oibPasses}
 use Rattle.account.specs.Answers.{ibanCheckVerdict}
-use Rattle.models.specs.Models.{modelNumber, modelOf, modelFrom}
-use Rattle.reference.specs.Answers.{modelledVerdict}
+use Rattle.models.specs.Models.{modelNumber, modelFrom}
+use Rattle.reference.specs.Answers.{numberVerdict}
 use Rattle.dates.specs.Dates.{isDate}
 use Rattle.codes.specs.Codes.{codePlace}
 use Rattle.sums.specs.Sums.{numberIn}
@@ -102,8 +102,8 @@ heldVerdict (Number n) = modelFrom (At n)
 -- "A blank model needs a blank reference, else 8": a reference without its last blanks, by what its model's place holds
 abbrev pub bareHeld : Held → List ℕ → ℕ
 bareHeld Blank g = tested Reference g (eqb (length g) 0) 8
-bareHeld NoModel g = 5
-bareHeld (Number n) g = modelledVerdict (modelOf n) g
+bareHeld NoModel g = numberVerdict g Nothing
+bareHeld (Number n) g = numberVerdict g (At n)
 
 -- "Trailing blanks end a reference"
 unfoldable pub referenceHeld : Held → List ℕ → ℕ

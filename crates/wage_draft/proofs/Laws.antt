@@ -1,7 +1,7 @@
 -- Laws of a line being drafted: the fields that are lent, one behind the other; the fields put at their places; what a rule looks at besides
 -- its own field; and what a draft changes and leaves. Assumes nothing.
 use mathlib.Core.Path.{_≡_, refl, sym, ap, _∙_}
-use mathlib.Core.Bool.{Bool, true, false, _&&_}
+use mathlib.Core.Bool.{Bool, true, false, cond, _&&_}
 use mathlib.Core.Logic.{inr}
 use mathlib.Core.List.{List, [], _∷_, _++_, map}
 use Prim.Native.Nat.{ℕ, zero, suc, _+_, _-_, _≤_, _<_}
@@ -9,8 +9,8 @@ use native.Mathlib.Numerals.{add-one}
 use native.Mathlib.Omega.{arith}
 use native.Mathlib.Nat.{add-zero}
 use lib.ListN.{length, length-replicate, replicate, take, drop, getD, length-drop, drop-of-length-le}
-use lib.Dec.{eqb, leb}
-use borrow.Author.Tests.{eq-eqb, ne-eqb, eqb-true, eqb-false, leb-true}
+use lib.Dec.{eqb, leb, ltb}
+use borrow.Author.Tests.{eq-eqb, ne-eqb, eqb-true, eqb-false, leb-true, ltb-false}
 use lib.Seq.{sets, drop-cons, drop-drop, drop-length, take-all, take-nil, take-take, take-append-seam, drop-append-seam, getD-drop}
 use Rattle.text.proofs.Laws.{both-true}
 use Rattle.room.proofs.Places.{sets-length, take-sets, drop-sets, place-filled, set-own, sets-over, sets-apart}
@@ -24,7 +24,8 @@ use Rattle.wage_line.specs.Places.{noSpot, spots, spotIn, spotOf}
 use Rattle.wage_line.specs.Line.{partAt, partOf}
 use Rattle.wage_line.specs.Pieces.{joined}
 use Rattle.wage_line.proofs.Laws.{part-length}
-use Rattle.wage_fields.specs.Rules.{labelRule, orderRule, paymentRule, ruleAnswer, placeAnswer, placesFrom}
+use Rattle.wage_contents.specs.Contents.{heldIn}
+use Rattle.wage_fields.specs.Rules.{labelRule, orderRule, ruleVerdict, modelFor, heldFor, placeVerdict, placeAnswer, placesFrom}
 use Rattle.wage_fields.proofs.Laws.{accept-both, both-accept}
 use Rattle.wage_draft.specs.Fields.{fieldsOf, behind, FieldEnd}
 use Rattle.wage_draft.specs.Draft.{Draft, wrongLength, placed, goingOn, drafted, blanked, Drafts}
@@ -211,48 +212,26 @@ empty-fields (f ∷ fs) n (suc k) = empty-fields fs n k
 -- ---------------------------------------------------------------------------
 -- What a rule looks at besides its own field
 
--- the parts of two lines that rules look at are equal
-abbrev pub SameParts : LineType → List ℕ → List ℕ → Type 0
-SameParts Label s u = (partOf Label 5 s ≡ partOf Label 5 u) × (partOf Label 6 s ≡ partOf Label 6 u)
-SameParts Group s u = Unit {0}
-SameParts Order s u = (partOf Order 6 s ≡ partOf Order 6 u) × (partOf Order 11 s ≡ partOf Order 11 u)
-SameParts Closing s u = Unit {0}
+-- what the rule of field n says of bytes f in the line s
+abbrev pub saidOf : ℕ → ℕ → LineType → ℕ → List ℕ → List ℕ → ℕ
+saidOf day kind t n f s = ruleVerdict day kind t n (heldFor t n s) f s
 
 module _ (day kind : ℕ) where
-  -- where those are equal, so are the answers
-  pub rule-by-parts : (t : LineType) (n : ℕ) (f s u : List ℕ) → SameParts t s u → ruleAnswer day kind t n f s ≡ ruleAnswer day kind t n f u
-  unfolding labelRule orderRule paymentRule
-  rule-by-parts Label n f s u h = rw (h .0, h .1)
-  rule-by-parts Group n f s u h = refl
-  rule-by-parts Order n f s u h = rw (h .0, h .1)
-  rule-by-parts Closing n f s u h = refl
-
-  -- a 300's seventh field looks at earlier fields, its others at none
-  label-by-earlier : (n : ℕ) (f s u : List ℕ) → ((m : ℕ) → m < n → partOf Label m s ≡ partOf Label m u) → labelRule day n f s ≡ labelRule day n f u
-  unfolding labelRule
-  label-by-earlier n f s u h = go (eqb n 7) refl
+  -- no rule looks at a field behind its own
+  pub rule-by-earlier :
+      (t : LineType) (n : ℕ) (f s u : List ℕ) → ((m : ℕ) → m ≤ n → partOf t m s ≡ partOf t m u) → saidOf day kind t n f s ≡ saidOf day kind t n f u
+  rule-by-earlier Label n f s u h = go (eqb n 7) refl
     where
       go : (b : Bool) → eqb n 7 ≡ b → labelRule day n f s ≡ labelRule day n f u
       go true e = let z = eqb-true n 7 e in rw (h 5 (omega arith), h 6 (omega arith))
       go false e = rw e
-
-  -- a 309's fields 7, 12 and 22 look at earlier fields, its others at none
-  order-by-earlier : (n : ℕ) (f s u : List ℕ) → ((m : ℕ) → m < n → partOf Order m s ≡ partOf Order m u) → orderRule kind n f s ≡ orderRule kind n f u
-  unfolding orderRule paymentRule
-  order-by-earlier n f s u h = go (eqb n 7) (eqb n 12) (eqb n 22) refl refl refl
-    where
-      go : (b c d : Bool) → eqb n 7 ≡ b → eqb n 12 ≡ c → eqb n 22 ≡ d → orderRule kind n f s ≡ orderRule kind n f u
-      go true c d e g i = let z = eqb-true n 7 e in rw (z, h 6 (omega arith))
-      go false true d e g i = let z = eqb-true n 12 g in rw (z, h 11 (omega arith))
-      go false false true e g i = let z = eqb-true n 22 i in rw (z, h 11 (omega arith))
-      go false false false e g i = rw (e, g, i)
-
-  -- no rule looks at a field behind its own
-  pub rule-by-earlier :
-      (t : LineType) (n : ℕ) (f s u : List ℕ) → ((m : ℕ) → m < n → partOf t m s ≡ partOf t m u) → ruleAnswer day kind t n f s ≡ ruleAnswer day kind t n f u
-  rule-by-earlier Label n f s u h = label-by-earlier n f s u h
   rule-by-earlier Group n f s u h = refl
-  rule-by-earlier Order n f s u h = order-by-earlier n f s u h
+  rule-by-earlier Order n f s u h = ap (λ (x : List ℕ). orderRule kind n (heldIn x) f) (h (modelFor Order n) (go (ltb n 6) (ltb n 11) refl refl))
+    where
+      go : (b c : Bool) → ltb n 6 ≡ b → ltb n 11 ≡ c → cond b 0 (cond c 6 11) ≤ n
+      go true c e g = omega arith
+      go false true e g = ltb-false n 6 e
+      go false false e g = ltb-false n 11 g
   rule-by-earlier Closing n f s u h = refl
 
 -- a part that ends in the first n bytes is one of these
@@ -266,15 +245,15 @@ part-early (b ∷ s) (suc start) size (suc n) h = part-early s start size n (ome
 pub part-ahead : (p : Spot) (n : ℕ) (s u : List ℕ) → p .start + p .size ≤ n → take n s ≡ take n u → partAt p s ≡ partAt p u
 part-ahead p n s u h e = sym (part-early s (p .start) (p .size) n h) ∙ ap (partAt p) e ∙ part-early u (p .start) (p .size) n h
 
--- fields of smaller numbers end before a place begins
+-- fields up to its own number end where a place ends, or before
 abbrev pub Ahead : LineType → Spot → Type 0
-Ahead t p = (m : ℕ) → m < p .field → spotOf t m .start + spotOf t m .size ≤ p .start
+Ahead t p = (m : ℕ) → m ≤ p .field → spotOf t m .start + spotOf t m .size ≤ p .start + p .size
 
 -- a place is judged by the bytes up to its end
 pub place-by-ahead :
     (day kind : ℕ) (t : LineType) (p : Spot) (s u : List ℕ) → Ahead t p → take (p .start + p .size) s ≡ take (p .start + p .size) u
     → placeAnswer day kind t p s ≡ placeAnswer day kind t p u
-unfolding placeAnswer
+unfolding placeAnswer placeVerdict
 place-by-ahead day kind t p s u h e =
     let n = p .start + p .size in
     rw (part-ahead p n s u (omega arith) e, rule-by-earlier day kind t (p .field) (partAt p u) s u (λ m g. let w = h m g in part-ahead (spotOf t m) n s u (omega arith) e))
@@ -305,17 +284,17 @@ below-at f (suc n) m e h = let b = both-true (f n) (below f n) e in go (eqb m n)
 -- the same as a test
 rises : LineType → ℕ → List Spot → Bool
 rises t n [] = leb n 997
-rises t n (p ∷ ps) = leb n (p .start) && (below (λ m. leb (spotOf t m .start + spotOf t m .size) (p .start)) (p .field) && rises t (p .start + p .size) ps)
+rises t n (p ∷ ps) = leb n (p .start) && (below (λ m. leb (spotOf t m .start + spotOf t m .size) (p .start + p .size)) (suc (p .field)) && rises t (p .start + p .size) ps)
 
 -- the test is right
 is-rising : (t : LineType) (n : ℕ) (ps : List Spot) → rises t n ps ≡ true → Rising t n ps
 unfolding rises
 is-rising t n [] e = leb-true n 997 e
 is-rising t n (p ∷ ps) e =
-    let f : ℕ → Bool = λ m. leb (spotOf t m .start + spotOf t m .size) (p .start) in
-    let b = both-true (leb n (p .start)) (below f (p .field) && rises t (p .start + p .size) ps) e in
-    let d = both-true (below f (p .field)) (rises t (p .start + p .size) ps) (b .1) in
-    (leb-true n (p .start) (b .0), ((λ m h. leb-true (spotOf t m .start + spotOf t m .size) (p .start) (below-at f (p .field) m (d .0) h)), is-rising t (p .start + p .size) ps (d .1)))
+    let f : ℕ → Bool = λ m. leb (spotOf t m .start + spotOf t m .size) (p .start + p .size) in
+    let b = both-true (leb n (p .start)) (below f (suc (p .field)) && rises t (p .start + p .size) ps) e in
+    let d = both-true (below f (suc (p .field))) (rises t (p .start + p .size) ps) (b .1) in
+    (leb-true n (p .start) (b .0), ((λ m h. leb-true (spotOf t m .start + spotOf t m .size) (p .start + p .size) (below-at f (suc (p .field)) m (d .0) (omega arith))), is-rising t (p .start + p .size) ps (d .1)))
 
 -- each table passes it
 all-rise : (t : LineType) → rises t 0 (spots t) ≡ true

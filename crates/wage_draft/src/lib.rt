@@ -84,7 +84,7 @@ fn place(day: u64, kind: u64, t: LineType, k: usize, f: &[u8], line: &mut [u8]) 
 }
 
 // The size of a field; one that is not there is empty.
-fn size_at(sizes: &[usize], i: usize) -> usize
+pub fn size_at(sizes: &[usize], i: usize) -> usize
     ensures { λ r. ⌜ r ≡ getD (now (sizes .entry)) i 0 ⌝ }
 {
     if i < sizes.len() {

@@ -10,7 +10,7 @@ use lib.Dec.{eqb, ltb}
 use lib.ListN.{length, drop, getD, length-take, drop-of-length-le, List·getD-eq-default}
 use lib.Seq.{drop-cons}
 use borrow.Author.Tests.{ltb-true, ltb-false, eqb-true, ne-eqb}
-use Rattle.refusal.specs.Refusal.{placeOf, refusalOf}
+use Rattle.refusal.specs.Refusal.{placeOf, refusalOf, firstOf}
 use Rattle.refusal.specs.Verdict.{verdictByte, verdictNumber, answerOf, Within}
 use Rattle.refusal.specs.declared.Answer.{Answer}
 use Rattle.refusal.specs.declared.Answer.the-variants.{Accepted, Refused}
@@ -32,7 +32,7 @@ use Rattle.wage_contents.specs.declared.Held.{Held}
 use Rattle.wage_contents.specs.declared.Held.the-variants.{Blank}
 use Rattle.wage_contents.specs.Contents.{heldIn, heldBlank}
 use Rattle.wage_contents.proofs.Within.{among-within, oib-within, employer-within, date-within, iban-place-within, currency-within, purpose-within, sign-within, held-within, reference-within, description-within, code-within}
-use Rattle.wage_fields.specs.Rules.{ruleVerdict, modelFor, heldFor, placeVerdict, placeAnswer, firstOf, placesFrom}
+use Rattle.wage_fields.specs.Rules.{ruleVerdict, modelFor, heldFor, placeVerdict, placeAnswer, placesFrom}
 
 -- ---------------------------------------------------------------------------
 -- The byte that a verdict tells lies within its place

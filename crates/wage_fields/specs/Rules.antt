@@ -4,9 +4,10 @@ use Prim.Native.Nat.{ℕ}
 use mathlib.Core.Bool.{true, false, cond, not}
 use mathlib.Core.List.{List, [], _∷_}
 use lib.Dec.{eqb, ltb}
+use Rattle.refusal.specs.Refusal.{firstOf}
 use Rattle.refusal.specs.Verdict.{answerAt}
 use Rattle.refusal.specs.declared.Answer.{Answer}
-use Rattle.refusal.specs.declared.Answer.the-variants.{Accepted, Refused}
+use Rattle.refusal.specs.declared.Answer.the-variants.{Accepted}
 use Rattle.text.specs.Bytes.{bytesVerdict}
 use Rattle.text.specs.declared.Class.the-variants.{Digits}
 use Rattle.wage_line.specs.declared.LineType.{LineType}
@@ -103,11 +104,6 @@ placeVerdict day kind t p s = ruleVerdict day kind t (p .field) (heldFor t (p .f
 -- "For 3, byte is the first offending byte; otherwise the field's first byte"
 unfoldable pub placeAnswer : ℕ → ℕ → LineType → Spot → List ℕ → Answer
 placeAnswer day kind t p s = answerAt (p .field) (p .start) (placeVerdict day kind t p s)
-
--- the first refusal stands
-abbrev pub firstOf : Answer → Answer → Answer
-firstOf Accepted rest = rest
-firstOf (Refused r) rest = Refused r
 
 unfoldable pub placesFrom : ℕ → ℕ → LineType → List Spot → List ℕ → Answer
 placesFrom day kind t [] s = Accepted

@@ -10,10 +10,16 @@ use lib.Dec.{eqb}
 use lib.ListN.{length, take, drop, getD, length-drop, drop-of-length-le, List·getD-eq-default}
 use lib.Seq.{drop-cons, take-all, take-nil, length-take-le}
 use borrow.Author.Tests.{eq-eqb, ne-eqb}
-use Rattle.text.proofs.Laws.{to-the-end, both-true}
+use Rattle.text.proofs.Laws.{left, entered, to-the-end, both-true}
 use Rattle.wage_line.specs.declared.Spot.{Spot}
 use Rattle.wage_line.specs.Places.{noSpot, spotIn}
 use Rattle.wage_line.specs.Line.{endsRight, partAt}
+
+-- ---------------------------------------------------------------------------
+-- Choices
+
+-- the answer of a chain of choices, each on whether two numbers are equal
+pub ruleset choices = (left, entered, eq-eqb, ne-eqb)
 
 -- ---------------------------------------------------------------------------
 -- Tables by order
@@ -24,13 +30,20 @@ NoneBelow zero k = Unit {0}
 NoneBelow (suc n) k = NoneBelow n k × (k ≡ n → ⊥)
 
 -- so it is not below n
-pub none-below : (n k : ℕ) → NoneBelow n k → n ≤ k
+none-below : (n k : ℕ) → NoneBelow n k → n ≤ k
 none-below zero k r = omega arith
 none-below (suc n) k r = let h = none-below n k (r .0) in let g = r .1 in omega arith
 
--- past the last place there is none
-pub past : (ps : List Spot) (k : ℕ) → NoneBelow (length ps) k → noSpot ≡ getD ps k noSpot
-past ps k r = sym (List·getD-eq-default ps noSpot (none-below (length ps) k r))
+-- the place p that a match on k answers is the table's: in the arm of a number, and past the last
+module _ (ps : List Spot) (k : ℕ) (p : Spot) where
+  pub there : (n : ℕ) → k ≡ n → p ≡ getD ps n noSpot → p ≡ getD ps k noSpot
+  there n e h = rw e h
+
+  pub past : NoneBelow (length ps) k → p ≡ noSpot → p ≡ getD ps k noSpot
+  past r h = h ∙ sym (List·getD-eq-default ps noSpot (none-below (length ps) k r))
+
+-- both
+pub ruleset arms = (there, past)
 
 -- ---------------------------------------------------------------------------
 -- The search for a field, from place k on

@@ -5,9 +5,10 @@
 // answer of the whole file.
 use judge::Ending;
 use judge::Judge;
-use libc::STDOUT_FILENO;
 use refusal::Refusal;
 use text::Class;
+use words::say;
+use words::say_number;
 
 // The record after a read, and whether there may be more.
 struct Progress {
@@ -68,14 +69,6 @@ fn read_lines(from: Judge, buffer: &mut [u8]) -> Judge {
         turns -= 1;
     }
     j
-}
-
-fn say(s: &[u8]) {
-    io::write_all(STDOUT_FILENO, s);
-}
-
-fn say_number(n: usize) {
-    io::print_decimal(STDOUT_FILENO, n as u64);
 }
 
 fn respond(e: Ending) {

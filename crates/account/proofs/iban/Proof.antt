@@ -1,22 +1,15 @@
--- `account::iban` meets its contract: of an IBAN no byte is bad; else each return is the chain's answer by the tests that led there.
+-- `account::iban` meets its contract: of an IBAN nothing is refused; else each return is the chain's answer by the tests that led there.
 -- Assumes nothing.
 use mathlib.Core.Path.{refl, sym, _∙_}
 use borrow.Author.Tests.{ne-eqb, eq-eqb}
 use Rattle.refusal.proofs.Verdicts.{refused, passed, failed, met}
-use Rattle.text.proofs.Laws.{both-true}
-use Rattle.account.specs.Account.{ibanFormed, ibanPasses}
-use Rattle.account.proofs.Laws.{formed-length, formed-permitted}
-use Rattle.account.proofs.Theorems.{iban-accepted-exactly}
+use Rattle.account.proofs.Theorems.{iban-accepted-exactly, iban-field-exactly}
 use borrow.Author.Needs.{needs}
 use Rattle.account.proofs.iban.Statement.{statement}
 use Rattle.account.proofs.iban.Tie as tie
 
 returns : tie.Need-returns
-returns c =
-    let s = c .before .before .before .args .s .now in
-    let z = sym (c .before .check-iban .ensures) ∙ c .if1 .taken in
-    let f = both-true (ibanFormed s) (ibanPasses s) (iban-accepted-exactly s .0 z) .0 in
-    passed _ _ _ (formed-permitted s f) (met _ 4 _ _ (eq-eqb _ 21 (formed-length s f)) (sym z))
+returns c = let s = c .before .before .before .args .s .now in sym (iban-field-exactly s .1 (iban-accepted-exactly s .0 (sym (c .before .check-iban .ensures) ∙ c .if1 .taken)))
 
 returns-2 : tie.Need-returns-2
 returns-2 c = let e = c .before .judge .ensures in refused _ _ _ (λ z. c .if2 .taken (e ∙ z)) e

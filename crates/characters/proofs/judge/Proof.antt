@@ -47,17 +47,16 @@ shared-slice-read-is-completed c = omega arith
 is-completed-requires : tie.Need-is-completed-requires Inv-loop μ-loop
 is-completed-requires c κs = search needs
 
-byte-at-requires : tie.Need-byte-at-requires Inv-loop μ-loop
-byte-at-requires c κs = tt
+add-result : tie.Need-add-result Inv-loop μ-loop
+add-result c = omega arith
 
 returns : tie.Need-returns Inv-loop μ-loop
 returns c =
-    let a = c .before .before .before .before .before .before .before .before .before .before .args in
-    let l = c .before .before .before .before .before .before .before .before .loop in
-    c .byte-at .ensures
-    ∙ wrong-told (a .most) (a .s .now) (l .i)
-    (passed-wrong (a .s .now) (l .i) (l .n) (l .inv) (sym (c .before .before .before .before .before .is-single .ensures) ∙ c .before .before .before .before .if1 .left) (omega arith)
-    (sym (c .before .before .is-completed .ensures) ∙ not-true _ (c .before .if2 .taken)))
+    let a = c .before .before .before .before .before .before .before .before .before .args in
+    let l = c .before .before .before .before .before .before .before .loop in
+    wrong-told (a .most) (a .s .now) (l .i)
+    (passed-wrong (a .s .now) (l .i) (l .n) (l .inv) (sym (c .before .before .before .before .is-single .ensures) ∙ c .before .before .before .if1 .left) (omega arith)
+    (sym (c .before .is-completed .ensures) ∙ not-true _ (c .if2 .taken)))
 
 add-n-2 : tie.Need-add-n-2 Inv-loop μ-loop
 add-n-2 c = omega arith
@@ -74,14 +73,11 @@ loop-again-2 c =
     passed-pair _ (l .i) (l .n) (l .inv) (sym (c .before .before .before .before .is-single .ensures) ∙ c .before .before .before .if1 .left)
     (sym (c .before .is-completed .ensures) ∙ not-false _ (c .if2 .left))
 
-nowhere-requires : tie.Need-nowhere-requires Inv-loop μ-loop
-nowhere-requires c κs = search needs
-
 returns-2 : tie.Need-returns-2 Inv-loop μ-loop
 returns-2 c =
-    let a = c .before .before .before .before .before .args in
-    let l = c .before .before .before .loop in
-    rw (c .nowhere .ensures) (long-told (a .most) (l .n) (a .s .now) (passed-all (a .s .now) (l .i) (l .n) (l .inv) (omega arith)) (c .before .if3 .taken))
+    let a = c .before .before .before .before .args in
+    let l = c .before .before .loop in
+    long-told (a .most) (l .n) (a .s .now) (passed-all (a .s .now) (l .i) (l .n) (l .inv) (omega arith)) (c .if3 .taken)
 
 returns-3 : tie.Need-returns-3 Inv-loop μ-loop
 returns-3 c =
@@ -105,12 +101,11 @@ judge-spec =
     add-second
     shared-slice-read-is-completed
     is-completed-requires
-    byte-at-requires
+    add-result
     returns
     add-n-2
     add-i-2
     loop-less-2
     loop-again-2
-    nowhere-requires
     returns-2
     returns-3)

@@ -4,7 +4,7 @@ use Rattle.desk.proofs.lanecockle_oib.Statement.{statement}
 use Rattle.desk.proofs.lanecockle_oib.Tie as tie
 
 returns : tie.Need-returns
-returns c = rw (c .tell .ensures, c .before .oib .ensures)
+returns c = rw (c .tell-verdict .ensures, c .before .oib .ensures)
 
 pub lanecockle-oib-spec : {M : Type 1} → statement M
 lanecockle-oib-spec = tie.close (tie.spec (λ c κs. search needs) (λ c κs. search needs) returns)

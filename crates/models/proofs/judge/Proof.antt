@@ -14,11 +14,11 @@ returns c =
 
 returns-2 : tie.Need-returns-2
 returns-2 c =
-    rw (c .nowhere .ensures, sym (c .before .before .before .before .before .before .number .ensures) ∙ c .before .before .before .before .n .given .1)
-    (left _ _ _ _ (ap (λ (m : Model). m .handled) (sym (c .before .before .rules .ensures)) ∙ c .before .if1 .left) refl)
+    rw (sym (c .before .before .before .before .before .number .ensures) ∙ c .before .before .before .n .given .1)
+    (left _ _ _ _ (ap (λ (m : Model). m .handled) (sym (c .before .rules .ensures)) ∙ c .if1 .left) refl)
 
 returns-3 : tie.Need-returns-3
-returns-3 c = rw (c .nowhere2 .ensures, sym (c .before .before .before .number .ensures) ∙ c .before .enum-told .given .1)
+returns-3 c = rw (sym (c .before .before .number .ensures) ∙ c .enum-told .given .1)
 
 pub judge-spec : {M : Type 1} → statement M
 judge-spec =
@@ -28,8 +28,6 @@ judge-spec =
     (λ c. search needs)
     (λ c κs. search needs)
     returns
-    (λ c κs. search needs)
     (λ c. search needs)
-    (λ c κs. search needs)
     returns-2
     returns-3)

@@ -8,47 +8,47 @@ use Rattle.models.proofs.rules.Tie as tie
 
 returns : tie.Need-returns
 unfolding modelOf
-returns c = rw (c .before .match .keys1) (cc)
+returns c = rw (c .before .match .keys1, c .common .ensures, c .before .before .joined .ensures)
 
 returns-2 : tie.Need-returns-2
 unfolding modelOf
-returns-2 c = rw (c .before .before .match .keys2) (cc)
+returns-2 c = rw (c .before .before .match .keys2, c .common2 .ensures, c .before .joined2 .ensures, c .before .before .before .joined .ensures)
 
 returns-3 : tie.Need-returns-3
 unfolding modelOf
-returns-3 c = rw (c .before .before .before .match .keys3) (cc)
+returns-3 c = rw (c .before .before .before .match .keys3, c .common3 .ensures, c .before .joined4 .ensures, c .before .before .joined3 .ensures, c .before .before .before .before .joined .ensures)
 
 returns-4 : tie.Need-returns-4
 unfolding modelOf
-returns-4 c = rw (c .before .before .before .before .match .keys4) (cc)
+returns-4 c = rw (c .before .before .before .before .match .keys4, c .common4 .ensures, c .before .joined7 .ensures, c .before .before .joined6 .ensures, c .before .before .before .joined5 .ensures)
 
 returns-5 : tie.Need-returns-5
 unfolding modelOf
-returns-5 c = rw (c .before .before .before .match .keys5) (cc)
+returns-5 c = rw (c .before .before .before .match .keys5, c .common5 .ensures, c .before .joined9 .ensures, c .before .before .joined8 .ensures, c .before .before .before .before .joined .ensures)
 
 returns-6 : tie.Need-returns-6
 unfolding modelOf
-returns-6 c = rw (c .before .before .match .keys6) (cc)
+returns-6 c = rw (c .before .before .match .keys6, c .common6 .ensures, c .before .joined10 .ensures, c .before .before .before .joined .ensures)
 
 returns-7 : tie.Need-returns-7
 unfolding modelOf
-returns-7 c = rw (c .before .before .match .keys7) (cc)
+returns-7 c = rw (c .before .before .match .keys7, c .common7 .ensures, c .before .joined11 .ensures, c .before .before .before .joined .ensures)
 
 returns-8 : tie.Need-returns-8
 unfolding modelOf
-returns-8 c = rw (c .before .before .before .match .keys8) (cc)
+returns-8 c = rw (c .before .before .before .match .keys8, c .common8 .ensures, c .before .joined13 .ensures, c .before .before .joined12 .ensures, c .before .before .before .before .joined .ensures)
 
 returns-9 : tie.Need-returns-9
 unfolding modelOf
-returns-9 c = rw (c .before .before .match .keys9) (cc)
+returns-9 c = rw (c .before .before .match .keys9, c .common9 .ensures, c .before .joined14 .ensures, c .before .before .before .joined .ensures)
 
 returns-10 : tie.Need-returns-10
 unfolding modelOf
-returns-10 c = rw (c .before .before .before .match .keys10) (cc)
+returns-10 c = rw (c .before .before .before .match .keys10, c .common10 .ensures, c .before .joined16 .ensures, c .before .before .joined15 .ensures, c .before .before .before .before .joined .ensures)
 
 returns-11 : tie.Need-returns-11
 unfolding modelOf
-returns-11 c = rw (c .before .before .before .match .keys11) (cc)
+returns-11 c = rw (c .before .before .before .match .keys11, c .common11 .ensures, c .before .joined18 .ensures, c .before .before .joined17 .ensures, c .before .before .before .before .joined .ensures)
 
 returns-12 : tie.Need-returns-12
 unfolding modelOf

@@ -1,17 +1,15 @@
--- The proof of the cycle of calls {digit, part}. The measure is the bytes left, twice, and one more before a part begins: a part is begun
--- with no byte read, and a hyphen that hands over is read. The digit reader's loop has the invariant: what is read is what is read after
--- the n digits so far, of what stands before the first blank. Each return is the definition's turn on the tests that led there.
--- Assumes nothing.
 use borrow.Author.Needs.{needs}
 use Prim.Native.Nat.{ℕ, _+_, _-_, _≤_, _<_}
 use native.Mathlib.Omega.{arith}
-use mathlib.Core.Path.{_≡_, refl, sym, _∙_}
-use lib.ListN.{length, drop, length-drop}
-use borrow.Author.Tests.{lt-ltb, le-ltb}
-use Rattle.text.proofs.Laws.{left, entered, to-the-end}
-use Rattle.text.specs.Bytes.{beforeBlank}
-use Rattle.reference.specs.Readers.{digitRead}
-use Rattle.reference.proofs.Readers.{fits-lengths, room-for, room-left, last-reads, blank-reads, hyphen-fits, hyphen-breaks, digit-reads, other-breaks}
+use native.Mathlib.Nat.{add-zero}
+use mathlib.Core.Path.{_≡_, refl, sym, ap, _∙_}
+use lib.ListN.{length, take, drop, length-drop}
+use borrow.Author.Tests.{lt-ltb, le-ltb, le-leb, lt-leb}
+use Rattle.text.specs.Split.{split}
+use Rattle.text.proofs.Laws.{left, entered, and-first, and-second, to-the-end}
+use Rattle.reference.specs.Ends.{partRead, digitRead}
+use Rattle.reference.proofs.Pieces.{short-span}
+use Rattle.reference.proofs.Readers.{digits-end, digits-on, digits-break, handed-none, handed-on, part-judged, read-small, unread}
 use borrow.Fn.Kinds.{In}
 use borrow.Fn.PlainCycle.{Measures, is, falls, and}
 use Rattle.reference.proofs.digit.Reads as digit
@@ -20,8 +18,7 @@ use Rattle.reference.proofs.+digit+part.Lts-digit as digit-lts
 use Rattle.reference.proofs.part.Reads as part
 use Rattle.reference.proofs.part.Kinds as part-kinds
 use Rattle.reference.proofs.+digit+part.Lts-part as part-lts
-use Rattle.reference.proofs.ended.Reads as ended-reads
-use Rattle.reference.proofs.fits.Reads as fits-reads
+use Rattle.reference.proofs.wide.Reads as wide-reads
 use Rattle.text.proofs.is_digit.Reads as is-digit-reads
 use Rattle.reference.proofs.+digit+part.{statement}
 use Rattle.reference.proofs.+digit+part.Tie.{close}
@@ -45,19 +42,15 @@ abbrev part-below : ℕ → In 2 part-kinds.ps
 part-below t = and 2 part-kinds.ps (falls 2 part-kinds.ps _<_ μ-part t) part.Pre
 
 abbrev digit-Inv-loop : digit-lts.InvT-loop
-digit-Inv-loop s lengths sizes n₀ n = (n ≤ length s) × (digitRead lengths 0 sizes (beforeBlank s) ≡ digitRead lengths n sizes (beforeBlank (drop n s)))
+digit-Inv-loop s lengths at n₀ n = (n ≤ length s) × (digitRead lengths at (split 45 s) ≡ digitRead lengths (at + n) (split 45 (drop n s)))
 
 abbrev digit-μ-loop : digit-lts.MeasureT-loop
-digit-μ-loop s lengths sizes n₀ n = length s - n
+digit-μ-loop s lengths at n₀ n = length s - n
 
 pub +digit+part-spec : {M : Type 1} → statement M
 +digit+part-spec = close μ-digit μ-part (λ t. digit-lts.spec (
   is-digit-reads.Asked,
   is-digit-reads.Learnt,
-  ended-reads.Asked,
-  ended-reads.Learnt,
-  fits-reads.Asked,
-  fits-reads.Learnt,
   part-below t,
   part.Post,
 )
@@ -65,34 +58,42 @@ pub +digit+part-spec : {M : Type 1} → statement M
     digit.Post
     digit-Inv-loop
     digit-μ-loop
-    (λ c. (omega arith, refl))  -- digit-loop-holds
-    (λ c. omega arith)  -- digit-shared-slice-read-b
-    (λ c κs. search needs)  -- digit-is-digit-requires
-    (λ c. omega arith)  -- digit-add-n
-    (λ c. omega arith)  -- digit-loop-less
-    (λ c. let a = c .before .before .before .before .before .before .before .args in let l = c .before .before .before .before .loop in (omega arith, l .inv .1 ∙ digit-reads (a .lengths .now) (l .n) (a .sizes) (a .s .now) (c .before .before .before .loop-test .taken) (sym (c .before .is-digit .ensures) ∙ c .if1 .taken)))  -- digit-loop-again
-    (λ c κs. c .before .before .before .before .before .before .before .before .pre .1)  -- digit-ended-requires
-    (λ c. let a = c .before .before .before .before .before .before .before .before .before .args in let l = c .before .before .before .before .before .before .loop in c .ended .ensures ∙ blank-reads (a .lengths .now) (l .n) (a .sizes) (a .s .now) (c .before .before .before .before .before .loop-test .taken) (c .before .if2 .taken) ∙ sym (l .inv .1))  -- digit-returns
-    (λ c. let a = c .before .before .before .before .before .before .before .before .before .args in let l = c .before .before .before .before .before .before .loop in other-breaks (a .lengths .now) (l .n) (a .sizes) (a .s .now) (c .before .before .before .before .before .loop-test .taken) (c .before .if2 .left) (c .if3 .taken) (sym (c .before .before .before .is-digit .ensures) ∙ c .before .before .if1 .left) ∙ sym (l .inv .1))  -- digit-returns-2
-    (λ c κs. search needs)  -- digit-fits-requires
-    (λ c. omega arith)  -- digit-add-part
-    (λ c. omega arith)  -- digit-sub-part
-    (λ c. omega arith)  -- digit-part-part-start
-    (λ c. search needs)  -- digit-part-part-end
-    (λ c. fits-lengths (c .before .before .before .before .before .before .before .before .before .before .before .before .args .lengths .now) (c .before .before .before .before .before .before .before .before .before .loop .n) (sym (c .before .before .fits2 .ensures) ∙ c .before .if4 .taken))  -- digit-sub-part-2
-    (λ c. fits-lengths (c .before .before .before .before .before .before .before .before .before .before .before .before .args .lengths .now) (c .before .before .before .before .before .before .before .before .before .loop .n) (sym (c .before .before .fits2 .ensures) ∙ c .before .if4 .taken))  -- digit-part-part-start-2
-    (λ c. search needs)  -- digit-part-part-end-2
-    (λ c. let z = c .before .before .before .before .before .before .before .before .before .before .before .before .before in let a = z .args in let l = c .before .before .before .before .before .before .before .before .before .before .loop in omega (arith, room-for (a .lengths .now) (l .n) (a .sizes) (c .before .before .before .before .before .before .before .before .before .before .before .shared-slice-known2 .given) (z .pre .1) (sym (c .before .before .before .fits2 .ensures) ∙ c .before .before .if4 .taken)))  -- digit-mul-part
-    (λ c. let z = c .before .before .before .before .before .before .before .before .before .before .before .before .before in let a = z .args in let l = c .before .before .before .before .before .before .before .before .before .before .loop in omega (arith, room-for (a .lengths .now) (l .n) (a .sizes) (c .before .before .before .before .before .before .before .before .before .before .before .shared-slice-known2 .given) (z .pre .1) (sym (c .before .before .before .fits2 .ensures) ∙ c .before .before .if4 .taken)))  -- digit-add-part-2
-    (λ c κs. let z = c .before .before .before .before .before .before .before .before .before .before .before .before .before in let a = z .args in let l = c .before .before .before .before .before .before .before .before .before .before .loop in (rw (to-the-end (l .n + 1) (a .s .now), length-drop (l .n + 1) (a .s .now)) (omega arith), rw (to-the-end 2 (a .lengths .now)) (room-left (a .lengths .now) (l .n) (a .sizes) (c .before .before .before .before .before .before .before .before .before .before .before .shared-slice-known2 .given) (z .pre .1) (sym (c .before .before .before .fits2 .ensures) ∙ c .before .before .if4 .taken))))  -- digit-part-requires
-    (λ c. let a = c .before .before .before .before .before .before .before .before .before .before .before .before .before .before .args in let l = c .before .before .before .before .before .before .before .before .before .before .before .loop in hyphen-fits (a .lengths .now) (l .n) (a .sizes) (a .s .now) (c .before .before .before .before .before .before .before .before .before .before .loop-test .taken) _ (c .before .before .before .before .before .if3 .left) (sym (c .before .before .before .before .fits2 .ensures) ∙ c .before .before .before .if4 .taken) (c .part .ensures) ∙ sym (l .inv .1))  -- digit-returns-3
-    (λ c. let a = c .before .before .before .before .before .before .before .before .before .before .before .args in let l = c .before .before .before .before .before .before .before .before .loop in hyphen-breaks (a .lengths .now) (l .n) (a .sizes) (a .s .now) (c .before .before .before .before .before .before .before .loop-test .taken) (c .before .before .if3 .left) (sym (c .before .fits2 .ensures) ∙ c .if4 .left) ∙ sym (l .inv .1))  -- digit-returns-4
-    (λ c κs. c .before .before .before .before .pre .1)  -- digit-ended-requires-2
-    (λ c. let a = c .before .before .before .before .before .args in let l = c .before .before .loop in c .ended2 .ensures ∙ last-reads (a .lengths .now) (l .n) (a .sizes) (a .s .now) (c .before .loop-test .left) ∙ sym (l .inv .1)))  -- digit-returns-5
+    (λ c. (omega arith, ap (λ (n : ℕ). digitRead (c .before .before .args .lengths .now) n (split 45 (c .before .before .args .s .now))) (sym (add-zero (c .before .before .args .at))))) -- digit-loop-holds
+    (λ c. search needs) -- digit-shared-slice-read-b
+    (λ c κs. search needs) -- digit-is-digit-requires
+    (λ c. search needs) -- digit-add-n
+    (λ c. search needs) -- digit-loop-less
+    (λ c. let a = c .before .before .before .before .before .before .before .args in let l = c .before .before .before .before .loop in (omega arith, l .inv .1 ∙ digits-on (a .lengths .now) (a .at) (l .n) (a .s .now) (c .before .before .before .loop-test .taken) (sym (c .before .is-digit .ensures) ∙ c .if1 .taken))) -- digit-loop-again
+    (λ c. let a = c .before .before .before .before .before .before .before .before .args in let l = c .before .before .before .before .before .loop in digits-break (a .lengths .now) (a .at) (l .n) (a .s .now) (c .before .before .before .before .loop-test .taken) (c .if2 .taken) (sym (c .before .before .is-digit .ensures) ∙ c .before .if1 .left) ∙ sym (l .inv .1)) -- digit-returns
+    (λ c. search needs) -- digit-add-part
+    (λ c. search needs) -- digit-sub-part
+    (λ c. search needs) -- digit-part-part-start
+    (λ c. search needs) -- digit-part-part-end
+    (λ c. search needs) -- digit-add-part-2
+    (λ c. search needs) -- digit-add-part-3
+    (λ c κs. let a = c .before .before .before .before .before .before .before .before .before .args in let l = c .before .before .before .before .before .before .loop in let e = to-the-end (l .n + 1) (a .s .now) in let n = length-drop (l .n + 1) (a .s .now) in (rw e (omega arith), (rw e (omega arith), omega arith))) -- digit-part-requires
+    (λ c. let a = c .before .before .before .before .before .before .before .before .before .before .before .args in let l = c .before .before .before .before .before .before .before .before .loop in handed-none (a .lengths .now) (a .at) (l .n) (a .s .now) (c .before .before .before .before .before .before .before .loop-test .taken) (c .before .before .before .if2 .left) _ (c .before .part .ensures) (c .if3 .taken) ∙ sym (l .inv .1)) -- digit-returns-2
+    (λ c. search needs) -- digit-add-result
+    (λ c. let a = c .before .before .before .before .before .before .before .before .before .before .before .args in let l = c .before .before .before .before .before .before .before .before .loop in let e = to-the-end (l .n + 1) (a .s .now) in omega (arith, c .before .part .ensures, read-small 3 (a .lengths .now) (a .at + l .n + 1) (split 45 (take (length (a .s .now) - (l .n + 1)) (drop (l .n + 1) (a .s .now)))) (omega arith) (short-span _ (a .at + l .n + 1) (rw e (omega (arith, length-drop (l .n + 1) (a .s .now))))))) -- digit-mul-result
+    (λ c. let a = c .before .before .before .before .before .before .before .before .before .before .before .args in let l = c .before .before .before .before .before .before .before .before .loop in let e = to-the-end (l .n + 1) (a .s .now) in omega (arith, c .before .part .ensures, read-small 3 (a .lengths .now) (a .at + l .n + 1) (split 45 (take (length (a .s .now) - (l .n + 1)) (drop (l .n + 1) (a .s .now)))) (omega arith) (short-span _ (a .at + l .n + 1) (rw e (omega (arith, length-drop (l .n + 1) (a .s .now))))))) -- digit-add-result-2
+    (λ c. let a = c .before .before .before .before .before .before .before .before .before .before .before .args in let l = c .before .before .before .before .before .before .before .before .loop in handed-on (a .lengths .now) (a .at) (l .n) (a .s .now) (c .before .before .before .before .before .before .before .loop-test .taken) (c .before .before .before .if2 .left) _ (c .before .part .ensures) (c .if3 .left) ∙ sym (l .inv .1)) -- digit-returns-3
+    (λ c. search needs) -- digit-add-result-3
+    (λ c. let a = c .before .before .before .before .args in let l = c .before .loop in digits-end (a .lengths .now) (a .at) (l .n) (a .s .now) (c .loop-test .left) ∙ sym (l .inv .1))) -- digit-returns-4
     λ t. part-lts.spec
-    (digit-below t, digit.Post)
+    (digit-below t, digit.Post, wide-reads.Asked, wide-reads.Learnt)
     (part-at t)
     part.Post
-    (λ c. left _ _ _ _ (le-ltb 1 (length (c .before .before .before .args .lengths .now)) (omega arith)) refl)  -- part-returns
-    (λ c κs. (omega arith, c .before .before .before .pre .1))  -- part-digit-requires
-    (λ c. entered _ _ _ _ (lt-ltb 1 (length (c .before .before .before .before .args .lengths .now)) (omega arith)) (c .digit .ensures))  -- part-returns-2
+    (λ c. let a = c .before .before .before .args in unread (a .lengths .now) (a .at) (a .s .now) (c .if1 .taken)) -- part-returns
+    (λ c. search needs) -- part-sub-digit
+    (λ c. search needs) -- part-part-digit-start
+    (λ c. search needs) -- part-part-digit-end
+    (λ c κs. let a = c .before .before .before .before .args in (omega arith, (omega arith, rw (to-the-end 2 (a .lengths .now)) (omega (arith, length-drop 2 (a .lengths .now)))))) -- part-digit-requires
+    (λ c. left _ _ _ _ (sym (and-first _ _ (le-ltb _ _ (c .if2 .taken)))) refl ∙ part-judged (c .before .before .before .before .before .before .args .lengths .now) (c .before .before .before .before .before .before .args .at) (c .before .before .before .before .before .before .args .s .now) (c .before .digit .result) (omega arith) (omega arith) (c .before .digit .ensures)) -- part-returns-2
+    (λ c. search needs) -- part-sub-n
+    (λ c. search needs) -- part-shared-slice-read-wide
+    (λ c κs. search needs) -- part-wide-requires
+    (λ c. left _ _ _ _ (sym (and-second _ _ _ (lt-ltb _ _ (c .before .before .before .if2 .left)) (and-first _ _ (lt-leb _ _ (rw (c .before .wide .ensures) at (c .if3 .taken)))))) refl ∙ part-judged (c .before .before .before .before .before .before .before .before .before .args .lengths .now) (c .before .before .before .before .before .before .before .before .before .args .at) (c .before .before .before .before .before .before .before .before .before .args .s .now) (c .before .before .before .before .digit .result) (omega arith) (omega arith) (c .before .before .before .before .digit .ensures)) -- part-returns-3
+    (λ c. search needs) -- part-shared-slice-read-wide-2
+    (λ c κs. search needs) -- part-wide-requires-2
+    (λ c. left _ _ _ _ (sym (and-second _ _ _ (lt-ltb _ _ (c .before .before .before .before .before .before .if2 .left)) (and-second _ _ _ (le-leb _ _ (rw (c .before .before .before .before .wide .ensures) at (c .before .before .before .if3 .left))) (sym (lt-leb _ _ (rw (c .before .wide2 .ensures) at (c .if4 .taken))))))) refl ∙ part-judged (c .before .before .before .before .before .before .before .before .before .before .before .before .args .lengths .now) (c .before .before .before .before .before .before .before .before .before .before .before .before .args .at) (c .before .before .before .before .before .before .before .before .before .before .before .before .args .s .now) (c .before .before .before .before .before .before .before .digit .result) (omega arith) (omega arith) (c .before .before .before .before .before .before .before .digit .ensures)) -- part-returns-4
+    (λ c. entered _ _ _ _ (sym (and-second _ _ _ (lt-ltb _ _ (c .before .before .before .before .before .before .if2 .left)) (and-second _ _ _ (le-leb _ _ (rw (c .before .before .before .before .wide .ensures) at (c .before .before .before .if3 .left))) (sym (le-leb _ _ (rw (c .before .wide2 .ensures) at (c .if4 .left))))))) refl ∙ part-judged (c .before .before .before .before .before .before .before .before .before .before .before .before .args .lengths .now) (c .before .before .before .before .before .before .before .before .before .before .before .before .args .at) (c .before .before .before .before .before .before .before .before .before .before .before .before .args .s .now) (c .before .before .before .before .before .before .before .digit .result) (omega arith) (omega arith) (c .before .before .before .before .before .before .before .digit .ensures)) -- part-returns-5

@@ -1,26 +1,19 @@
--- `reference::numbered` meets its contract: 7, then what judging the text answers. Assumes nothing.
-use mathlib.Core.Path.{ap, _∙_}
-use borrow.Author.Tests.{not-true, not-false}
-use Rattle.reference.specs.Answers.{modelAnswer}
-use Rattle.reference.proofs.Laws.{unhandled, handled-text}
+-- `reference::numbered` meets its contract: a model that is not handled is 7, else the text is judged. Assumes nothing.
+use mathlib.Core.Path.{_≡_, refl, sym, ap, _∙_}
 use borrow.Author.Needs.{needs}
+use borrow.Author.Tests.{not-true, not-false}
+use Rattle.refusal.proofs.Verdicts.{failed, met}
+use Rattle.models.specs.declared.Model.{Model}
 use Rattle.reference.proofs.numbered.Statement.{statement}
 use Rattle.reference.proofs.numbered.Tie as tie
 
 returns : tie.Need-returns
-returns c =
-    let s = c .before .before .before .before .before .args .s .now in
-    let m = c .before .before .before .rules .result in
-    rw (c .nowhere .ensures)
-    (unhandled s m (not-true (m .handled) (c .before .if1 .taken)) ∙ ap (modelAnswer s) (c .before .before .before .rules .ensures))
+returns c = failed _ 7 _ (ap (λ (m : Model). m .handled) (sym (c .before .before .rules .ensures)) ∙ not-true _ (c .if1 .taken)) refl
 
 returns-2 : tie.Need-returns-2
 returns-2 c =
-    let s = c .before .before .before .before .before .args .s .now in
-    let m = c .before .before .before .rules .result in
-    c .judged-text .ensures
-    ∙ (handled-text s m (not-false (m .handled) (c .before .if1 .left)) ∙ ap (modelAnswer s) (c .before .before .before .rules .ensures))
+    met _ 7 _ _ (ap (λ (m : Model). m .handled) (sym (c .before .before .before .rules .ensures)) ∙ not-false _ (c .before .if1 .left))
+    (rw (c .before .before .before .rules .ensures) at (c .judged .ensures))
 
 pub numbered-spec : {M : Type 1} → statement M
-numbered-spec =
-    tie.close (tie.spec (λ c κs. search needs) (λ c κs. search needs) returns (λ c κs. search needs) returns-2)
+numbered-spec = tie.close (tie.spec (λ c κs. search needs) returns (λ c κs. search needs) returns-2)

@@ -1,14 +1,10 @@
 -- `slip::is_accepted` meets its contract. Assumes nothing.
-use mathlib.Core.Path.{sym, _∙_}
 use borrow.Author.Needs.{needs}
 use Rattle.slip.proofs.is_accepted.Statement.{statement}
 use Rattle.slip.proofs.is_accepted.Tie as tie
 
 returns : tie.Need-returns
-returns c = rw (sym (c .before .before .read .ensures) ∙ c .enum-told .given .1)
-
-returns-2 : tie.Need-returns-2
-returns-2 c = rw (sym (c .before .before .read .ensures) ∙ c .enum-told2 .given .1)
+returns c = rw (c .is-accepted .ensures, c .before .read .ensures)
 
 pub is-accepted-spec : {M : Type 1} → statement M
-is-accepted-spec = tie.close (tie.spec (λ c κs. search needs) (λ c. search needs) (λ c. search needs) returns returns-2)
+is-accepted-spec = tie.close (tie.spec (λ c κs. search needs) (λ c κs. search needs) returns)

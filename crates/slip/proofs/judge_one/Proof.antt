@@ -1,23 +1,20 @@
--- `slip::judge_one` meets its contract: a refusal's byte lies within the field, so that its place in the slip fits. Assumes nothing.
-use mathlib.Core.Path.{sym, _∙_}
+-- `slip::judge_one` meets its contract: a 3's byte lies within the field, so that its place in the slip fits. Assumes nothing.
 use native.Mathlib.Omega.{arith}
-use Rattle.slip.proofs.Laws.{byte-within}
+use lib.ListN.{length}
+use Rattle.refusal.proofs.Verdicts.{byte-within}
+use Rattle.slip_fields.proofs.Theorems.{field-within}
 use borrow.Author.Needs.{needs}
 use Rattle.slip.proofs.judge_one.Statement.{statement}
 use Rattle.slip.proofs.judge_one.Tie as tie
 
-placed-requires : tie.Need-placed-requires
-placed-requires c κs =
-    let a = c .before .before .before .before .before .before .args in
-    omega (arith, byte-within (a .n) (a .before .now) (a .s .now) (c .before .r .given .0 .0) (sym (c .before .before .before .judge-field .ensures) ∙ c .before .r .given .1))
+add-answer-of : tie.Need-add-answer-of
+add-answer-of c =
+    let a = c .before .before .before .before .args in
+    let w = byte-within (length (a .s .now)) (c .before .judge-field .result) (rw (c .before .judge-field .ensures) (field-within (a .n) (a .before .now) (a .s .now))) in
+    omega (arith, w, c .byte-of .ensures)
 
 returns : tie.Need-returns
-returns c = rw (sym (c .before .before .judge-field .ensures) ∙ c .enum-told .given .1)
-
-returns-2 : tie.Need-returns-2
-returns-2 c = rw (c .placed .ensures, sym (c .before .before .before .before .judge-field .ensures) ∙ c .before .before .r .given .1)
+returns c = rw (c .answer-of .ensures, c .before .byte-of .ensures, c .before .before .judge-field .ensures)
 
 pub judge-one-spec : {M : Type 1} → statement M
-judge-one-spec =
-    tie.close
-    (tie.spec (λ c κs. search needs) (λ c. search needs) (λ c. search needs) placed-requires returns returns-2)
+judge-one-spec = tie.close (tie.spec (λ c κs. search needs) (λ c κs. search needs) add-answer-of (λ c κs. search needs) returns)

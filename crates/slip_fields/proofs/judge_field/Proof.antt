@@ -1,41 +1,41 @@
 -- `slip_fields::judge_field` meets its contract: each arm says the number, and its answer is the definition's at that number.
 -- Assumes nothing.
 use borrow.Author.Tests.{ne-eqb}
-use Rattle.slip_fields.specs.Fields.{fieldAnswer}
+use Rattle.slip_fields.specs.Fields.{fieldVerdict}
 use borrow.Author.Needs.{needs}
 use Rattle.slip_fields.proofs.judge_field.Statement.{statement}
 use Rattle.slip_fields.proofs.judge_field.Tie as tie
 
 returns : tie.Need-returns
-unfolding fieldAnswer
+unfolding fieldVerdict
 returns c = rw (c .before .before .match .keys1) (c .judge-word .ensures)
 
 returns-2 : tie.Need-returns-2
-unfolding fieldAnswer
+unfolding fieldVerdict
 returns-2 c = rw (c .before .before .match .keys2) (c .judge-word2 .ensures)
 
 returns-3 : tie.Need-returns-3
-unfolding fieldAnswer
-returns-3 c = rw (c .before .match .keys3) (c .judge-amount .ensures)
+unfolding fieldVerdict
+returns-3 c = rw (c .before .match .keys3) (c .judge-sized .ensures)
 
 returns-4 : tie.Need-returns-4
-unfolding fieldAnswer
+unfolding fieldVerdict
 returns-4 c = rw (c .before .match .keys4) (c .iban .ensures)
 
 returns-5 : tie.Need-returns-5
-unfolding fieldAnswer
+unfolding fieldVerdict
 returns-5 c = rw (c .before .match .keys5) (c .judge .ensures)
 
 returns-6 : tie.Need-returns-6
-unfolding fieldAnswer
+unfolding fieldVerdict
 returns-6 c = rw (c .before .match .keys6) (c .reference .ensures)
 
 returns-7 : tie.Need-returns-7
-unfolding fieldAnswer
-returns-7 c = rw (c .before .match .keys7) (c .judge-purpose .ensures)
+unfolding fieldVerdict
+returns-7 c = rw (c .before .match .keys7) (c .judge-sized2 .ensures)
 
 returns-8 : tie.Need-returns-8
-unfolding fieldAnswer
+unfolding fieldVerdict
 returns-8 c =
     let n = c .before .before .before .before .before .args .n in
     let r = c .before .before .match .rest in

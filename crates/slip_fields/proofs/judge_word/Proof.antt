@@ -9,7 +9,7 @@ returns : tie.Need-returns
 returns c = taken _ _ _ (sym (c .before .is-same .ensures) ∙ c .if1 .taken)
 
 returns-2 : tie.Need-returns-2
-returns-2 c = rw (c .nowhere .ensures) (left _ _ _ _ (sym (c .before .before .is-same .ensures) ∙ c .before .if1 .left) refl)
+returns-2 c = left _ _ _ _ (sym (c .before .is-same .ensures) ∙ c .if1 .left) refl
 
 pub judge-word-spec : {M : Type 1} → statement M
-judge-word-spec = tie.close (tie.spec (λ c κs. search needs) returns (λ c κs. search needs) returns-2)
+judge-word-spec = tie.close (tie.spec (λ c κs. search needs) returns returns-2)

@@ -14,35 +14,17 @@ Inv-loop t field n k₀ k = (k ≤ n) × (spotIn field (spots t) ≡ spotIn fiel
 abbrev μ-loop : tie.MeasureT-loop
 μ-loop t field n k₀ k = n - k
 
-count-requires : tie.Need-count-requires Inv-loop μ-loop
-count-requires c κs = tt
-
-loop-holds : tie.Need-loop-holds Inv-loop μ-loop
-loop-holds c = (omega arith, refl)
-
-spot-at-requires : tie.Need-spot-at-requires Inv-loop μ-loop
-spot-at-requires c κs = tt
-
 returns : tie.Need-returns Inv-loop μ-loop
 returns c =
     let a = c .before .before .before .before .before .args in
     let l = c .before .before .before .loop in
     find-stops (a .field) (spots (a .t)) (l .k) (c .before .spot-at .result) (omega (arith, c .before .before .before .before .count .ensures)) (c .before .spot-at .ensures) (c .if1 .taken) ∙ sym (l .inv .1)
 
-add-k : tie.Need-add-k Inv-loop μ-loop
-add-k c = omega arith
-
-loop-less : tie.Need-loop-less Inv-loop μ-loop
-loop-less c = omega arith
-
 loop-again : tie.Need-loop-again Inv-loop μ-loop
 loop-again c =
     let a = c .before .before .before .before .before .args in
     let l = c .before .before .before .loop in
     (omega arith, l .inv .1 ∙ find-on (a .field) (spots (a .t)) (l .k) (c .before .spot-at .result) (omega (arith, c .before .before .before .before .count .ensures)) (c .before .spot-at .ensures) (c .if1 .left))
-
-at-requires : tie.Need-at-requires Inv-loop μ-loop
-at-requires c κs = tt
 
 returns-2 : tie.Need-returns-2 Inv-loop μ-loop
 returns-2 c =
@@ -53,15 +35,13 @@ returns-2 c =
 pub find-spec : {M : Type 1} → statement M
 find-spec =
     tie.close
-    (tie.spec
-    Inv-loop
-    μ-loop
-    count-requires
-    loop-holds
-    spot-at-requires
+    (tie.spec Inv-loop μ-loop
+    (λ c κs. tt)
+    (λ c. (omega arith, refl))
+    (λ c κs. tt)
     returns
-    add-k
-    loop-less
+    (λ c. omega arith)
+    (λ c. omega arith)
     loop-again
-    at-requires
+    (λ c κs. tt)
     returns-2)

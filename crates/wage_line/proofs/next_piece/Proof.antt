@@ -6,14 +6,10 @@ use borrow.Author.Needs.{needs}
 use Rattle.wage_line.proofs.next_piece.Statement.{statement}
 use Rattle.wage_line.proofs.next_piece.Tie as tie
 
-returns : tie.Need-returns
-returns c = let a = c .before .args in next-last (length (a .s .now)) (a .at) (omega arith)
-
-returns-2 : tie.Need-returns-2
-returns-2 c = let a = c .before .before .args in next-last (length (a .s .now)) (a .at) (omega arith)
-
-returns-3 : tie.Need-returns-3
-returns-3 c = let a = c .before .before .args in next-whole (length (a .s .now)) (a .at) (omega arith)
-
 pub next-piece-spec : {M : Type 1} → statement M
-next-piece-spec = tie.close (tie.spec returns (λ c. search needs) returns-2 (λ c. search needs) returns-3)
+next-piece-spec =
+    tie.close
+    (tie.spec
+    (λ c. let a = c .before .args in next-last (length (a .s .now)) (a .at) (omega arith))
+    (λ c. search needs) (λ c. let a = c .before .before .args in next-last (length (a .s .now)) (a .at) (omega arith))
+    (λ c. search needs) (λ c. let a = c .before .before .args in next-whole (length (a .s .now)) (a .at) (omega arith)))

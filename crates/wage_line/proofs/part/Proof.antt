@@ -5,28 +5,12 @@ use borrow.Author.Needs.{needs}
 use Rattle.wage_line.proofs.part.Statement.{statement}
 use Rattle.wage_line.proofs.part.Tie as tie
 
-returns : tie.Need-returns
-returns c = let a = c .before .before .args in part-none (a .p) (a .s .now) (omega arith)
-
-returns-2 : tie.Need-returns-2
-returns-2 c = let a = c .before .before .before .args in part-short (a .p) (a .s .now) (omega arith)
-
-returns-3 : tie.Need-returns-3
-returns-3 c = let a = c .before .before .before .args in part-whole (a .p) (a .s .now)
-
 pub part-spec : {M : Type 1} → statement M
 part-spec =
     tie.close
     (tie.spec
-    (λ c. search needs)
-    returns
-    (λ c. search needs)
-    (λ c. search needs)
-    (λ c. search needs)
-    (λ c. search needs)
-    returns-2
-    (λ c. search needs)
-    (λ c. search needs)
-    (λ c. search needs)
-    (λ c. search needs)
-    returns-3)
+    (λ c. search needs) (λ c. let a = c .before .before .args in part-none (a .p) (a .s .now) (omega arith))
+    (λ c. search needs) (λ c. search needs) (λ c. search needs) (λ c. search needs)
+    (λ c. let a = c .before .before .before .args in part-short (a .p) (a .s .now) (omega arith))
+    (λ c. search needs) (λ c. search needs) (λ c. search needs) (λ c. search needs)
+    (λ c. let a = c .before .before .before .args in part-whole (a .p) (a .s .now)))

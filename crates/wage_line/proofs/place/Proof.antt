@@ -4,23 +4,11 @@ use borrow.Author.Needs.{needs}
 use Rattle.wage_line.proofs.place.Statement.{statement}
 use Rattle.wage_line.proofs.place.Tie as tie
 
-returns : tie.Need-returns
-unfolding placeOf
-returns c = rw (← (c .before .before .before .before .before .read-type .ensures), c .before .before .before .t .given .1, ← (c .before .find .ensures)) (c .part .ensures)
-
-returns-2 : tie.Need-returns-2
-unfolding placeOf
-returns-2 c = rw (← (c .before .before .before .read-type .ensures), c .before .enum-told .given .1)
-
 pub place-spec : {M : Type 1} → statement M
+unfolding placeOf
 place-spec =
     tie.close
     (tie.spec
-    (λ c κs. search needs)
-    (λ c. search needs)
-    (λ c κs. search needs)
-    (λ c κs. search needs)
-    (λ c. search needs)
-    (λ c. search needs)
-    returns
-    returns-2)
+    (λ c κs. tt) (λ c. search needs) (λ c κs. tt) (λ c κs. tt) (λ c. search needs) (λ c. search needs)
+    (λ c. rw (← (c .before .before .before .before .before .read-type .ensures), c .before .before .before .t .given .1, ← (c .before .find .ensures)) (c .part .ensures))
+    (λ c. rw (← (c .before .before .before .read-type .ensures), c .before .enum-told .given .1)))

@@ -3,8 +3,5 @@ use mathlib.Core.Path.{refl}
 use Rattle.wage_line.proofs.wrong_type.Statement.{statement}
 use Rattle.wage_line.proofs.wrong_type.Tie as tie
 
-returns : tie.Need-returns
-returns c = refl
-
 pub wrong-type-spec : {M : Type 1} → statement M
-wrong-type-spec = tie.close (tie.spec returns)
+wrong-type-spec = tie.close (tie.spec (λ c. refl))

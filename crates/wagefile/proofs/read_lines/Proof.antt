@@ -12,23 +12,8 @@ Inv-loop buffer₀ j₀ turns₀ buffer j turns = length buffer ≡ length buffe
 abbrev μ-loop : tie.MeasureT-loop
 μ-loop buffer₀ j₀ turns₀ buffer j turns = turns
 
-loop-holds : tie.Need-loop-holds Inv-loop μ-loop
-loop-holds c = refl
-
-read-some-requires : tie.Need-read-some-requires Inv-loop μ-loop
-read-some-requires c κs = tt
-
 same-length : tie.Need-same-length Inv-loop μ-loop
 same-length c = c .before .before .before .before .before .read-some .kept .1 .0 ∙ c .before .before .before .before .before .before .before .before .loop .inv
-
-returns : tie.Need-returns Inv-loop μ-loop
-returns c = tt
-
-sub-turns : tie.Need-sub-turns Inv-loop μ-loop
-sub-turns c = omega arith
-
-loop-less : tie.Need-loop-less Inv-loop μ-loop
-loop-less c = omega arith
 
 loop-again : tie.Need-loop-again Inv-loop μ-loop
 loop-again c = c .before .before .before .before .before .read-some .kept .1 .0 ∙ c .before .before .before .before .before .before .before .before .loop .inv
@@ -36,21 +21,18 @@ loop-again c = c .before .before .before .before .before .read-some .kept .1 .0 
 same-length-2 : tie.Need-same-length-2 Inv-loop μ-loop
 same-length-2 c = c .before .loop .inv
 
-returns-2 : tie.Need-returns-2 Inv-loop μ-loop
-returns-2 c = tt
-
 pub read-lines-spec : {M : Type 1} → statement M
 read-lines-spec =
     tie.close
     (tie.spec
     Inv-loop
     μ-loop
-    loop-holds
-    read-some-requires
+    (λ c. refl)
+    (λ c κs. tt)
     same-length
-    returns
-    sub-turns
-    loop-less
+    (λ c. tt)
+    (λ c. omega arith)
+    (λ c. omega arith)
     loop-again
     same-length-2
-    returns-2)
+    (λ c. tt))

@@ -1,0 +1,13 @@
+-- `slip::bytes` meets its contract. Assumes nothing.
+use mathlib.Core.Path.{_≡_}
+use Prim.Native.Nat.{_+_, _-_}
+use native.Mathlib.Omega.{arith}
+use borrow.Author.Needs.{needs}
+use Rattle.slip.proofs.bytes.Statement.{statement}
+use Rattle.slip.proofs.bytes.Tie as tie
+
+returns : tie.Need-returns
+returns c = let p = c .before .args .p in let e : p .start + p .length - p .start ≡ p .length = omega arith in rw e
+
+pub bytes-spec : {M : Type 1} → statement M
+bytes-spec = tie.close (tie.spec (λ c. search needs) (λ c. search needs) (λ c. search needs) (λ c. search needs) returns)

@@ -1,0 +1,2 @@
+-- What is promised of `words`.
+pub mod Theorems
