@@ -11,7 +11,7 @@ use lib.Dec.{eqb, leb}
 use lib.ListN.{length, take, getD, length-take}
 use borrow.Author.Tests.{leb-true, eqb-true, eqb-false, le-leb, eq-eqb, ne-eqb}
 use Rattle.refusal.specs.Only.{Only, defined-only}
-use Rattle.refusal.specs.Refusal.{none}
+use Rattle.refusal.specs.Refusal.{none, firstOf}
 use Rattle.refusal.specs.declared.Answer.{Answer}
 use Rattle.refusal.specs.declared.Answer.the-variants as answer
 use Rattle.refusal.specs.declared.Refusal.the-variants.{Size, Misplaced, Orders}
@@ -25,7 +25,7 @@ use Rattle.wage_line.specs.Line.{typedOf, partOf}
 use Rattle.wage_line.specs.Places.{spots, spotIn}
 use Rattle.wage_line.specs.Pieces.{pieces}
 use Rattle.wage_line.proofs.PieceLaws.{whole-pieces}
-use Rattle.wage_fields.specs.Rules.{firstOf, placesAnswer}
+use Rattle.wage_fields.specs.Rules.{placesAnswer}
 use Rattle.wage_file.specs.Right.{RightLine, amounts}
 use Rattle.wage_file.proofs.RunLaws.{Each, each-more}
 use Rattle.wage_orders.specs.Orders.{answerIn, orderFrom, orderAnswer, ordersFrom, groupOrders}

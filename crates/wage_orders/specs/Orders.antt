@@ -5,7 +5,7 @@ use mathlib.Core.Bool.{cond}
 use mathlib.Core.List.{List, [], _∷_}
 use lib.Dec.{eqb, leb}
 use lib.ListN.{length}
-use Rattle.refusal.specs.Refusal.{none, inLine}
+use Rattle.refusal.specs.Refusal.{none, inLine, firstOf}
 use Rattle.refusal.specs.declared.Answer.{Answer}
 use Rattle.refusal.specs.declared.Answer.the-variants as answer
 use Rattle.refusal.specs.declared.Answer.the-variants.{Accepted}
@@ -15,7 +15,7 @@ use Rattle.wage_line.specs.declared.Typed.{Typed}
 use Rattle.wage_line.specs.declared.Typed.the-variants.{Line, Refused}
 use Rattle.wage_line.specs.Line.{typedOf}
 use Rattle.wage_line.specs.Pieces.{pieces}
-use Rattle.wage_fields.specs.Rules.{firstOf, placesAnswer}
+use Rattle.wage_fields.specs.Rules.{placesAnswer}
 
 -- an answer of line n, a refusal's field and byte kept
 abbrev pub answerIn : ℕ → Answer → Answer
