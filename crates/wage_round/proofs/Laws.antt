@@ -13,6 +13,7 @@ use Rattle.refusal.specs.declared.Answer.{Answer}
 use Rattle.refusal.specs.declared.Answer.the-variants.{Accepted, Refused}
 use Rattle.refusal.specs.declared.Refusal.the-variants.{Form, Date}
 use Rattle.text.specs.Bytes.{allOf}
+use Rattle.text.specs.Split.{joined}
 use Rattle.text.specs.declared.Class.the-variants.{Digits}
 use Rattle.text.specs.Digits.{digitsText}
 use Rattle.text.proofs.Laws.{both-true}
@@ -21,7 +22,7 @@ use Rattle.sums.specs.Sums.{numberOf}
 use Rattle.sums.proofs.Theorems.{text-small, number-of-all}
 use Rattle.room.proofs.Digits.{digits-length, number-back, digits-again}
 use Rattle.wage_line.specs.declared.LineType.the-variants.{Label, Group, Order}
-use Rattle.wage_line.specs.Pieces.{pieces, joined}
+use Rattle.wage_line.specs.Pieces.{pieces}
 use Rattle.wage_line.specs.Places.{spots, spotIn}
 use Rattle.wage_line.specs.Line.{partOf}
 use Rattle.wage_line.proofs.Theorems.{field-size, typed-exactly}
