@@ -24,7 +24,8 @@ use Rattle.wage_line.specs.declared.Typed.{Typed}
 use Rattle.wage_line.specs.declared.Typed.the-variants as typed
 use Rattle.wage_line.specs.Places.{spots, spotIn}
 use Rattle.wage_line.specs.Line.{typedOf, partOf}
-use Rattle.wage_fields.specs.Rules.{placesFrom, placesAnswer}
+use Rattle.wage_fields.specs.Rules.{placesAnswer}
+use Rattle.wage_fields.proofs.Theorems.{closing-has-none}
 use Rattle.judge.specs.declared.Condition.the-variants.{Grouped}
 use Rattle.judge.specs.declared.Counts.{Counts}
 use Rattle.judge.specs.declared.Ending.the-variants as ending
@@ -144,8 +145,7 @@ goes j s t a b c w e = rw (a, b, lt-ltb _ _ c, w .typed, e, w .fields)
 
 -- a 399 has no places
 pub right-closing : (day kind : ℕ) (s : List ℕ) → typedOf s ≡ typed.Line Closing → RightLine day kind Closing s
-unfolding placesAnswer placesFrom spots
-right-closing day kind s e = record { typed = e; fields = refl }
+right-closing day kind s e = record { typed = e; fields = closing-has-none day kind s }
 
 -- ---------------------------------------------------------------------------
 -- What a group's first line declares

@@ -11,12 +11,12 @@ use lib.Dec.{eqb, leb}
 use lib.ListN.{length, take, getD, length-take}
 use borrow.Author.Tests.{leb-true, eqb-true, eqb-false, le-leb, eq-eqb, ne-eqb}
 use Rattle.refusal.specs.Only.{Only, defined-only}
-use Rattle.refusal.specs.Refusal.{none}
+use Rattle.refusal.specs.Refusal.{none, firstOf}
 use Rattle.refusal.specs.declared.Answer.{Answer}
 use Rattle.refusal.specs.declared.Answer.the-variants as answer
 use Rattle.refusal.specs.declared.Refusal.the-variants.{Size, Misplaced, Orders}
 use Rattle.sums.specs.declared.Sum.{Sum}
-use Rattle.sums.specs.Sums.{sumOf}
+use Rattle.sums.specs.Sums.{sumOf, numberIn}
 use Rattle.sums.proofs.Theorems.{text-small}
 use Rattle.wage_line.specs.declared.LineType.the-variants.{Label, Group, Order, Closing}
 use Rattle.wage_line.specs.declared.Typed.{Typed}
@@ -25,7 +25,6 @@ use Rattle.wage_line.specs.Line.{typedOf, partOf}
 use Rattle.wage_line.specs.Places.{spots, spotIn}
 use Rattle.wage_line.specs.Pieces.{pieces}
 use Rattle.wage_line.proofs.PieceLaws.{whole-pieces}
-use Rattle.wage_contents.specs.Contents.{andThen, numberIn}
 use Rattle.wage_fields.specs.Rules.{placesAnswer}
 use Rattle.wage_file.specs.Right.{RightLine, amounts}
 use Rattle.wage_file.proofs.RunLaws.{Each, each-more}
@@ -66,7 +65,7 @@ module _ (day kind : ℕ) where
   orders-told n [] e = λ k h. absurd (omega arith)
   orders-told n (s ∷ ss) e = go (orderAnswer day kind n s) refl e (orders-told (n + 1) ss)
     where
-      go : (a : Answer) → orderAnswer day kind n s ≡ a → andThen a (ordersFrom day kind (n + 1) ss) ≡ answer.Accepted → (ordersFrom day kind (n + 1) ss ≡ answer.Accepted → EachRight ss) → EachRight (s ∷ ss)
+      go : (a : Answer) → orderAnswer day kind n s ≡ a → firstOf a (ordersFrom day kind (n + 1) ss) ≡ answer.Accepted → (ordersFrom day kind (n + 1) ss ≡ answer.Accepted → EachRight ss) → EachRight (s ∷ ss)
       go answer.Accepted f g rest = each-more (RightLine day kind Order) [] s ss (order-told n s f) (rest g)
       go (answer.Refused r) f g rest = let z : _≡_ {A = ℕ} 0 1 = cc in absurd (omega arith)
 
@@ -144,5 +143,5 @@ module _ (s : List ℕ) where
   pub number-only : Only (λ (r : ℕ). r ≡ length s / 1002)
   number-only = defined-only (length s / 1002)
 
-  pub total-only : Only (λ (r : Sum). r ≡ sumOf (amounts (pieces s)))
-  total-only = defined-only (sumOf (amounts (pieces s)))
+  pub total-only : Only (λ (r : Sum). r ≡ sumOf 100 (amounts (pieces s)))
+  total-only = defined-only (sumOf 100 (amounts (pieces s)))

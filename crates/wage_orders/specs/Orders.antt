@@ -5,24 +5,19 @@ use mathlib.Core.Bool.{cond}
 use mathlib.Core.List.{List, [], _∷_}
 use lib.Dec.{eqb, leb}
 use lib.ListN.{length}
-use Rattle.refusal.specs.Refusal.{none, placeOf, moved}
+use Rattle.refusal.specs.Refusal.{none, inLine, firstOf}
 use Rattle.refusal.specs.declared.Answer.{Answer}
 use Rattle.refusal.specs.declared.Answer.the-variants as answer
 use Rattle.refusal.specs.declared.Answer.the-variants.{Accepted}
-use Rattle.refusal.specs.declared.Refusal.{Refusal}
 use Rattle.refusal.specs.declared.Refusal.the-variants.{Size, Misplaced, Orders}
 use Rattle.wage_line.specs.declared.LineType.the-variants.{Label, Group, Order, Closing}
 use Rattle.wage_line.specs.declared.Typed.{Typed}
 use Rattle.wage_line.specs.declared.Typed.the-variants.{Line, Refused}
 use Rattle.wage_line.specs.Line.{typedOf}
 use Rattle.wage_line.specs.Pieces.{pieces}
-use Rattle.wage_contents.specs.Contents.{andThen}
 use Rattle.wage_fields.specs.Rules.{placesAnswer}
 
--- a refusal of line n, its field and byte kept
-abbrev pub inLine : ℕ → Refusal → Refusal
-inLine n r = moved (record { line = n; field = placeOf r .field; byte = placeOf r .byte }) r
-
+-- an answer of line n, a refusal's field and byte kept
 abbrev pub answerIn : ℕ → Answer → Answer
 answerIn n Accepted = Accepted
 answerIn n (answer.Refused r) = answer.Refused (inLine n r)
@@ -45,7 +40,7 @@ orderAnswer day kind n s = orderFrom day kind n s (typedOf s)
 -- the orders from line n on
 unfoldable pub ordersFrom : ℕ → ℕ → ℕ → List (List ℕ) → Answer
 ordersFrom day kind n [] = Accepted
-ordersFrom day kind n (s ∷ ss) = andThen (orderAnswer day kind n s) (ordersFrom day kind (n + 1) ss)
+ordersFrom day kind n (s ∷ ss) = firstOf (orderAnswer day kind n s) (ordersFrom day kind (n + 1) ss)
 
 -- the lent lines of a group
 unfoldable pub groupOrders : ℕ → ℕ → List ℕ → Answer

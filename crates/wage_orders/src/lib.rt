@@ -9,30 +9,13 @@ ghost use Rattle.sums.specs.Sums.{sumOf};
 ghost use Rattle.wage_line.specs.Pieces.{pieces};
 ghost use Rattle.wage_fields.specs.Rules.{placesAnswer};
 ghost use Rattle.wage_file.specs.Right.{amounts};
-ghost use Rattle.wage_orders.specs.Orders.{inLine, answerIn, noOrder, orderAnswer, ordersFrom, groupOrders};
+ghost use Rattle.wage_orders.specs.Orders.{answerIn, noOrder, orderAnswer, ordersFrom, groupOrders};
 use refusal::Answer;
 use refusal::Place;
 use refusal::Refusal;
 use sums::Sum;
 use wage_line::LineType;
 use wage_line::Typed;
-
-// A refusal told of a line.
-fn in_line(n: usize, r: Refusal) -> Refusal
-    ensures { λ q. ⌜ q ≡ inLine n r ⌝ }
-{
-    let p = refusal::told(r);
-    let field = p.field;
-    let byte = p.byte;
-    refusal::put(
-        r,
-        Place {
-            line: n,
-            field,
-            byte,
-        },
-    )
-}
 
 // A line that is no order: 10.
 fn no_order(n: usize) -> Answer
@@ -52,7 +35,7 @@ fn judge_fields(day: u64, kind: u64, n: usize, s: &[u8]) -> Answer
 {
     match wage_fields::judge_places(day, kind, LineType::Order, s) {
         Answer::Accepted => Answer::Accepted,
-        Answer::Refused(r) => Answer::Refused(in_line(n, r)),
+        Answer::Refused(r) => Answer::Refused(refusal::in_line(n, r)),
     }
 }
 
@@ -67,7 +50,7 @@ fn judge_order(day: u64, kind: u64, n: usize, s: &[u8]) -> Answer
             LineType::Order => judge_fields(day, kind, n, s),
             LineType::Closing => no_order(n),
         },
-        Typed::Refused(r) => Answer::Refused(in_line(n, r)),
+        Typed::Refused(r) => Answer::Refused(refusal::in_line(n, r)),
     }
 }
 
@@ -118,7 +101,7 @@ pub fn judge(day: u64, kind: u64, s: &[u8]) -> Answer
 
 // The exact sum of the orders' amounts.
 pub fn total(s: &[u8]) -> Sum
-    ensures { λ r. ⌜ r ≡ sumOf (amounts (pieces (now (s .entry)))) ⌝ }
+    ensures { λ r. ⌜ r ≡ sumOf 100 (amounts (pieces (now (s .entry)))) ⌝ }
 {
     let amount = wage_line::find(LineType::Order, 10);
     let mut sum = sums::nothing();
@@ -127,6 +110,7 @@ pub fn total(s: &[u8]) -> Sum
         sum = sums::add(
             sum,
             sums::number(wage_line::part(amount, wage_line::piece(s, at))),
+            100,
         );
         at = wage_line::next_piece(s, at);
     }

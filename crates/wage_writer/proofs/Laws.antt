@@ -3,13 +3,13 @@
 use mathlib.Core.Path.{_≡_, refl, sym, ap, _∙_}
 use mathlib.Core.Bool.{true, false, _||_}
 use mathlib.Core.List.{List, [], _∷_, _++_, append-assoc}
-use Prim.Native.Nat.{ℕ, zero, suc, _+_, _-_, _/_, _%_, _≤_, _<_}
+use Prim.Native.Nat.{ℕ, zero, suc, _+_, _-_, _*_, _/_, _%_, _≤_, _<_}
 use native.Mathlib.Omega.{arith}
 use lib.Dec.{eqb}
 use lib.ListN.{length, take, drop, getD, replicate, length-append}
 use lib.Seq.{sets, length-sets, sets-eq, take-at, drop-at, take-all, length-take-le, getD-drop}
 use borrow.Author.Tests.{lt-leb, le-leb}
-use Rattle.refusal.specs.Refusal.{none}
+use Rattle.refusal.specs.Refusal.{none, firstOf}
 use Rattle.refusal.specs.declared.Place.{Place}
 use Rattle.refusal.specs.declared.Answer.{Answer}
 use Rattle.refusal.specs.declared.Answer.the-variants.{Accepted, Refused}
@@ -18,14 +18,13 @@ use Rattle.refusal.specs.declared.Refusal.the-variants.{Form, Date, Room}
 use Rattle.text.specs.Digits.{digitsText}
 use Rattle.dates.specs.Dates.{isDate}
 use Rattle.sums.specs.declared.Sum.{Sum}
-use Rattle.sums.specs.Sums.{sumOf, limb, tooMuch}
+use Rattle.sums.specs.Sums.{sumOf, limb}
 use Rattle.sums.proofs.Laws.{sum-small, in-limbs, low-small}
 use Rattle.room.proofs.Places.{front}
 use Rattle.room.proofs.Digits.{digits-length, digits-two-limbs}
 use Rattle.wage_line.specs.declared.LineType.{LineType}
 use Rattle.wage_line.specs.declared.LineType.the-variants.{Group}
 use Rattle.wage_line.specs.Places.{spots}
-use Rattle.wage_contents.specs.Contents.{andThen}
 use Rattle.wage_draft.specs.Fields.{fieldsOf, behind}
 use Rattle.wage_draft.specs.Draft.{Draft, dressed, bareLine, drafted, goingOn, Drafts}
 use Rattle.wage_draft.proofs.Theorems.{drafted-append, drafted-by-fields}
@@ -36,11 +35,11 @@ use Rattle.wage_writer.specs.Writer.{forDay, forKind, forRoom, Writes}
 
 module _ (line out : List ℕ) where
   -- a refusal of the first answer is that of both, and leaves the room as it was
-  pub refused-first : (a rest : Answer) (q : Refusal) → a ≡ Refused q → Writes (andThen a rest) line out (Refused q) out
+  pub refused-first : (a rest : Answer) (q : Refusal) → a ≡ Refused q → Writes (firstOf a rest) line out (Refused q) out
   refused-first a rest q e = rw e (record { answers = refl; leaves = refl })
 
   -- where the first answer accepts, the second counts
-  pub accepted-first : (a rest r : Answer) (after : List ℕ) → a ≡ Accepted → Writes rest line out r after → Writes (andThen a rest) line out r after
+  pub accepted-first : (a rest r : Answer) (after : List ℕ) → a ≡ Accepted → Writes rest line out r after → Writes (firstOf a rest) line out r after
   accepted-first a rest r after e w = rw e w
 
   -- the day is no date
@@ -77,11 +76,11 @@ module _ (line out : List ℕ) where
 
 module _ (d : Draft) (r : Answer) (line : List ℕ) (w : Drafts d r line) (rest : Answer) (out : List ℕ) where
   -- a refused draft leaves the room as it was
-  pub draft-refused : (q : Refusal) → r ≡ Refused q → Writes (andThen (d .answer) rest) (d .line) out (Refused q) out
+  pub draft-refused : (q : Refusal) → r ≡ Refused q → Writes (firstOf (d .answer) rest) (d .line) out (Refused q) out
   draft-refused q e = refused-first (d .line) out (d .answer) rest q (sym (w .answers) ∙ e)
 
   -- the line of an accepted draft is written
-  pub draft-written : r ≡ Accepted → (s : Answer) (after : List ℕ) → Writes rest line out s after → Writes (andThen (d .answer) rest) (d .line) out s after
+  pub draft-written : r ≡ Accepted → (s : Answer) (after : List ℕ) → Writes rest line out s after → Writes (firstOf (d .answer) rest) (d .line) out s after
   draft-written e s after p = accepted-first (d .line) out (d .answer) rest s after (sym (w .answers) ∙ e) (rw (w .leaves) at p)
 
 -- blanks, dressed
@@ -120,13 +119,13 @@ three-written s a b c l e f g =
     sym (take-all 25 (sets s2 7 c) (omega (arith, length-sets s2 7 c))) ∙ e3 ∙ append-assoc a b c
 
 -- a sum of at most twenty digits, its two parts one behind the other
-pub sum-digits : (n : ℕ) (s : Sum) → n < tooMuch → s ≡ sumOf n → digitsText 2 (s .high) ++ digitsText 18 (s .low) ≡ digitsText 20 n
+pub sum-digits : (n : ℕ) (s : Sum) → n < 100 * limb → s ≡ sumOf 100 n → digitsText 2 (s .high) ++ digitsText 18 (s .low) ≡ digitsText 20 n
 sum-digits n s h e =
-    rw (e, ← (sum-small n h)) (sym (digits-two-limbs (n / limb) (n % limb) (low-small n)) ∙ ap (digitsText 20) (in-limbs n))
+    rw (e, ← (sum-small 100 n h)) (sym (digits-two-limbs (n / limb) (n % limb) (low-small n)) ∙ ap (digitsText 20) (in-limbs n))
 
 -- the number and the sum of a group's orders, one behind the other
 pub worked-digits :
-    (digits : List ℕ) (m n : ℕ) (s : Sum) (k : ℕ) (first second third : List ℕ) → length digits ≡ 25 → n < tooMuch → k ≡ m → s ≡ sumOf n
+    (digits : List ℕ) (m n : ℕ) (s : Sum) (k : ℕ) (first second third : List ℕ) → length digits ≡ 25 → n < 100 * limb → k ≡ m → s ≡ sumOf 100 n
     → first ≡ sets digits 0 (digitsText 5 k) → second ≡ sets first 5 (digitsText 2 (s .high)) → third ≡ sets second 7 (digitsText 18 (s .low))
     → third ≡ digitsText 5 m ++ digitsText 20 n
 worked-digits digits m n s k first second third l h i e w1 w2 w3 =

@@ -9,7 +9,8 @@ use lib.Dec.{eqb, leb, ltb}
 use lib.ListN.{length, getD, drop}
 use lib.Seq.{sets}
 use borrow.Author.Tests.{ltb-true, leb-false}
-use Rattle.refusal.specs.Refusal.{none, placeOf}
+use Rattle.refusal.specs.Refusal.{none, placeOf, inLine, firstOf}
+use Rattle.refusal.specs.Verdict.{verdictByte}
 use Rattle.refusal.specs.declared.Place.{Place}
 use Rattle.refusal.specs.declared.Answer.{Answer}
 use Rattle.refusal.specs.declared.Answer.the-variants.{Accepted, Refused}
@@ -22,16 +23,15 @@ use Rattle.wage_line.specs.declared.LineType.the-variants.{Label, Group, Order,
 use Rattle.wage_line.specs.declared.Spot.{Spot}
 use Rattle.wage_line.specs.declared.Typed.{Typed}
 use Rattle.wage_line.specs.declared.Typed.the-variants as typed
-use Rattle.wage_line.specs.Line.{typedOf, partAt}
+use Rattle.wage_line.specs.Line.{typedOf}
 use Rattle.wage_line.specs.Places.{spots}
 use Rattle.wage_line.specs.Pieces.{pieces}
 use Rattle.wage_line.proofs.Laws.{each}
-use Rattle.wage_contents.specs.Contents.{andThen}
-use Rattle.wage_fields.specs.Rules.{ruleAnswer, placeAnswer, placesAnswer}
-use Rattle.wage_fields.proofs.Laws.{refused-at, told-place}
+use Rattle.wage_fields.specs.Rules.{placeVerdict, placeAnswer, placesAnswer}
+use Rattle.wage_fields.proofs.Laws.{told-place}
 use Rattle.wage_draft.specs.Draft.{Draft, placed, goingOn, drafted, wrongLength}
 use Rattle.wage_draft.proofs.Laws.{drafted-first, no-places}
-use Rattle.wage_orders.specs.Orders.{inLine, answerIn, orderFrom, orderAnswer, ordersFrom, groupOrders}
+use Rattle.wage_orders.specs.Orders.{answerIn, orderFrom, orderAnswer, ordersFrom, groupOrders}
 use Rattle.wage_writer.specs.Writer.{forDay, forKind, forRoom}
 
 -- the refusal of the room
@@ -45,8 +45,8 @@ noRoom = Refused (Room none 1002)
 at-place : (day kind : ℕ) (t : LineType) (p : Spot) (s : List ℕ) (r : Refusal) → placeAnswer day kind t p s ≡ Refused r → placeOf r .field ≡ p .field
 unfolding placeAnswer
 at-place day kind t p s r e =
-    let a = refused-at p (ruleAnswer day kind t (p .field) (partAt p s) s) r e in
-    ap (λ (x : Refusal). placeOf x .field) (a .2) ∙ ap (λ (x : Place). x .field) (told-place p (a .0))
+    let v = placeVerdict day kind t p s in
+    ap (λ (x : Place). x .field) (told-place v (p .field) (p .start + verdictByte v) r e)
 
 -- of a length that is not the place's
 wrong-length : (p : Spot) (r : Refusal) → wrongLength p ≡ Refused r → placeOf r .field ≡ p .field
@@ -155,7 +155,7 @@ module _ (day kind : ℕ) (r : Refusal) where
   orders-line n (s ∷ ss) e = go (orderAnswer day kind n s) refl e (orders-line (n + 1) ss)
     where
       go :
-          (a : Answer) → orderAnswer day kind n s ≡ a → andThen a (ordersFrom day kind (n + 1) ss) ≡ Refused r
+          (a : Answer) → orderAnswer day kind n s ≡ a → firstOf a (ordersFrom day kind (n + 1) ss) ≡ Refused r
           → (ordersFrom day kind (n + 1) ss ≡ Refused r → n + 1 ≤ placeOf r .line) → n ≤ placeOf r .line
       go Accepted f g later = omega (arith, later g)
       go (Refused q) f g later = omega (arith, order-line n s (f ∙ g))
@@ -194,7 +194,7 @@ kind-before kind rest e = go (eqb kind 4 || eqb kind 5) refl e
     go false h g = let z : _≡_ {A = ℕ} 0 1 = cc in absurd (omega arith)
 
 -- what comes before is accepted
-pub accepted-before : (a rest : Answer) → (a ≡ noRoom → ⊥) → andThen a rest ≡ noRoom → (a ≡ Accepted) × (rest ≡ noRoom)
+pub accepted-before : (a rest : Answer) → (a ≡ noRoom → ⊥) → firstOf a rest ≡ noRoom → (a ≡ Accepted) × (rest ≡ noRoom)
 accepted-before Accepted rest other e = (refl, e)
 accepted-before (Refused r) rest other e = absurd (other e)
 

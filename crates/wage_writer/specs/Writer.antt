@@ -6,7 +6,7 @@ use mathlib.Core.Bool.{cond, _||_}
 use mathlib.Core.List.{List, [], _∷_, _++_}
 use lib.Dec.{eqb, leb}
 use lib.ListN.{length, drop, getD}
-use Rattle.refusal.specs.Refusal.{none}
+use Rattle.refusal.specs.Refusal.{none, firstOf}
 use Rattle.refusal.specs.declared.Answer.{Answer}
 use Rattle.refusal.specs.declared.Answer.the-variants.{Accepted, Refused}
 use Rattle.refusal.specs.declared.Refusal.the-variants.{Form, Date, Room}
@@ -15,7 +15,6 @@ use Rattle.dates.specs.Dates.{isDate}
 use Rattle.wage_line.specs.declared.LineType.the-variants.{Label, Group, Order}
 use Rattle.wage_line.specs.Places.{spots}
 use Rattle.wage_line.specs.Pieces.{pieces}
-use Rattle.wage_contents.specs.Contents.{andThen}
 use Rattle.wage_file.specs.Right.{amounts}
 use Rattle.wage_draft.specs.Draft.{Draft, bareLine, drafted}
 use Rattle.wage_orders.specs.Orders.{groupOrders}
@@ -57,14 +56,14 @@ abbrev pub forRoom : ℕ → Answer
 forRoom n = cond (leb 1002 n) Accepted (Refused (Room none 1002))
 
 unfoldable pub labelAnswer : ℕ → List (List ℕ) → ℕ → Answer
-labelAnswer day fs room = forDay day (andThen (labelDraft day fs .answer) (forRoom room))
+labelAnswer day fs room = forDay day (firstOf (labelDraft day fs .answer) (forRoom room))
 
 unfoldable pub orderAnswer : ℕ → ℕ → List (List ℕ) → ℕ → Answer
-orderAnswer day kind fs room = forDay day (forKind kind (andThen (orderDraft day kind fs .answer) (forRoom room)))
+orderAnswer day kind fs room = forDay day (forKind kind (firstOf (orderDraft day kind fs .answer) (forRoom room)))
 
 unfoldable pub groupAnswer : ℕ → ℕ → List (List ℕ) → List ℕ → ℕ → Answer
 groupAnswer day kind fs orders room =
-    forDay day (forKind kind (andThen (groupOrders day kind orders) (andThen (groupDraft day kind fs orders .answer) (forRoom room))))
+    forDay day (forKind kind (firstOf (groupOrders day kind orders) (firstOf (groupDraft day kind fs orders .answer) (forRoom room))))
 
 unfoldable pub closingAnswer : ℕ → ℕ → Answer
 closingAnswer day room = forDay day (forRoom room)

@@ -8,11 +8,11 @@ ghost use mathlib.Core.List.{[], _∷_, _++_};
 ghost use Prim.Native.Nat.{_/_, _<_};
 ghost use lib.Dec.{eqb};
 ghost use lib.ListN.{length, take, drop, replicate};
+ghost use Rattle.refusal.specs.Refusal.{firstOf};
 ghost use Rattle.text.specs.Digits.{digitsText};
 ghost use Rattle.wage_line.specs.Pieces.{pieces};
 ghost use Rattle.wage_file.specs.Right.{amounts};
 ghost use Rattle.wage_line.specs.Places.{spots};
-ghost use Rattle.wage_contents.specs.Contents.{andThen};
 ghost use Rattle.wage_draft.specs.Fields.{fieldsOf};
 ghost use Rattle.wage_draft.specs.Draft.{bareLine, drafted, Drafts};
 ghost use Rattle.wage_writer.specs.Writer.{labelDraft, orderDraft, groupDraft, forRoom, labelAnswer, orderAnswer, groupAnswer, closingAnswer, Writes};
@@ -58,7 +58,7 @@ fn write_line(
     sizes: &[usize],
     out: &mut [u8],
 ) -> Answer
-    ensures { λ r. ⌜ Writes (andThen (drafted day kind t (spots t) (fieldsOf (now (sizes .entry)) (now (text .entry))) (bareLine t) .answer) (forRoom (length (now (out .entry))))) (drafted day kind t (spots t) (fieldsOf (now (sizes .entry)) (now (text .entry))) (bareLine t) .line) (now (out .entry)) r (now (out .exit)) ⌝ }
+    ensures { λ r. ⌜ Writes (firstOf (drafted day kind t (spots t) (fieldsOf (now (sizes .entry)) (now (text .entry))) (bareLine t) .answer) (forRoom (length (now (out .entry))))) (drafted day kind t (spots t) (fieldsOf (now (sizes .entry)) (now (text .entry))) (bareLine t) .line) (now (out .entry)) r (now (out .exit)) ⌝ }
 {
     let mut line = [32u8; 1002];
     if let Answer::Refused(r) = draft_line(day, kind, t, text, sizes, &mut line) {
@@ -204,7 +204,7 @@ fn write_judged(
     out: &mut [u8],
 ) -> Answer
     requires { ⌜ amounts (pieces (now orders)) < 100000000000000000000 ⌝ }
-    ensures { λ r. ⌜ Writes (andThen (groupDraft day kind (fieldsOf (now (sizes .entry)) (now (text .entry))) (now (orders .entry)) .answer) (forRoom (length (now (out .entry))))) (groupDraft day kind (fieldsOf (now (sizes .entry)) (now (text .entry))) (now (orders .entry)) .line) (now (out .entry)) r (now (out .exit)) ⌝ }
+    ensures { λ r. ⌜ Writes (firstOf (groupDraft day kind (fieldsOf (now (sizes .entry)) (now (text .entry))) (now (orders .entry)) .answer) (forRoom (length (now (out .entry))))) (groupDraft day kind (fieldsOf (now (sizes .entry)) (now (text .entry))) (now (orders .entry)) .line) (now (out .entry)) r (now (out .exit)) ⌝ }
 {
     let mut line = [32u8; 1002];
     if let Answer::Refused(r) = draft_group(day, kind, text, sizes, orders, &mut line) {

@@ -3,12 +3,12 @@ use Prim.Native.Nat.{_+_, _-_}
 use mathlib.Core.Path.{_≡_, sym, _∙_}
 use native.Mathlib.Omega.{arith}
 use lib.ListN.{length, take, drop}
-use Rattle.sums.specs.Sums.{centsOf, sumOf, added}
+use Rattle.sums.specs.Sums.{centsOf, sumOf, added, numberIn}
+use Rattle.sums.proofs.Laws.{no-cents}
 use Rattle.wage_line.specs.declared.LineType.the-variants.{Order}
 use Rattle.wage_line.specs.Line.{partOf}
 use Rattle.wage_line.specs.Pieces.{pieces}
 use Rattle.wage_line.proofs.PieceLaws.{piece-advances}
-use Rattle.wage_contents.specs.Contents.{numberIn}
 use Rattle.wage_file.specs.Right.{amounts}
 use Rattle.wage_orders.proofs.Laws.{kept, amounts-first, amounts-on, amounts-end}
 use Rattle.wage_orders.proofs.total.Statement.{statement}
@@ -16,7 +16,7 @@ use Rattle.wage_orders.proofs.total.Tie as tie
 
 abbrev Inv-loop : tie.InvT-loop
 Inv-loop s amount sum₀ at₀ sum at =
-    (sumOf (amounts (pieces s)) ≡ added sum (amounts (pieces (drop at s)))) × (sumOf (centsOf sum) ≡ sum)
+    (sumOf 100 (amounts (pieces s)) ≡ added 100 sum (amounts (pieces (drop at s)))) × (sumOf 100 (centsOf sum) ≡ sum)
 
 abbrev μ-loop : tie.MeasureT-loop
 μ-loop s amount sum₀ at₀ sum at = length s - at
@@ -28,7 +28,7 @@ nothing-requires : tie.Need-nothing-requires Inv-loop μ-loop
 nothing-requires c κs = tt
 
 loop-holds : tie.Need-loop-holds Inv-loop μ-loop
-loop-holds c = rw (c .nothing .ensures) (amounts-first (amounts (pieces (c .before .before .before .args .s .now))), kept 0)
+loop-holds c = rw (c .nothing .ensures) (amounts-first (amounts (pieces (c .before .before .before .args .s .now))), sym (no-cents 100))
 
 piece-requires : tie.Need-piece-requires Inv-loop μ-loop
 piece-requires c κs = tt
