@@ -1,7 +1,7 @@
 -- What the listing asks of each filling is all that the rules ask of it: whether a reference is formed, and where its parts end, depends on
 -- its hyphens alone, so that one filling tells of all.
 -- Assumes nothing.
-use mathlib.Core.Path.{_≡_, refl, sym, ap, _∙_}
+use mathlib.Core.Path.{_≡_, refl, sym, _∙_}
 use mathlib.Core.Bool.{Bool, true, false, cond, and-false}
 use mathlib.Core.List.{List, [], _∷_}
 use Prim.Native.Nat.{ℕ, _+_, _/_, _%_, _^_, _≤_, _<_}
@@ -35,7 +35,7 @@ use Rattle.fillings.proofs.Theorems.{changed-rule, fill-length}
 -- What is asked of each filling
 
 -- an IBAN's rule
-iban-fillings : (s : List ℕ) (aim : Aim) → aim .mendable ≡ true → aim .iban ≡ true → fillings isIban s ≡ fillings (accepts aim) s
+pub iban-fillings : (s : List ℕ) (aim : Aim) → aim .mendable ≡ true → aim .iban ≡ true → fillings isIban s ≡ fillings (accepts aim) s
 unfolding accepts
 iban-fillings s aim m i = changed-rule isIban (accepts aim) s (λ k h. rw (m, i))
 
@@ -65,7 +65,7 @@ found-asked model t (At ends) h e = sym (found-obeys model t ends (sym e) _ (ome
 found-asked model t Nothing h e = rw (found-none model t (sym e))
 
 -- so one filling tells of all
-reference-fillings : (model : Model) (s : List ℕ) → length s ≤ 22 → fillings (obeys model) s ≡ fillings (accepts (aimFrom model (partsFound model (fill s 0)))) s
+pub reference-fillings : (model : Model) (s : List ℕ) → length s ≤ 22 → fillings (obeys model) s ≡ fillings (accepts (aimFrom model (partsFound model (fill s 0)))) s
 reference-fillings model s h =
     changed-rule (obeys model) (accepts (aimFrom model (partsFound model (fill s 0)))) s
     (λ k l. found-asked model (fill s k) (partsFound model (fill s 0)) (omega (arith, fill-length s k)) (same-shape-found model (fill s k) (fill s 0) (same-shape s k 0)))

@@ -1,9 +1,9 @@
 -- What the readers find (specs/Ends.antt), and the answers to a reference (specs/Answers.antt), by whether the text is formed.
 -- Assumes nothing.
-use mathlib.Core.Path.{_≡_, refl, sym, ap, _∙_}
-use mathlib.Core.Bool.{Bool, true, false, cond, _&&_, and-true, and-false, false≢true}
+use mathlib.Core.Path.{_≡_, refl, _∙_}
+use mathlib.Core.Bool.{Bool, true, false, cond, _&&_, and-true, and-false}
 use mathlib.Core.List.{List, [], _∷_}
-use Prim.Native.Nat.{ℕ, zero, suc, _+_, _≤_, _<_}
+use Prim.Native.Nat.{ℕ, zero, suc, _≤_, _<_}
 use native.Mathlib.Omega.{arith}
 use lib.Dec.{eqb, leb, eqb·suc-zero, leb·suc-zero}
 use lib.ListN.{length}
@@ -13,7 +13,6 @@ use Rattle.refusal.proofs.Verdicts.{passed, failed, met}
 use Rattle.text.specs.Bytes.{bytesVerdict}
 use Rattle.text.specs.Split.{split}
 use Rattle.text.specs.declared.Class.the-variants.{Reference}
-use Rattle.text.specs.declared.Found.{Found}
 use Rattle.text.specs.declared.Found.the-variants.{At, Nothing}
 use Rattle.text.proofs.Laws.{all-passes}
 use Rattle.models.specs.declared.Model.{Model}

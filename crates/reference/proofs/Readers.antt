@@ -1,8 +1,8 @@
 -- How the readers go through a reference (specs/Ends.antt): their turns, the room for the ends of the parts, and that what they read is where
 -- the parts of a formed text end.
 -- Assumes nothing.
-use mathlib.Core.Path.{_≡_, refl, sym, ap, _∙_}
-use mathlib.Core.Bool.{Bool, true, false, cond, not, _&&_, and-true, and-false}
+use mathlib.Core.Path.{_≡_, sym, _∙_}
+use mathlib.Core.Bool.{Bool, true, false, cond, _&&_, and-true, and-false}
 use mathlib.Core.List.{List, [], _∷_}
 use Prim.Native.Nat.{ℕ, zero, suc, _+_, _*_, _-_, _%_, _^_, _≤_, _<_}
 use native.Mathlib.Numerals.{add-one}
@@ -14,7 +14,7 @@ use lib.Seq.{drop-cons}
 use borrow.Author.Tests.{eq-eqb, ne-eqb, lt-ltb, le-ltb}
 use Rattle.text.specs.Bytes.{isDigit, allOf}
 use Rattle.text.specs.declared.Class.the-variants.{Digits}
-use Rattle.text.specs.Split.{longer, split}
+use Rattle.text.specs.Split.{split}
 use Rattle.text.proofs.Laws.{digit-bounds, to-the-end}
 use Rattle.reference.specs.Parts.{lengthFits, partsFit}
 use Rattle.reference.specs.Ends.{endsFrom, partRead, digitRead}

@@ -10,7 +10,7 @@ use native.Mathlib.Omega.{arith}
 use native.Mathlib.Nat.{zero-add, suc-add, pow-succ', zero-div, div-div-eq-div-mul}
 use lib.Dec.{eqb, leb, ltb, eqb·suc-zero, leb·zero}
 use lib.ListN.{length, take, drop, getD, length-append, length-take, length-drop, drop-of-length-le}
-use lib.Seq.{take-nil, take-all, take-length, take-append-seam, take-append-add, drop-append-add, drop-drop, getD-append-add, append-snoc, drop-cons}
+use lib.Seq.{take-all, take-length, take-append-seam, take-append-add, drop-append-add, drop-drop, getD-append-add, append-snoc, drop-cons}
 use borrow.Author.Tests.{ne-eqb, lt-ltb, le-leb, lt-leb, ltb-true, ltb-false, leb-true, leb-false}
 use Rattle.text.specs.Digits.{digitsOf}
 use Rattle.text.proofs.Laws.{digits-append, to-the-end}

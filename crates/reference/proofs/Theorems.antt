@@ -9,8 +9,8 @@ use native.Mathlib.Omega.{arith}
 use lib.Dec.{leb}
 use lib.ListN.{length}
 use Rattle.refusal.specs.Only.{Only, defined-only}
-use Rattle.refusal.specs.Verdict.{onlyIf, andThen, Within}
-use Rattle.refusal.proofs.Verdicts.{both-pass, pass-both, test-holds, then-within, only-within}
+use Rattle.refusal.specs.Verdict.{onlyIf, Within}
+use Rattle.refusal.proofs.Verdicts.{both-pass, test-holds, then-within, only-within}
 use Rattle.text.specs.Bytes.{bytesVerdict}
 use Rattle.text.specs.declared.Class.the-variants.{Reference}
 use Rattle.text.specs.declared.Found.{Found}
@@ -79,22 +79,21 @@ every-groups-right (g ∷ gs) ps h =
 -- ---------------------------------------------------------------------------
 -- A 3's byte is one of the text's
 
-module _ (s : List ℕ) where
-  pub modelled-within : (model : Model) → Within (length s) (modelledVerdict model s)
-  modelled-within model =
-      let n = length s in
-      let only = only-within n in
-      then-within n _ _ (only (model .handled) 7 (omega arith))
-      (then-within n _ _ (bytes-within Reference s)
-      (then-within n _ _ (only (leb n 22) 4 (omega arith))
-      (then-within n _ _ (only (formed model s) 8 (omega arith)) (only (partsRight model (partsOf s)) 9 (omega arith)))))
+pub modelled-within : (model : Model) (s : List ℕ) → Within (length s) (modelledVerdict model s)
+modelled-within model s =
+    let n = length s in
+    let only = only-within n in
+    then-within n _ _ (only (model .handled) 7 (omega arith))
+    (then-within n _ _ (bytes-within Reference s)
+    (then-within n _ _ (only (leb n 22) 4 (omega arith))
+    (then-within n _ _ (only (formed model s) 8 (omega arith)) (only (partsRight model (partsOf s)) 9 (omega arith)))))
 
-  number-within : (f : Found) → Within (length s) (numberVerdict s f)
-  number-within (At n) = modelled-within (modelOf n)
-  number-within Nothing = omega arith
+number-within : (s : List ℕ) (f : Found) → Within (length s) (numberVerdict s f)
+number-within s (At n) = modelled-within (modelOf n) s
+number-within s Nothing = omega arith
 
-  pub reference-within : (m : List ℕ) → Within (length s) (referenceVerdict m s)
-  reference-within m = number-within (modelNumber m)
+pub reference-within : (m s : List ℕ) → Within (length s) (referenceVerdict m s)
+reference-within m s = number-within s (modelNumber m)
 
 -- ---------------------------------------------------------------------------
 -- Any two answers that a contract allows are equal

@@ -132,7 +132,7 @@ field-within n m s =
     (choose (eqb n 3) _ _ (sized Digits 15 15)
     (choose (eqb n 10) _ _ (iban-within s)
     (choose (eqb n 11) _ _ (model-within (length s) s)
-    (choose (eqb n 12) _ _ (reference-within s m)
+    (choose (eqb n 12) _ _ (reference-within m s)
     (choose (eqb n 13) _ _ (sized Letters 0 4)
     (then-within (length s) _ _ (found-within (length s) (firstWrong s) (wrong-below s)) (only-within _ (leb (characters s) (mostOf n)) 4 (omega arith)))))))))
   where

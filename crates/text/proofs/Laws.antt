@@ -185,6 +185,21 @@ pub nothing-found : (f : Found) → found f ≡ 0 → f ≡ Nothing
 nothing-found (At i) h = absurd (omega arith)
 nothing-found Nothing h = refl
 
+pub none-bad : (k : Class) (s : List ℕ) → allOf k s ≡ true → firstBad k s ≡ Nothing
+unfolding bytesVerdict
+none-bad k s e = nothing-found (firstBad k s) (all-passes k s e)
+
+-- no byte is a wrong one, and a first byte may be
+pub all-empty : (k : Class) (s : List ℕ) → length s ≡ 0 → true ≡ allOf k s
+unfolding allOf
+all-empty k [] h = refl
+all-empty k (b ∷ s) h = absurd (omega arith)
+
+pub first-wrong : (k : Class) (s : List ℕ) → (length s ≡ 0 → ⊥) → permits k (getD s 0 0) ≡ false → false ≡ allOf k s
+unfolding allOf
+first-wrong k [] h e = absurd (h refl)
+first-wrong k (b ∷ s) h e = and-first (permits k b) (allOf k s) e
+
 pub passes-all : (k : Class) (s : List ℕ) → bytesVerdict k s ≡ 0 → allOf k s ≡ true
 unfolding bytesVerdict isNothing
 passes-all k s e = sym (all-of-nothing k s) ∙ ap isNothing (nothing-found (firstBad k s) e)

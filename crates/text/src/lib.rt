@@ -173,21 +173,7 @@ fn described(b: u8) -> bool
         | (b == 240)
 }
 
-// The place of the first byte that is no digit, which is asked most often: a loop that finds no rule at each byte.
-fn first_other(s: &[u8]) -> Found
-    ensures { λ r. ⌜ r ≡ firstBad Class.Digits (now (s .entry)) ⌝ }
-{
-    let mut i = 0;
-    while i < s.len() {
-        if !is_digit(s[i]) {
-            return Found::At(i);
-        }
-        i += 1;
-    }
-    Found::Nothing
-}
-
-// The place of the first byte that the class does not permit, for any class.
+// The place of the first byte that the class does not permit, looked for byte by byte.
 fn first_wrong(class: Class, s: &[u8]) -> Found
     ensures { λ r. ⌜ r ≡ firstBad class (now (s .entry)) ⌝ }
 {
@@ -201,12 +187,14 @@ fn first_wrong(class: Class, s: &[u8]) -> Found
     Found::Nothing
 }
 
-// The place of the first byte that the class does not permit.
+// The place of the first byte that the class does not permit. Digits are asked most often, and are tested in one go first.
 pub fn first_bad(class: Class, s: &[u8]) -> Found
     ensures { λ r. ⌜ r ≡ firstBad class (now (s .entry)) ⌝ }
 {
     if let Class::Digits = class {
-        return first_other(s);
+        if all_within(48, 57, s) {
+            return Found::Nothing;
+        }
     }
     first_wrong(class, s)
 }
@@ -236,10 +224,16 @@ fn all_within(least: u8, most: u8, s: &[u8]) -> bool
     right
 }
 
-// Whether every byte is a blank: `all_of` of that class, which is asked most often.
+// Whether every byte is a blank: `all_of` of that class, which is asked most often. Most texts are not at their first byte.
 pub fn all_blank(s: &[u8]) -> bool
     ensures { λ r. ⌜ r ≡ allOf Class.Blanks (now (s .entry)) ⌝ }
 {
+    if s.len() == 0 {
+        return true;
+    }
+    if s[0] != 32 {
+        return false;
+    }
     all_within(32, 32, s)
 }
 

@@ -1,5 +1,4 @@
 -- `fillings::accepted` meets its contract: each return is the definition's choice on the tests that led there. Assumes nothing.
-use mathlib.Core.Path.{sym}
 use borrow.Author.Tests.{not-true, not-false}
 use Rattle.fillings.specs.Accepts.{accepts}
 use Rattle.text.proofs.Laws.{left, entered, and-first, and-second}

@@ -14,32 +14,11 @@ Inv-loop s number out₀ n k₀ i₀ out k i = (i ≤ length s) × ((length out 
 abbrev μ-loop : tie.MeasureT-loop
 μ-loop s number out₀ n k₀ i₀ out k i = i
 
-nowhere-requires : tie.Need-nowhere-requires Inv-loop μ-loop
-nowhere-requires c κs = search needs
-
 returns : tie.Need-returns Inv-loop μ-loop
 returns c = (short-refused (c .before .before .before .before .args .s .now) _ _ (c .before .if1 .taken) (c .nowhere .ensures), refl)
 
 loop-holds : tie.Need-loop-holds Inv-loop μ-loop
 loop-holds c = let a = c .before .before .before .args in (omega arith, (refl, from-end (a .s .now) (a .out .now) (a .number)))
-
-sub-i : tie.Need-sub-i Inv-loop μ-loop
-sub-i c = omega arith
-
-shared-slice-read-if2 : tie.Need-shared-slice-read-if2 Inv-loop μ-loop
-shared-slice-read-if2 c = omega arith
-
-cast-out : tie.Need-cast-out Inv-loop μ-loop
-cast-out c = omega arith
-
-add-out : tie.Need-add-out Inv-loop μ-loop
-add-out c = omega arith
-
-slice-write-out : tie.Need-slice-write-out Inv-loop μ-loop
-slice-write-out c = omega arith
-
-loop-less : tie.Need-loop-less Inv-loop μ-loop
-loop-less c = omega arith
 
 loop-again : tie.Need-loop-again Inv-loop μ-loop
 loop-again c =
@@ -47,15 +26,6 @@ loop-again c =
     let e = c .before .before .before .before in
     let a = e .before .before .before .args in
     (omega arith, (simp length-set (l .inv .1 .0), from-mark (a .s .now) (a .out .now) (a .number) (l .i) (l .i - 1) (l .k) (l .out) (omega arith) (l .inv .0) (e .if1 .left) (l .inv .1 .1) (c .if2 .taken)))
-
-shared-slice-read-out : tie.Need-shared-slice-read-out Inv-loop μ-loop
-shared-slice-read-out c = omega arith
-
-slice-write-out-2 : tie.Need-slice-write-out-2 Inv-loop μ-loop
-slice-write-out-2 c = omega arith
-
-loop-less-2 : tie.Need-loop-less-2 Inv-loop μ-loop
-loop-less-2 c = omega arith
 
 loop-again-2 : tie.Need-loop-again-2 Inv-loop μ-loop
 loop-again-2 c =
@@ -78,19 +48,19 @@ filled-spec =
     (tie.spec
     Inv-loop
     μ-loop
-    nowhere-requires
+    (λ c κs. search needs)
     returns
     loop-holds
-    sub-i
-    shared-slice-read-if2
-    cast-out
-    add-out
-    slice-write-out
-    loop-less
+    (λ c. omega arith)
+    (λ c. omega arith)
+    (λ c. omega arith)
+    (λ c. omega arith)
+    (λ c. omega arith)
+    (λ c. omega arith)
     loop-again
-    shared-slice-read-out
-    slice-write-out-2
-    loop-less-2
+    (λ c. omega arith)
+    (λ c. omega arith)
+    (λ c. omega arith)
     loop-again-2
     same-length
     returns-2)

@@ -7,7 +7,7 @@ use lib.ListN.{length, take, drop, length-drop}
 use borrow.Author.Tests.{lt-ltb, le-ltb, le-leb, lt-leb}
 use Rattle.text.specs.Split.{split}
 use Rattle.text.proofs.Laws.{left, entered, and-first, and-second, to-the-end}
-use Rattle.reference.specs.Ends.{partRead, digitRead}
+use Rattle.reference.specs.Ends.{digitRead}
 use Rattle.reference.proofs.Pieces.{short-span}
 use Rattle.reference.proofs.Readers.{digits-end, digits-on, digits-break, handed-none, handed-on, part-judged, read-small, unread}
 use borrow.Fn.Kinds.{In}
@@ -58,42 +58,42 @@ pub +digit+part-spec : {M : Type 1} → statement M
     digit.Post
     digit-Inv-loop
     digit-μ-loop
-    (λ c. (omega arith, ap (λ (n : ℕ). digitRead (c .before .before .args .lengths .now) n (split 45 (c .before .before .args .s .now))) (sym (add-zero (c .before .before .args .at))))) -- digit-loop-holds
-    (λ c. search needs) -- digit-shared-slice-read-b
-    (λ c κs. search needs) -- digit-is-digit-requires
-    (λ c. search needs) -- digit-add-n
-    (λ c. search needs) -- digit-loop-less
-    (λ c. let a = c .before .before .before .before .before .before .before .args in let l = c .before .before .before .before .loop in (omega arith, l .inv .1 ∙ digits-on (a .lengths .now) (a .at) (l .n) (a .s .now) (c .before .before .before .loop-test .taken) (sym (c .before .is-digit .ensures) ∙ c .if1 .taken))) -- digit-loop-again
-    (λ c. let a = c .before .before .before .before .before .before .before .before .args in let l = c .before .before .before .before .before .loop in digits-break (a .lengths .now) (a .at) (l .n) (a .s .now) (c .before .before .before .before .loop-test .taken) (c .if2 .taken) (sym (c .before .before .is-digit .ensures) ∙ c .before .if1 .left) ∙ sym (l .inv .1)) -- digit-returns
-    (λ c. search needs) -- digit-add-part
-    (λ c. search needs) -- digit-sub-part
-    (λ c. search needs) -- digit-part-part-start
-    (λ c. search needs) -- digit-part-part-end
-    (λ c. search needs) -- digit-add-part-2
-    (λ c. search needs) -- digit-add-part-3
-    (λ c κs. let a = c .before .before .before .before .before .before .before .before .before .args in let l = c .before .before .before .before .before .before .loop in let e = to-the-end (l .n + 1) (a .s .now) in let n = length-drop (l .n + 1) (a .s .now) in (rw e (omega arith), (rw e (omega arith), omega arith))) -- digit-part-requires
-    (λ c. let a = c .before .before .before .before .before .before .before .before .before .before .before .args in let l = c .before .before .before .before .before .before .before .before .loop in handed-none (a .lengths .now) (a .at) (l .n) (a .s .now) (c .before .before .before .before .before .before .before .loop-test .taken) (c .before .before .before .if2 .left) _ (c .before .part .ensures) (c .if3 .taken) ∙ sym (l .inv .1)) -- digit-returns-2
-    (λ c. search needs) -- digit-add-result
-    (λ c. let a = c .before .before .before .before .before .before .before .before .before .before .before .args in let l = c .before .before .before .before .before .before .before .before .loop in let e = to-the-end (l .n + 1) (a .s .now) in omega (arith, c .before .part .ensures, read-small 3 (a .lengths .now) (a .at + l .n + 1) (split 45 (take (length (a .s .now) - (l .n + 1)) (drop (l .n + 1) (a .s .now)))) (omega arith) (short-span _ (a .at + l .n + 1) (rw e (omega (arith, length-drop (l .n + 1) (a .s .now))))))) -- digit-mul-result
-    (λ c. let a = c .before .before .before .before .before .before .before .before .before .before .before .args in let l = c .before .before .before .before .before .before .before .before .loop in let e = to-the-end (l .n + 1) (a .s .now) in omega (arith, c .before .part .ensures, read-small 3 (a .lengths .now) (a .at + l .n + 1) (split 45 (take (length (a .s .now) - (l .n + 1)) (drop (l .n + 1) (a .s .now)))) (omega arith) (short-span _ (a .at + l .n + 1) (rw e (omega (arith, length-drop (l .n + 1) (a .s .now))))))) -- digit-add-result-2
-    (λ c. let a = c .before .before .before .before .before .before .before .before .before .before .before .args in let l = c .before .before .before .before .before .before .before .before .loop in handed-on (a .lengths .now) (a .at) (l .n) (a .s .now) (c .before .before .before .before .before .before .before .loop-test .taken) (c .before .before .before .if2 .left) _ (c .before .part .ensures) (c .if3 .left) ∙ sym (l .inv .1)) -- digit-returns-3
-    (λ c. search needs) -- digit-add-result-3
-    (λ c. let a = c .before .before .before .before .args in let l = c .before .loop in digits-end (a .lengths .now) (a .at) (l .n) (a .s .now) (c .loop-test .left) ∙ sym (l .inv .1))) -- digit-returns-4
+    (λ c. (omega arith, ap (λ (n : ℕ). digitRead (c .before .before .args .lengths .now) n (split 45 (c .before .before .args .s .now))) (sym (add-zero (c .before .before .args .at)))))  -- digit-loop-holds
+    (λ c. search needs)  -- digit-shared-slice-read-b
+    (λ c κs. search needs)  -- digit-is-digit-requires
+    (λ c. search needs)  -- digit-add-n
+    (λ c. search needs)  -- digit-loop-less
+    (λ c. let a = c .before .before .before .before .before .before .before .args in let l = c .before .before .before .before .loop in (omega arith, l .inv .1 ∙ digits-on (a .lengths .now) (a .at) (l .n) (a .s .now) (c .before .before .before .loop-test .taken) (sym (c .before .is-digit .ensures) ∙ c .if1 .taken)))  -- digit-loop-again
+    (λ c. let a = c .before .before .before .before .before .before .before .before .args in let l = c .before .before .before .before .before .loop in digits-break (a .lengths .now) (a .at) (l .n) (a .s .now) (c .before .before .before .before .loop-test .taken) (c .if2 .taken) (sym (c .before .before .is-digit .ensures) ∙ c .before .if1 .left) ∙ sym (l .inv .1))  -- digit-returns
+    (λ c. search needs)  -- digit-add-part
+    (λ c. search needs)  -- digit-sub-part
+    (λ c. search needs)  -- digit-part-part-start
+    (λ c. search needs)  -- digit-part-part-end
+    (λ c. search needs)  -- digit-add-part-2
+    (λ c. search needs)  -- digit-add-part-3
+    (λ c κs. let a = c .before .before .before .before .before .before .before .before .before .args in let l = c .before .before .before .before .before .before .loop in let e = to-the-end (l .n + 1) (a .s .now) in let n = length-drop (l .n + 1) (a .s .now) in (rw e (omega arith), (rw e (omega arith), omega arith)))  -- digit-part-requires
+    (λ c. let a = c .before .before .before .before .before .before .before .before .before .before .before .args in let l = c .before .before .before .before .before .before .before .before .loop in handed-none (a .lengths .now) (a .at) (l .n) (a .s .now) (c .before .before .before .before .before .before .before .loop-test .taken) (c .before .before .before .if2 .left) _ (c .before .part .ensures) (c .if3 .taken) ∙ sym (l .inv .1))  -- digit-returns-2
+    (λ c. search needs)  -- digit-add-result
+    (λ c. let a = c .before .before .before .before .before .before .before .before .before .before .before .args in let l = c .before .before .before .before .before .before .before .before .loop in let e = to-the-end (l .n + 1) (a .s .now) in omega (arith, c .before .part .ensures, read-small 3 (a .lengths .now) (a .at + l .n + 1) (split 45 (take (length (a .s .now) - (l .n + 1)) (drop (l .n + 1) (a .s .now)))) (omega arith) (short-span _ (a .at + l .n + 1) (rw e (omega (arith, length-drop (l .n + 1) (a .s .now)))))))  -- digit-mul-result
+    (λ c. let a = c .before .before .before .before .before .before .before .before .before .before .before .args in let l = c .before .before .before .before .before .before .before .before .loop in let e = to-the-end (l .n + 1) (a .s .now) in omega (arith, c .before .part .ensures, read-small 3 (a .lengths .now) (a .at + l .n + 1) (split 45 (take (length (a .s .now) - (l .n + 1)) (drop (l .n + 1) (a .s .now)))) (omega arith) (short-span _ (a .at + l .n + 1) (rw e (omega (arith, length-drop (l .n + 1) (a .s .now)))))))  -- digit-add-result-2
+    (λ c. let a = c .before .before .before .before .before .before .before .before .before .before .before .args in let l = c .before .before .before .before .before .before .before .before .loop in handed-on (a .lengths .now) (a .at) (l .n) (a .s .now) (c .before .before .before .before .before .before .before .loop-test .taken) (c .before .before .before .if2 .left) _ (c .before .part .ensures) (c .if3 .left) ∙ sym (l .inv .1))  -- digit-returns-3
+    (λ c. search needs)  -- digit-add-result-3
+    (λ c. let a = c .before .before .before .before .args in let l = c .before .loop in digits-end (a .lengths .now) (a .at) (l .n) (a .s .now) (c .loop-test .left) ∙ sym (l .inv .1)))  -- digit-returns-4
     λ t. part-lts.spec
     (digit-below t, digit.Post, wide-reads.Asked, wide-reads.Learnt)
     (part-at t)
     part.Post
-    (λ c. let a = c .before .before .before .args in unread (a .lengths .now) (a .at) (a .s .now) (c .if1 .taken)) -- part-returns
-    (λ c. search needs) -- part-sub-digit
-    (λ c. search needs) -- part-part-digit-start
-    (λ c. search needs) -- part-part-digit-end
-    (λ c κs. let a = c .before .before .before .before .args in (omega arith, (omega arith, rw (to-the-end 2 (a .lengths .now)) (omega (arith, length-drop 2 (a .lengths .now)))))) -- part-digit-requires
-    (λ c. left _ _ _ _ (sym (and-first _ _ (le-ltb _ _ (c .if2 .taken)))) refl ∙ part-judged (c .before .before .before .before .before .before .args .lengths .now) (c .before .before .before .before .before .before .args .at) (c .before .before .before .before .before .before .args .s .now) (c .before .digit .result) (omega arith) (omega arith) (c .before .digit .ensures)) -- part-returns-2
-    (λ c. search needs) -- part-sub-n
-    (λ c. search needs) -- part-shared-slice-read-wide
-    (λ c κs. search needs) -- part-wide-requires
-    (λ c. left _ _ _ _ (sym (and-second _ _ _ (lt-ltb _ _ (c .before .before .before .if2 .left)) (and-first _ _ (lt-leb _ _ (rw (c .before .wide .ensures) at (c .if3 .taken)))))) refl ∙ part-judged (c .before .before .before .before .before .before .before .before .before .args .lengths .now) (c .before .before .before .before .before .before .before .before .before .args .at) (c .before .before .before .before .before .before .before .before .before .args .s .now) (c .before .before .before .before .digit .result) (omega arith) (omega arith) (c .before .before .before .before .digit .ensures)) -- part-returns-3
-    (λ c. search needs) -- part-shared-slice-read-wide-2
-    (λ c κs. search needs) -- part-wide-requires-2
-    (λ c. left _ _ _ _ (sym (and-second _ _ _ (lt-ltb _ _ (c .before .before .before .before .before .before .if2 .left)) (and-second _ _ _ (le-leb _ _ (rw (c .before .before .before .before .wide .ensures) at (c .before .before .before .if3 .left))) (sym (lt-leb _ _ (rw (c .before .wide2 .ensures) at (c .if4 .taken))))))) refl ∙ part-judged (c .before .before .before .before .before .before .before .before .before .before .before .before .args .lengths .now) (c .before .before .before .before .before .before .before .before .before .before .before .before .args .at) (c .before .before .before .before .before .before .before .before .before .before .before .before .args .s .now) (c .before .before .before .before .before .before .before .digit .result) (omega arith) (omega arith) (c .before .before .before .before .before .before .before .digit .ensures)) -- part-returns-4
-    (λ c. entered _ _ _ _ (sym (and-second _ _ _ (lt-ltb _ _ (c .before .before .before .before .before .before .if2 .left)) (and-second _ _ _ (le-leb _ _ (rw (c .before .before .before .before .wide .ensures) at (c .before .before .before .if3 .left))) (sym (le-leb _ _ (rw (c .before .wide2 .ensures) at (c .if4 .left))))))) refl ∙ part-judged (c .before .before .before .before .before .before .before .before .before .before .before .before .args .lengths .now) (c .before .before .before .before .before .before .before .before .before .before .before .before .args .at) (c .before .before .before .before .before .before .before .before .before .before .before .before .args .s .now) (c .before .before .before .before .before .before .before .digit .result) (omega arith) (omega arith) (c .before .before .before .before .before .before .before .digit .ensures)) -- part-returns-5
+    (λ c. let a = c .before .before .before .args in unread (a .lengths .now) (a .at) (a .s .now) (c .if1 .taken))  -- part-returns
+    (λ c. search needs)  -- part-sub-digit
+    (λ c. search needs)  -- part-part-digit-start
+    (λ c. search needs)  -- part-part-digit-end
+    (λ c κs. let a = c .before .before .before .before .args in (omega arith, (omega arith, rw (to-the-end 2 (a .lengths .now)) (omega (arith, length-drop 2 (a .lengths .now))))))  -- part-digit-requires
+    (λ c. left _ _ _ _ (sym (and-first _ _ (le-ltb _ _ (c .if2 .taken)))) refl ∙ part-judged (c .before .before .before .before .before .before .args .lengths .now) (c .before .before .before .before .before .before .args .at) (c .before .before .before .before .before .before .args .s .now) (c .before .digit .result) (omega arith) (omega arith) (c .before .digit .ensures))  -- part-returns-2
+    (λ c. search needs)  -- part-sub-n
+    (λ c. search needs)  -- part-shared-slice-read-wide
+    (λ c κs. search needs)  -- part-wide-requires
+    (λ c. left _ _ _ _ (sym (and-second _ _ _ (lt-ltb _ _ (c .before .before .before .if2 .left)) (and-first _ _ (lt-leb _ _ (rw (c .before .wide .ensures) at (c .if3 .taken)))))) refl ∙ part-judged (c .before .before .before .before .before .before .before .before .before .args .lengths .now) (c .before .before .before .before .before .before .before .before .before .args .at) (c .before .before .before .before .before .before .before .before .before .args .s .now) (c .before .before .before .before .digit .result) (omega arith) (omega arith) (c .before .before .before .before .digit .ensures))  -- part-returns-3
+    (λ c. search needs)  -- part-shared-slice-read-wide-2
+    (λ c κs. search needs)  -- part-wide-requires-2
+    (λ c. left _ _ _ _ (sym (and-second _ _ _ (lt-ltb _ _ (c .before .before .before .before .before .before .if2 .left)) (and-second _ _ _ (le-leb _ _ (rw (c .before .before .before .before .wide .ensures) at (c .before .before .before .if3 .left))) (sym (lt-leb _ _ (rw (c .before .wide2 .ensures) at (c .if4 .taken))))))) refl ∙ part-judged (c .before .before .before .before .before .before .before .before .before .before .before .before .args .lengths .now) (c .before .before .before .before .before .before .before .before .before .before .before .before .args .at) (c .before .before .before .before .before .before .before .before .before .before .before .before .args .s .now) (c .before .before .before .before .before .before .before .digit .result) (omega arith) (omega arith) (c .before .before .before .before .before .before .before .digit .ensures))  -- part-returns-4
+    (λ c. entered _ _ _ _ (sym (and-second _ _ _ (lt-ltb _ _ (c .before .before .before .before .before .before .if2 .left)) (and-second _ _ _ (le-leb _ _ (rw (c .before .before .before .before .wide .ensures) at (c .before .before .before .if3 .left))) (sym (le-leb _ _ (rw (c .before .wide2 .ensures) at (c .if4 .left))))))) refl ∙ part-judged (c .before .before .before .before .before .before .before .before .before .before .before .before .args .lengths .now) (c .before .before .before .before .before .before .before .before .before .before .before .before .args .at) (c .before .before .before .before .before .before .before .before .before .before .before .before .args .s .now) (c .before .before .before .before .before .before .before .digit .result) (omega arith) (omega arith) (c .before .before .before .before .before .before .before .digit .ensures))  -- part-returns-5

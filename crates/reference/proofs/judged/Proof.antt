@@ -1,6 +1,6 @@
 -- `reference::judged` meets its contract: what is found has no byte for 3, and is judged by its groups; what is not fails by 3, 4 or 8.
 -- Assumes nothing.
-use mathlib.Core.Path.{_≡_, refl, sym, _∙_}
+use mathlib.Core.Path.{refl, sym, _∙_}
 use borrow.Author.Needs.{needs}
 use borrow.Author.Tests.{lt-leb, le-leb}
 use Rattle.text.proofs.Laws.{taken, left}

@@ -1,5 +1,5 @@
 -- `reference::numbered` meets its contract: a model that is not handled is 7, else the text is judged. Assumes nothing.
-use mathlib.Core.Path.{_≡_, refl, sym, ap, _∙_}
+use mathlib.Core.Path.{refl, sym, ap, _∙_}
 use borrow.Author.Needs.{needs}
 use borrow.Author.Tests.{not-true, not-false}
 use Rattle.refusal.proofs.Verdicts.{failed, met}

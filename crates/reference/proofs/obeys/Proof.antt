@@ -1,5 +1,5 @@
 -- `reference::obeys` meets its contract: what is found is judged by its groups, and what is not does not obey. Assumes nothing.
-use mathlib.Core.Path.{_≡_, refl, sym, _∙_}
+use mathlib.Core.Path.{_≡_, sym, _∙_}
 use native.Mathlib.Omega.{arith}
 use lib.ListN.{length}
 use Prim.Native.Nat.{_≤_}

@@ -6,7 +6,7 @@ use lib.ListN.{length}
 use Prim.Native.Nat.{_≤_}
 use borrow.Author.Needs.{needs}
 use borrow.Author.Tests.{eq-eqb, ne-eqb}
-use Rattle.text.proofs.Laws.{taken, left, entered}
+use Rattle.text.proofs.Laws.{taken, left}
 use Rattle.reference.proofs.Pieces.{Bytes}
 use Rattle.reference.proofs.Laws.{found-empty, found-read, found-far}
 use Rattle.reference.proofs.parts.Statement.{statement}

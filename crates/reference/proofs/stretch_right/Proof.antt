@@ -1,5 +1,5 @@
 -- `reference::stretch_right` meets its contract: what does not stand in the text fails. Assumes nothing.
-use mathlib.Core.Path.{_≡_, refl, sym}
+use mathlib.Core.Path.{refl, sym}
 use borrow.Author.Needs.{needs}
 use borrow.Author.Tests.{lt-leb, le-leb}
 use Rattle.text.proofs.Laws.{left, entered, and-first, and-second}

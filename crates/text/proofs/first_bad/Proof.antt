@@ -1,11 +1,13 @@
--- `text::first_bad` meets its contract: digits by the loop of their own, every other class by the other. Assumes nothing.
+-- `text::first_bad` meets its contract: where every byte is a digit none is found. Assumes nothing.
+use mathlib.Core.Path.{refl, sym, _∙_}
 use borrow.Author.Needs.{needs}
+use Rattle.text.specs.declared.Class.the-variants.{Digits}
+use Rattle.text.proofs.Laws.{none-bad}
 use Rattle.text.proofs.first_bad.Statement.{statement}
 use Rattle.text.proofs.first_bad.Tie as tie
 
 returns : tie.Need-returns
-returns c = rw (c .before .enum-told .given .1) (c .first-other .ensures)
+returns c = rw (c .before .before .enum-told .given .1) (sym (none-bad Digits _ (sym (c .before .all-within .ensures Digits (λ b. refl)) ∙ c .if1 .taken)))
 
 pub first-bad-spec : {M : Type 1} → statement M
-first-bad-spec =
-    tie.close (tie.spec (λ c. search needs) (λ c κs. search needs) returns (λ c κs. search needs) (λ c. search needs))
+first-bad-spec = tie.close (tie.spec (λ c. search needs) (λ c κs. search needs) returns (λ c κs. search needs) (λ c. search needs))
