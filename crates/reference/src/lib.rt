@@ -83,15 +83,7 @@ fn end_of(k: usize, ends: usize) -> usize
     if 6 < k {
         return 0;
     }
-    match k {
-        0 => ends % 1024,
-        1 => ends / 1024 % 1024,
-        2 => ends / 1048576 % 1024,
-        3 => ends / 1073741824 % 1024,
-        4 => ends / 1099511627776 % 1024,
-        5 => ends / 1125899906842624 % 1024,
-        _ => ends / 1152921504606846976 % 1024,
-    }
+    (ends >> (10 * k)) % 1024
 }
 
 // Whether there are as many parts as a model asks.

@@ -76,7 +76,7 @@ reference-within h f = omega (arith, bare h (trimmed f), trimmed-shorter f)
     bare : (k : Held) (g : List ℕ) → Within (length g) (bareHeld k g)
     bare Blank g = tested-within Reference g _ 8 (omega arith)
     bare NoModel g = omega arith
-    bare (Number n) g = modelled-within g (modelOf n)
+    bare (Number n) g = modelled-within (modelOf n) g
 
 pub description-within : (f : List ℕ) → Within (length f) (descriptionVerdict f)
 unfolding descriptionVerdict

@@ -164,5 +164,8 @@ draft-only day kind t first last text sizes line a b p q = same (p .answers ∙ 
         ap (λ (x : Answer). let d : Draft = record { answer = x; line = a .line } in d) e ∙
         ap (λ (s : List ℕ). let d : Draft = record { answer = b .answer; line = s } in d) f
 
+pub size-at-only : (sizes : List ℕ) (i : ℕ) → Only (λ (r : ℕ). r ≡ getD sizes i 0)
+size-at-only sizes i = defined-only (getD sizes i 0)
+
 pub text-behind-only : (text sizes : List ℕ) (fields : ℕ) → Only (λ (r : List ℕ). r ≡ behind (take fields sizes) text)
 text-behind-only text sizes fields = defined-only (behind (take fields sizes) text)
