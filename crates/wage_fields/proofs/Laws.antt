@@ -1,38 +1,33 @@
--- Laws of a line's places: the byte that a verdict tells, what the model's place holds that a field goes by, answers joined, and the places
--- from one on. Assumes nothing.
+-- Laws of a line's places: the byte that a verdict tells, answers joined, the places from one up to another, and the first that is refused.
+-- Assumes nothing.
 use mathlib.Core.Path.{_≡_, refl, sym, ap, _∙_}
-use mathlib.Core.Bool.{Bool, true, false, cond, not, _||_}
+use mathlib.Core.Bool.{Bool, true, false, cond, not}
 use mathlib.Core.List.{List, [], _∷_}
 use Prim.Native.Nat.{ℕ, zero, suc, _+_, _-_, _≤_, _<_, _^_}
 use native.Mathlib.Numerals.{add-one}
 use native.Mathlib.Omega.{arith}
 use lib.Dec.{eqb, ltb}
-use lib.ListN.{length, drop, getD, length-take, drop-of-length-le, List·getD-eq-default}
-use lib.Seq.{drop-cons}
+use lib.ListN.{length, drop, getD, length-take, List·getD-eq-default}
 use borrow.Author.Tests.{ltb-true, ltb-false, eqb-true, ne-eqb}
-use Rattle.refusal.specs.Refusal.{placeOf, refusalOf, firstOf}
-use Rattle.refusal.specs.Verdict.{verdictByte, verdictNumber, answerOf, Within}
+use Rattle.refusal.specs.Refusal.{none, placeOf, refusalOf, firstOf}
+use Rattle.refusal.specs.Verdict.{verdictByte, verdictNumber, answerOf, answerAt, Within}
 use Rattle.refusal.specs.declared.Answer.{Answer}
 use Rattle.refusal.specs.declared.Answer.the-variants.{Accepted, Refused}
 use Rattle.refusal.specs.declared.Place.{Place}
 use Rattle.refusal.specs.declared.Refusal.{Refusal}
 use Rattle.refusal.specs.declared.Refusal.the-variants.{Size, Ends, Byte, Length, Form, Check, Model, Parts, Digit, Misplaced, Date, Orders, Sum, Unfinished, Room, Marks, Beyond}
 use Rattle.refusal.proofs.Verdicts.{choice-within, byte-within}
-use Rattle.text.specs.Bytes.{allOf}
 use Rattle.text.specs.declared.Class.the-variants.{Digits}
 use Rattle.text.proofs.Laws.{bytes-within}
 use Rattle.wage_line.specs.declared.LineType.{LineType}
 use Rattle.wage_line.specs.declared.LineType.the-variants.{Label, Group, Order, Closing}
 use Rattle.wage_line.specs.declared.Spot.{Spot}
-use Rattle.wage_line.specs.Places.{spots, spotIn, noSpot}
+use Rattle.wage_line.specs.Places.{spots, noSpot}
 use Rattle.wage_line.specs.Line.{partAt, partOf}
-use Rattle.wage_line.proofs.Laws.{eachPair, pair-at}
-use Rattle.wage_line.proofs.Theorems.{placeAt, Small, sizes-small, found-spot}
-use Rattle.wage_contents.specs.declared.Held.{Held}
-use Rattle.wage_contents.specs.declared.Held.the-variants.{Blank}
+use Rattle.wage_line.proofs.Theorems.{placeAt, Small, sizes-small}
 use Rattle.wage_contents.specs.Contents.{heldIn, heldBlank}
 use Rattle.wage_contents.proofs.Within.{among-within, oib-within, employer-within, date-within, iban-place-within, currency-within, purpose-within, sign-within, held-within, reference-within, description-within, code-within}
-use Rattle.wage_fields.specs.Rules.{ruleVerdict, modelFor, heldFor, placeVerdict, placeAnswer, placesFrom}
+use Rattle.wage_fields.specs.Rules.{ruleVerdict, placeVerdict, placeAnswer, placesFrom, placesAnswer, spotsFrom}
 
 -- ---------------------------------------------------------------------------
 -- The byte that a verdict tells lies within its place
@@ -102,6 +97,14 @@ fits day kind t k s p v e w = rw (w, e) (omega (arith, place-within day kind t (
 pub accept-both : (a b : Answer) → a ≡ Accepted → b ≡ Accepted → firstOf a b ≡ Accepted
 accept-both a b e f = rw e f
 
+-- what is accepted of a line passed its size
+pub size-right : (n : ℕ) (a : Answer) → cond (eqb n 1002) a (Refused (Size none)) ≡ Accepted → (n ≡ 1002) × (a ≡ Accepted)
+size-right n a e = go (eqb n 1002) refl e
+  where
+    go : (b : Bool) → eqb n 1002 ≡ b → cond b a (Refused (Size none)) ≡ Accepted → (n ≡ 1002) × (a ≡ Accepted)
+    go true z h = (eqb-true n 1002 z, h)
+    go false z h = let z : _≡_ {A = ℕ} 0 1 = cc in absurd (omega arith)
+
 -- the place that a refusal tells
 pub told-place : (v field byte : ℕ) (r : Refusal) → answerOf v field byte ≡ Refused r → placeOf r ≡ record { line = 0; field = field; byte = byte }
 told-place v field byte r e = go (eqb v 0) e
@@ -158,6 +161,22 @@ module _ (day kind : ℕ) (t : LineType) (s : List ℕ) (k last : ℕ) where
     unfolding placeAnswer
     range-stop z = rw (range-next h, whole, ← e, ne-eqb v 0 z)
 
+-- no type has more than sixteen
+pub few : (t : LineType) → length (spots t) ≤ 16
+unfolding spots
+few Label = omega arith
+few Group = omega arith
+few Order = omega arith
+few Closing = omega arith
+
+-- from the first as many as there are: all
+all-spots : (t : LineType) → spotsFrom t 0 (length (spots t) - 0) ≡ spots t
+unfolding spotsFrom spots
+all-spots Label = refl
+all-spots Group = refl
+all-spots Order = refl
+all-spots Closing = refl
+
 module _ (day kind : ℕ) (t : LineType) (s : List ℕ) where
   -- one place
   pub range-one : (k : ℕ) → Rest day kind t s k (k + 1) ≡ placeAnswer day kind t (placeAt t k) s
@@ -168,17 +187,18 @@ module _ (day kind : ℕ) (t : LineType) (s : List ℕ) where
       alone Accepted = refl
       alone (Refused r) = refl
 
+  -- past the last there is none, and all are alike
+  pub range-past : (k : ℕ) → length (spots t) < k → Rest day kind t s (length (spots t)) (length (spots t) + 1) ≡ placeAnswer day kind t (placeAt t k) s
+  range-past k h =
+      let n = length (spots t) in
+      let g : n ≤ k = omega arith in
+      let e : n ≤ n = omega arith in
+      range-one n ∙ rw (List·getD-eq-default (spots t) noSpot e, List·getD-eq-default (spots t) noSpot g)
+
   -- all of them
   pub range-all : Rest day kind t s 0 (length (spots t)) ≡ placesAnswer day kind t s
   unfolding placesAnswer
-  range-all = ap (λ (ps : List Spot). placesFrom day kind t ps s) (all t)
-    where
-      all : (t : LineType) → spotsFrom t 0 (length (spots t) - 0) ≡ spots t
-      unfolding spotsFrom spots
-      all Label = refl
-      all Group = refl
-      all Order = refl
-      all Closing = refl
+  range-all = ap (λ (ps : List Spot). placesFrom day kind t ps s) (all-spots t)
 
 -- ---------------------------------------------------------------------------
 -- The first place that is refused
