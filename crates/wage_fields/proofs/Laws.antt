@@ -9,7 +9,7 @@ use native.Mathlib.Omega.{arith}
 use lib.Dec.{eqb, ltb}
 use lib.ListN.{length, drop, getD, length-take, List·getD-eq-default}
 use borrow.Author.Tests.{ltb-true, ltb-false, eqb-true, ne-eqb}
-use Rattle.refusal.specs.Refusal.{none, placeOf, refusalOf, firstOf}
+use Rattle.refusal.specs.Refusal.{none, placeOf, neededOf, refusalOf, firstOf}
 use Rattle.refusal.specs.Verdict.{verdictByte, verdictNumber, answerOf, answerAt, Within}
 use Rattle.refusal.specs.declared.Answer.{Answer}
 use Rattle.refusal.specs.declared.Answer.the-variants.{Accepted, Refused}
@@ -105,27 +105,30 @@ size-right n a e = go (eqb n 1002) refl e
     go true z h = (eqb-true n 1002 z, h)
     go false z h = let z : _≡_ {A = ℕ} 0 1 = cc in absurd (omega arith)
 
--- the place that a refusal tells
-pub told-place : (v field byte : ℕ) (r : Refusal) → answerOf v field byte ≡ Refused r → placeOf r ≡ record { line = 0; field = field; byte = byte }
+-- what a refusal tells: its place, and no needed number
+pub told-place : (v field byte : ℕ) (r : Refusal) → answerOf v field byte ≡ Refused r → (placeOf r ≡ record { line = 0; field = field; byte = byte }) × (neededOf r ≡ 0)
 told-place v field byte r e = go (eqb v 0) e
   where
     at : Place
     at = record { line = 0; field = field; byte = byte }
 
-    chosen : (b : Bool) (x y : Refusal) → placeOf x ≡ at → placeOf y ≡ at → placeOf (cond b x y) ≡ at
+    Tells : Refusal → Type 0
+    Tells x = (placeOf x ≡ at) × (neededOf x ≡ 0)
+
+    chosen : (b : Bool) (x y : Refusal) → Tells x → Tells y → Tells (cond b x y)
     chosen true x y f g = f
     chosen false x y f g = g
 
-    every : (k : ℕ) → placeOf (refusalOf k at 0) ≡ at
+    every : (k : ℕ) → Tells (refusalOf k at 0)
     every k =
-        chosen (eqb k 1) (Size at) _ refl (chosen (eqb k 2) (Ends at) _ refl (chosen (eqb k 3) (Byte at) _ refl (chosen (eqb k 4) (Length at) _ refl
-        (chosen (eqb k 5) (Form at) _ refl (chosen (eqb k 6) (Check at) _ refl (chosen (eqb k 7) (Model at) _ refl (chosen (eqb k 8) (Parts at) _ refl
-        (chosen (eqb k 9) (Digit at) _ refl (chosen (eqb k 10) (Misplaced at) _ refl (chosen (eqb k 11) (Date at) _ refl (chosen (eqb k 12) (Orders at) _ refl
-        (chosen (eqb k 13) (Sum at) _ refl (chosen (eqb k 14) (Unfinished at) _ refl (chosen (eqb k 15) (Room at 0) _ refl (chosen (eqb k 16) (Marks at) (Beyond at) refl refl)))))))))))))))
+        chosen (eqb k 1) (Size at) _ (refl, refl) (chosen (eqb k 2) (Ends at) _ (refl, refl) (chosen (eqb k 3) (Byte at) _ (refl, refl) (chosen (eqb k 4) (Length at) _ (refl, refl)
+        (chosen (eqb k 5) (Form at) _ (refl, refl) (chosen (eqb k 6) (Check at) _ (refl, refl) (chosen (eqb k 7) (Model at) _ (refl, refl) (chosen (eqb k 8) (Parts at) _ (refl, refl)
+        (chosen (eqb k 9) (Digit at) _ (refl, refl) (chosen (eqb k 10) (Misplaced at) _ (refl, refl) (chosen (eqb k 11) (Date at) _ (refl, refl) (chosen (eqb k 12) (Orders at) _ (refl, refl)
+        (chosen (eqb k 13) (Sum at) _ (refl, refl) (chosen (eqb k 14) (Unfinished at) _ (refl, refl) (chosen (eqb k 15) (Room at 0) _ (refl, refl) (chosen (eqb k 16) (Marks at) (Beyond at) (refl, refl) (refl, refl))))))))))))))))
 
-    go : (b : Bool) → cond b Accepted (Refused (refusalOf (verdictNumber v) at 0)) ≡ Refused r → placeOf r ≡ at
+    go : (b : Bool) → cond b Accepted (Refused (refusalOf (verdictNumber v) at 0)) ≡ Refused r → Tells r
     go true f = let z : _≡_ {A = ℕ} 0 1 = cc in absurd (omega arith)
-    go false f = let z : refusalOf (verdictNumber v) at 0 ≡ r = cc in ap placeOf (sym z) ∙ every (verdictNumber v)
+    go false f = let z : refusalOf (verdictNumber v) at 0 ≡ r = cc in rw (← z) (every (verdictNumber v))
 
 -- ---------------------------------------------------------------------------
 -- The places from one on, up to another

@@ -149,7 +149,7 @@ module _ (day kind : ℕ) (t : LineType) (s : List ℕ) (r : Refusal) where
       let w = first-refused e in
       let p = placeAt t (w .order) in
       let v = placeVerdict day kind t p s in
-      let q = told-place v (p .field) (p .start + verdictByte v) r (rw whole at (w .here)) in
+      let q = told-place v (p .field) (p .start + verdictByte v) r (rw whole at (w .here)) .0 in
       let l : placeOf r .line ≡ 0 = ap (λ (x : Place). x .line) q in
       let f : placeOf r .field ≡ p .field = ap (λ (x : Place). x .field) q in
       let b : placeOf r .byte ≡ p .start + verdictByte v = ap (λ (x : Place). x .byte) q in
