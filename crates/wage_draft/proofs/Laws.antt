@@ -10,7 +10,7 @@ use native.Mathlib.Omega.{arith}
 use native.Mathlib.Nat.{add-zero}
 use lib.ListN.{length, length-replicate, replicate, take, drop, getD, length-drop, drop-of-length-le}
 use lib.Dec.{eqb, leb, ltb}
-use borrow.Author.Tests.{eq-eqb, ne-eqb, eqb-true, eqb-false, leb-true, ltb-false}
+use borrow.Author.Tests.{eq-eqb, ne-eqb, eqb-true, eqb-false, leb-true, ltb-true, ltb-false}
 use lib.Seq.{sets, drop-cons, drop-drop, drop-length, take-all, take-nil, take-take, take-append-seam, drop-append-seam, getD-drop}
 use Rattle.text.proofs.Laws.{both-true}
 use Rattle.text.specs.Split.{joined}
@@ -24,9 +24,9 @@ use Rattle.wage_line.specs.declared.LineType.the-variants.{Label, Group, Order,
 use Rattle.wage_line.specs.Places.{noSpot, spots, spotIn, spotOf}
 use Rattle.wage_line.specs.Line.{partAt, partOf}
 use Rattle.wage_line.proofs.Laws.{part-length}
-use Rattle.wage_contents.specs.Contents.{heldIn}
-use Rattle.wage_fields.specs.Rules.{labelRule, orderRule, ruleVerdict, modelFor, heldFor, placeVerdict, placeAnswer, placesFrom}
-use Rattle.wage_fields.proofs.Laws.{accept-both, both-accept}
+use Rattle.wage_fields.specs.Rules.{labelRule, orderRule, ruleVerdict, placeVerdict, placeAnswer, placesFrom}
+use Rattle.refusal.proofs.Verdicts.{first-both}
+use Rattle.wage_fields.proofs.Laws.{accept-both}
 use Rattle.wage_draft.specs.Fields.{fieldsOf, behind, FieldEnd}
 use Rattle.wage_draft.specs.Draft.{Draft, wrongLength, placed, goingOn, drafted, blanked, Drafts}
 
@@ -212,26 +212,27 @@ empty-fields (f ∷ fs) n (suc k) = empty-fields fs n k
 -- ---------------------------------------------------------------------------
 -- What a rule looks at besides its own field
 
--- what the rule of field n says of bytes f in the line s
-abbrev pub saidOf : ℕ → ℕ → LineType → ℕ → List ℕ → List ℕ → ℕ
-saidOf day kind t n f s = ruleVerdict day kind t n (heldFor t n s) f s
-
 module _ (day kind : ℕ) where
   -- no rule looks at a field behind its own
   pub rule-by-earlier :
-      (t : LineType) (n : ℕ) (f s u : List ℕ) → ((m : ℕ) → m ≤ n → partOf t m s ≡ partOf t m u) → saidOf day kind t n f s ≡ saidOf day kind t n f u
+      (t : LineType) (n : ℕ) (f s u : List ℕ) → ((m : ℕ) → m ≤ n → partOf t m s ≡ partOf t m u) → ruleVerdict day kind t n f s ≡ ruleVerdict day kind t n f u
   rule-by-earlier Label n f s u h = go (eqb n 7) refl
     where
       go : (b : Bool) → eqb n 7 ≡ b → labelRule day n f s ≡ labelRule day n f u
       go true e = let z = eqb-true n 7 e in rw (h 5 (omega arith), h 6 (omega arith))
       go false e = rw e
   rule-by-earlier Group n f s u h = refl
-  rule-by-earlier Order n f s u h = ap (λ (x : List ℕ). orderRule kind n (heldIn x) f) (h (modelFor Order n) (go (ltb n 6) (ltb n 11) refl refl))
+  rule-by-earlier Order n f s u h = go (ltb n 7) (ltb n 12) refl refl
     where
-      go : (b c : Bool) → ltb n 6 ≡ b → ltb n 11 ≡ c → cond b 0 (cond c 6 11) ≤ n
-      go true c e g = omega arith
-      go false true e g = ltb-false n 6 e
-      go false false e g = ltb-false n 11 g
+      go : (b c : Bool) → ltb n 7 ≡ b → ltb n 12 ≡ c → orderRule kind n f s ≡ orderRule kind n f u
+      go true c e g =
+          let l = ltb-true n 7 e in
+          rw (ne-eqb n 7 (λ z. absurd (omega arith)), ne-eqb n 12 (λ z. absurd (omega arith)), ne-eqb n 22 (λ z. absurd (omega arith)))
+      go false true e g =
+          let l = ltb-false n 7 e in
+          let m = ltb-true n 12 g in
+          rw (h 6 (omega arith), ne-eqb n 12 (λ z. absurd (omega arith)), ne-eqb n 22 (λ z. absurd (omega arith)))
+      go false false e g = let l = ltb-false n 12 g in rw (h 6 (omega arith), h 11 (omega arith))
   rule-by-earlier Closing n f s u h = refl
 
 -- a part that ends in the first n bytes is one of these
@@ -251,12 +252,12 @@ Ahead t p = (m : ℕ) → m ≤ p .field → spotOf t m .start + spotOf t m .siz
 
 -- a place is judged by the bytes up to its end
 pub place-by-ahead :
-    (day kind : ℕ) (t : LineType) (p : Spot) (s u : List ℕ) → Ahead t p → take (p .start + p .size) s ≡ take (p .start + p .size) u
+    (day kind : ℕ) (t : LineType) (p : Spot) (s u : List ℕ) → Ahead t p → length s ≡ length u → take (p .start + p .size) s ≡ take (p .start + p .size) u
     → placeAnswer day kind t p s ≡ placeAnswer day kind t p u
 unfolding placeAnswer placeVerdict
-place-by-ahead day kind t p s u h e =
+place-by-ahead day kind t p s u h l e =
     let n = p .start + p .size in
-    rw (part-ahead p n s u (omega arith) e, rule-by-earlier day kind t (p .field) (partAt p u) s u (λ m g. let w = h m g in part-ahead (spotOf t m) n s u (omega arith) e))
+    rw (l, part-ahead p n s u (omega arith) e, rule-by-earlier day kind t (p .field) (partAt p u) s u (λ m g. let w = h m g in part-ahead (spotOf t m) n s u (omega arith) e))
 
 -- ---------------------------------------------------------------------------
 -- Places in their order
@@ -404,7 +405,7 @@ module _ (day kind : ℕ) (t : LineType) where
   -- the first, and the others
   places-each : (p : Spot) (ps : List Spot) (s : List ℕ) → placesFrom day kind t (p ∷ ps) s ≡ Accepted → (placeAnswer day kind t p s ≡ Accepted) × (placesFrom day kind t ps s ≡ Accepted)
   unfolding placesFrom
-  places-each p ps s e = both-accept (placeAnswer day kind t p s) (placesFrom day kind t ps s) e
+  places-each p ps s e = first-both (placeAnswer day kind t p s) (placesFrom day kind t ps s) e
 
   -- one more field stands at its place
   written-more :
@@ -430,10 +431,10 @@ module _ (day kind : ℕ) (t : LineType) where
       let q : drafted day kind t (p ∷ ps) fs line ≡ x = drafted-first day kind t p ps fs line ∙ w .1 in
       let v = placed-accepted p f line (w .0) in
       let r = rising-within t m ps (h .1 .1) in
-      let a = drafted-kept day kind t m ps (h .1 .1) (drop 1 fs) (d .line) .ahead in
+      let a = drafted-kept day kind t m ps (h .1 .1) (drop 1 fs) (d .line) in
       rw q
-      (written-more p ps fs (x .line) (part-ahead p m (x .line) (d .line) (omega arith) a ∙ ap (partAt p) (v .put) ∙ place-filled line (p .start) (p .size) f (v .sized) (omega arith))
-      (place-by-ahead day kind t p (x .line) (d .line) (h .1 .0) a ∙ v .right)
+      (written-more p ps fs (x .line) (part-ahead p m (x .line) (d .line) (omega arith) (a .ahead) ∙ ap (partAt p) (v .put) ∙ place-filled line (p .start) (p .size) f (v .sized) (omega arith))
+      (place-by-ahead day kind t p (x .line) (d .line) (h .1 .0) (a .whole) (a .ahead) ∙ v .right)
       (drafted-accepted m ps (h .1 .1) (drop 1 fs) (d .line) (ap length (v .put) ∙ sets-length line (p .start) f ∙ l) (rw q at e)))
 
 -- ---------------------------------------------------------------------------
@@ -523,7 +524,8 @@ module _ (day kind : ℕ) (t : LineType) where
       let r = rising-within t m ps (h .1 .1) in
       let w = places-each day kind t p ps s e in
       let f = part-length p s (omega arith) in
-      let a = place-by-ahead day kind t p (blanked ps s) s (h .1 .0) (blanked-kept t m ps (h .1 .1) s .ahead) ∙ w .0 in
+      let b = blanked-kept t m ps (h .1 .1) s in
+      let a = place-by-ahead day kind t p (blanked ps s) s (h .1 .0) (b .whole) (b .ahead) ∙ w .0 in
       drafted-first day kind t p ps (map (λ (q : Spot). partAt q s) (p ∷ ps)) (blanked (p ∷ ps) s) ∙
       rw (eq-eqb (length (partAt p s)) (p .size) f, own-back t n p ps h s l, a) (parts-drafted m ps (h .1 .1) s l (w .1))
 

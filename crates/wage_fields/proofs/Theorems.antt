@@ -12,7 +12,7 @@ use borrow.Author.Tests.{ltb-true}
 use Rattle.refusal.specs.Only.{Only, defined-only}
 use Rattle.refusal.specs.Refusal.{placeOf}
 use Rattle.refusal.specs.Verdict.{verdictByte}
-use Rattle.refusal.proofs.Verdicts.{answer-accepted, accepted-answer}
+use Rattle.refusal.proofs.Verdicts.{answer-accepted, accepted-answer, first-both}
 use Rattle.refusal.specs.declared.Answer.{Answer}
 use Rattle.refusal.specs.declared.Answer.the-variants.{Accepted, Refused}
 use Rattle.refusal.specs.declared.Place.{Place}
@@ -26,28 +26,27 @@ use Rattle.wage_line.specs.Places.{spots, noSpot}
 use Rattle.wage_line.specs.Line.{partAt, partOf}
 use Rattle.wage_line.proofs.Laws.{each, each-at}
 use Rattle.wage_line.proofs.Theorems.{placeAt, found-spot, sizes-small}
-use Rattle.wage_contents.specs.declared.Held.{Held}
 use Rattle.wage_contents.specs.Contents.{amongVerdict}
-use Rattle.wage_fields.specs.Rules.{ruleVerdict, heldFor, placeVerdict, placeAnswer, placesFrom, placesAnswer}
-use Rattle.wage_fields.proofs.Laws.{both-accept, accept-both, told-place, place-within, Stops, stops}
+use Rattle.wage_fields.specs.Rules.{ruleVerdict, placeVerdict, placeAnswer, placesFrom, placesAnswer}
+use Rattle.wage_fields.proofs.Laws.{size-right, accept-both, told-place, place-within, Stops, stops}
 
 -- ---------------------------------------------------------------------------
 -- Accepted exactly when
 
 module _ (day kind : ℕ) (t : LineType) (s : List ℕ) where
-  -- a place is accepted exactly when its field's rule refuses nothing of its bytes
-  pub place-right : (p : Spot) → (placeAnswer day kind t p s ≡ Accepted) ↔ (ruleVerdict day kind t (p .field) (heldFor t (p .field) s) (partAt p s) s ≡ 0)
+  -- a place is accepted exactly when the line has 1,002 bytes and its field's rule refuses nothing of its bytes
+  pub place-right : (p : Spot) → (placeAnswer day kind t p s ≡ Accepted) ↔ ((length s ≡ 1002) × (ruleVerdict day kind t (p .field) (partAt p s) s ≡ 0))
   unfolding placeAnswer placeVerdict
   place-right p =
-      let v = ruleVerdict day kind t (p .field) (heldFor t (p .field) s) (partAt p s) s in
-      (answer-accepted v (p .field) _, accepted-answer v (p .field) _)
+      let v = ruleVerdict day kind t (p .field) (partAt p s) s in
+      (λ e. let w = size-right (length s) _ e in (w .0, answer-accepted v (p .field) _ (w .1)), λ w. rw (w .0) (accepted-answer v (p .field) _ (w .1)))
 
   -- places that are accepted are so each
   each-accepted : (ps : List Spot) → placesFrom day kind t ps s ≡ Accepted → (k : ℕ) → k < length ps → placeAnswer day kind t (getD ps k noSpot) s ≡ Accepted
   unfolding placesFrom
   each-accepted [] e k h = absurd (omega arith)
-  each-accepted (p ∷ ps) e zero h = both-accept (placeAnswer day kind t p s) (placesFrom day kind t ps s) e .0
-  each-accepted (p ∷ ps) e (suc k) h = each-accepted ps (both-accept (placeAnswer day kind t p s) (placesFrom day kind t ps s) e .1) k (omega arith)
+  each-accepted (p ∷ ps) e zero h = first-both (placeAnswer day kind t p s) (placesFrom day kind t ps s) e .0
+  each-accepted (p ∷ ps) e (suc k) h = each-accepted ps (first-both (placeAnswer day kind t p s) (placesFrom day kind t ps s) e .1) k (omega arith)
 
   -- and the other way round
   all-accepted : (ps : List Spot) → ((k : ℕ) → k < length ps → placeAnswer day kind t (getD ps k noSpot) s ≡ Accepted) → placesFrom day kind t ps s ≡ Accepted
@@ -61,9 +60,9 @@ module _ (day kind : ℕ) (t : LineType) (s : List ℕ) where
   places-right = (each-accepted (spots t), all-accepted (spots t))
 
   -- of an accepted line, the rule of each field that has a place refuses nothing of the field's bytes
-  pub field-right : placesAnswer day kind t s ≡ Accepted → (n k : ℕ) → k < length (spots t) → placeAt t k .field ≡ n → ruleVerdict day kind t n (heldFor t n s) (partOf t n s) s ≡ 0
+  pub field-right : placesAnswer day kind t s ≡ Accepted → (n k : ℕ) → k < length (spots t) → placeAt t k .field ≡ n → ruleVerdict day kind t n (partOf t n s) s ≡ 0
   field-right e n k h f =
-      rw (← f, found-spot t k h) (place-right (placeAt t k) .0 (places-right .0 e k h))
+      rw (← f, found-spot t k h) (place-right (placeAt t k) .0 (places-right .0 e k h) .1)
 
 -- ---------------------------------------------------------------------------
 -- What later rules read
@@ -100,20 +99,20 @@ module _ (day kind : ℕ) (s : List ℕ) where
 module _ (day k k′ : ℕ) (s : List ℕ) where
   -- where the rules are the same under two kinds, so are the answers
   same-rules :
-      (t : LineType) → ((n : ℕ) (h : Held) (f : List ℕ) → ruleVerdict day k t n h f s ≡ ruleVerdict day k′ t n h f s) → (ps : List Spot) → placesFrom day k t ps s ≡ placesFrom day k′ t ps s
+      (t : LineType) → ((n : ℕ) (f : List ℕ) → ruleVerdict day k t n f s ≡ ruleVerdict day k′ t n f s) → (ps : List Spot) → placesFrom day k t ps s ≡ placesFrom day k′ t ps s
   unfolding placesFrom placeAnswer placeVerdict
   same-rules t f [] = refl
-  same-rules t f (p ∷ ps) = rw (f (p .field) (heldFor t (p .field) s) (partAt p s), same-rules t f ps)
+  same-rules t f (p ∷ ps) = rw (f (p .field) (partAt p s), same-rules t f ps)
 
   -- a 300 is judged alike under any kind
   pub label-ignores-kind : placesAnswer day k Label s ≡ placesAnswer day k′ Label s
   unfolding placesAnswer
-  label-ignores-kind = same-rules Label (λ n h f. refl) (spots Label)
+  label-ignores-kind = same-rules Label (λ n f. refl) (spots Label)
 
   -- so is a 301
   pub group-ignores-kind : placesAnswer day k Group s ≡ placesAnswer day k′ Group s
   unfolding placesAnswer
-  group-ignores-kind = same-rules Group (λ n h f. refl) (spots Group)
+  group-ignores-kind = same-rules Group (λ n f. refl) (spots Group)
 
 -- ---------------------------------------------------------------------------
 -- What a refusal tells
@@ -143,18 +142,18 @@ module _ (day kind : ℕ) (t : LineType) (s : List ℕ) (r : Refusal) where
   unfolding placesAnswer
   first-refused e = stops day kind t s r (spots t) e
 
-  -- a refusal tells no line, a field that has a place, and a byte there
-  pub refusal-no-line : placesAnswer day kind t s ≡ Refused r → Told t r
-  unfolding placeAnswer placeVerdict
-  refusal-no-line e =
+  -- a refusal of a line of 1,002 bytes tells no line, a field that has a place, and a byte there
+  pub refusal-no-line : length s ≡ 1002 → placesAnswer day kind t s ≡ Refused r → Told t r
+  unfolding placeAnswer
+  refusal-no-line whole e =
       let w = first-refused e in
       let p = placeAt t (w .order) in
-      let v = ruleVerdict day kind t (p .field) (heldFor t (p .field) s) (partAt p s) s in
-      let q = told-place v (p .field) (p .start + verdictByte v) r (w .here) in
+      let v = placeVerdict day kind t p s in
+      let q = told-place v (p .field) (p .start + verdictByte v) r (rw whole at (w .here)) .0 in
       let l : placeOf r .line ≡ 0 = ap (λ (x : Place). x .line) q in
       let f : placeOf r .field ≡ p .field = ap (λ (x : Place). x .field) q in
       let b : placeOf r .byte ≡ p .start + verdictByte v = ap (λ (x : Place). x .byte) q in
-      let h : verdictByte v ≤ p .size = place-within day kind t p (heldFor t (p .field) s) s in
+      let h : verdictByte v ≤ p .size = place-within day kind t p s in
       let v = sizes-small t (w .order) (w .known) .within in
       let g : 0 < p .field = ltb-true 0 (p .field) (each-at (λ x. ltb 0 (x .field)) (spots t) (all-numbered t) (w .order) (w .known)) in
       record {

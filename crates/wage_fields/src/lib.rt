@@ -1,147 +1,110 @@
-// The places of a wage line, each judged by its field's number, and a line's places in order.
+// The places of a wage line, each judged by its rule, and a line's places in order.
 //
 // Document 01, "The wage file", its lists for 300, 301 and 309. What each kind of content must be is the crate
 // `wage_contents`; where the places stand is the crate `wage_line`. A rule answers a verdict, one number; only the place that
-// is refused makes an answer of it.
+// is refused makes an answer of it. The rules go by a place's order, and each arm names its places, so that in a line of
+// 1,002 bytes the compiler knows their bounds.
 ghost use mathlib.Core.Path.{_≡_};
-ghost use mathlib.Core.Bool.{cond};
-ghost use lib.Dec.{eqb};
 ghost use lib.ListN.{getD};
-ghost use Prim.Native.Nat.{_+_, _<_, _^_};
+ghost use Prim.Native.Nat.{_+_, _-_, _<_, _^_};
 ghost use Rattle.refusal.specs.Verdict.{verdictByte, answerAt};
+ghost use Rattle.wage_line.specs.declared.LineType.the-variants.{Label, Group, Order};
+ghost use Rattle.wage_line.specs.Line.{partAt};
 ghost use Rattle.wage_line.specs.Places.{spots, noSpot};
 ghost use Rattle.wage_contents.specs.Contents.{heldIn};
-ghost use Rattle.wage_fields.specs.Rules.{labelRule, groupRule, paymentRule, orderRule, ruleVerdict, modelFor, heldFor, placeAnswer, placesAnswer};
+ghost use Rattle.wage_fields.specs.Rules.{labelRule, groupRule, orderRule, placeVerdict, placeAnswer, spotsFrom, placesFrom, placesAnswer};
 use refusal::Answer;
+use refusal::Refusal;
 use text::Class;
 use wage_contents::Held;
 use wage_line::LineType;
 use wage_line::Spot;
 
 // ---------------------------------------------------------------------------
-// Rules by field
+// Rules by order
 
-// A 300's rule for a field.
-fn label_rule(day: u64, n: usize, f: &[u8], s: &[u8]) -> usize
-    ensures { λ r. ⌜ r ≡ labelRule day n (now (f .entry)) (now (s .entry)) ⌝ }
+// The bytes of a place, by its order.
+fn part(t: LineType, k: usize, s: &[u8]) -> &[u8]
+    ensures { λ r. ⌜ now r ≡ partAt (getD (spots t) k noSpot) (now (s .entry)) ⌝ }
 {
-    match n {
-        1 => wage_contents::judge_date(day, day, f),
-        2 => wage_contents::judge_among(4, 5, 5, f),
-        3 => wage_contents::judge_among(0, 0, 0, f),
-        4 => wage_contents::judge_among(1, 2, 2, f),
-        5 => wage_contents::judge_oib(true, f),
-        6 => text::judge(Class::Digits, f),
-        7 => {
-            let a = wage_line::find(LineType::Label, 5);
-            let b = wage_line::find(LineType::Label, 6);
-            wage_contents::judge_employer(wage_line::part(a, s), wage_line::part(b, s), f)
-        }
-        8 => wage_contents::judge_oib(false, f),
+    wage_line::part(wage_line::spot_at(t, k), s)
+}
+
+// A 300's rule for a place.
+fn label_rule(day: u64, k: usize, s: &[u8]) -> usize
+    ensures { λ r. ⌜ r ≡ labelRule day (getD (spots Label) k noSpot .field) (partAt (getD (spots Label) k noSpot) (now (s .entry))) (now (s .entry)) ⌝ }
+{
+    match k {
+        0 => wage_contents::judge_date(day, day, part(LineType::Label, 0, s)),
+        1 => wage_contents::judge_among(4, 5, 5, part(LineType::Label, 1, s)),
+        2 => wage_contents::judge_among(0, 0, 0, part(LineType::Label, 2, s)),
+        3 => wage_contents::judge_among(1, 2, 2, part(LineType::Label, 3, s)),
+        4 => wage_contents::judge_oib(true, part(LineType::Label, 4, s)),
+        5 => text::judge(Class::Digits, part(LineType::Label, 5, s)),
+        6 => wage_contents::judge_employer(part(LineType::Label, 4, s), part(LineType::Label, 5, s), part(LineType::Label, 6, s)),
+        7 => wage_contents::judge_oib(false, part(LineType::Label, 7, s)),
         _ => 0,
     }
 }
 
-// A 301's rule for a field.
-fn group_rule(day: u64, n: usize, f: &[u8]) -> usize
-    ensures { λ r. ⌜ r ≡ groupRule day n (now (f .entry)) ⌝ }
+// A 301's rule for a place.
+fn group_rule(day: u64, k: usize, s: &[u8]) -> usize
+    ensures { λ r. ⌜ r ≡ groupRule day (getD (spots Group) k noSpot .field) (partAt (getD (spots Group) k noSpot) (now (s .entry))) ⌝ }
 {
-    match n {
-        1 => wage_contents::judge_iban(false, f),
-        2 => wage_contents::judge_currency(false, f),
-        3 => wage_contents::judge_iban(true, f),
-        4 => wage_contents::judge_currency(true, f),
-        5 => text::judge(Class::Digits, f),
-        6 => text::judge(Class::Digits, f),
-        7 => wage_contents::judge_date(day, 99991231, f),
+    match k {
+        0 => wage_contents::judge_iban(false, part(LineType::Group, 0, s)),
+        1 => wage_contents::judge_currency(false, part(LineType::Group, 1, s)),
+        2 => wage_contents::judge_iban(true, part(LineType::Group, 2, s)),
+        3 => wage_contents::judge_currency(true, part(LineType::Group, 3, s)),
+        4 => text::judge(Class::Digits, part(LineType::Group, 4, s)),
+        5 => text::judge(Class::Digits, part(LineType::Group, 5, s)),
+        6 => wage_contents::judge_date(day, 99991231, part(LineType::Group, 6, s)),
         _ => 0,
     }
 }
 
-// A 309's rule for one of its last fields.
-fn payment_rule(kind: u64, n: usize, held: Held, f: &[u8]) -> usize
-    ensures { λ r. ⌜ r ≡ paymentRule kind n held (now (f .entry)) ⌝ }
+// What a model's place of a 309 holds.
+fn model_at(k: usize, s: &[u8]) -> Held
+    ensures { λ r. ⌜ r ≡ heldIn (partAt (getD (spots Order) k noSpot) (now (s .entry))) ⌝ }
 {
-    match n {
-        18 => wage_contents::judge_among(0, 1, 2, f),
-        19 => wage_contents::judge_currency(true, f),
-        20 => wage_contents::judge_sign(32, 48, 51, f),
-        21 => wage_contents::judge_sign(32, 48, 48, f),
-        22 => wage_contents::judge_code(kind, held, f),
-        23 => wage_contents::judge_oib(kind != 5, f),
+    wage_contents::model_in(part(LineType::Order, k, s))
+}
+
+// A 309's rule for a place.
+fn order_rule(kind: u64, k: usize, s: &[u8]) -> usize
+    ensures { λ r. ⌜ r ≡ orderRule kind (getD (spots Order) k noSpot .field) (partAt (getD (spots Order) k noSpot) (now (s .entry))) (now (s .entry)) ⌝ }
+{
+    match k {
+        0 => wage_contents::judge_iban(false, part(LineType::Order, 0, s)),
+        1 => 0,
+        2 => wage_contents::judge_among(0, 191, 191, part(LineType::Order, 2, s)),
+        3 => wage_contents::judge_model(model_at(3, s)),
+        4 => wage_contents::judge_reference(model_at(3, s), part(LineType::Order, 4, s)),
+        5 => wage_contents::judge_purpose(part(LineType::Order, 5, s)),
+        6 => wage_contents::judge_description(part(LineType::Order, 6, s)),
+        7 => text::judge(Class::Digits, part(LineType::Order, 7, s)),
+        8 => wage_contents::judge_model(model_at(8, s)),
+        9 => wage_contents::judge_reference(model_at(8, s), part(LineType::Order, 9, s)),
+        10 => wage_contents::judge_among(0, 1, 2, part(LineType::Order, 10, s)),
+        11 => wage_contents::judge_currency(true, part(LineType::Order, 11, s)),
+        12 => wage_contents::judge_sign(32, 48, 51, part(LineType::Order, 12, s)),
+        13 => wage_contents::judge_sign(32, 48, 48, part(LineType::Order, 13, s)),
+        14 => wage_contents::judge_code(kind, model_at(8, s), part(LineType::Order, 14, s)),
+        15 => wage_contents::judge_oib(kind != 5, part(LineType::Order, 15, s)),
         _ => 0,
     }
 }
 
-// A 309's rule for a field, by what the model's place holds that it goes by.
-fn order_rule(kind: u64, n: usize, held: Held, f: &[u8]) -> usize
-    ensures { λ r. ⌜ r ≡ orderRule kind n held (now (f .entry)) ⌝ }
-{
-    match n {
-        1 => wage_contents::judge_iban(false, f),
-        5 => wage_contents::judge_among(0, 191, 191, f),
-        6 => wage_contents::judge_model(held),
-        7 => wage_contents::judge_reference(held, f),
-        8 => wage_contents::judge_purpose(f),
-        9 => wage_contents::judge_description(f),
-        10 => text::judge(Class::Digits, f),
-        11 => wage_contents::judge_model(held),
-        12 => wage_contents::judge_reference(held, f),
-        _ => payment_rule(kind, n, held, f),
-    }
-}
-
-// The rule of a field of a line of a type, under a day and a kind.
-fn rule(day: u64, kind: u64, t: LineType, n: usize, held: Held, f: &[u8], s: &[u8]) -> usize
-    ensures { λ r. ⌜ r ≡ ruleVerdict day kind t n held (now (f .entry)) (now (s .entry)) ⌝ }
+// The rule of a place, under a day and a kind.
+fn rule(day: u64, kind: u64, t: LineType, k: usize, s: &[u8]) -> usize
+    ensures { λ r. ⌜ r ≡ placeVerdict day kind t (getD (spots t) k noSpot) (now (s .entry)) ⌝ }
 {
     match t {
-        LineType::Label => label_rule(day, n, f, s),
-        LineType::Group => group_rule(day, n, f),
-        LineType::Order => order_rule(kind, n, held, f),
+        LineType::Label => label_rule(day, k, s),
+        LineType::Group => group_rule(day, k, s),
+        LineType::Order => order_rule(kind, k, s),
         LineType::Closing => 0,
     }
-}
-
-// ---------------------------------------------------------------------------
-// The model that a field goes by
-
-// The field of that model; 0 is none.
-fn model_for(t: LineType, n: usize) -> usize
-    ensures { λ r. ⌜ r ≡ modelFor t n ⌝ }
-{
-    match t {
-        LineType::Order => {
-            if n < 6 {
-                return 0;
-            }
-            if n < 11 {
-                return 6;
-            }
-            11
-        }
-        LineType::Label => 0,
-        LineType::Group => 0,
-        LineType::Closing => 0,
-    }
-}
-
-// What its place holds: at a model's own place f what is read there, else what the last one held.
-fn held_at(t: LineType, n: usize, held: Held, f: &[u8]) -> Held
-    ensures { λ r. ⌜ r ≡ cond (eqb (modelFor t n) n) (heldIn (now (f .entry))) held ⌝ }
-{
-    if model_for(t, n) == n {
-        return wage_contents::model_in(f);
-    }
-    held
-}
-
-// What its place holds, looked for in the line.
-fn held_for(t: LineType, n: usize, s: &[u8]) -> Held
-    ensures { λ r. ⌜ r ≡ heldFor t n (now (s .entry)) ⌝ }
-{
-    let p = wage_line::find(t, model_for(t, n));
-    wage_contents::model_in(wage_line::part(p, s))
 }
 
 // ---------------------------------------------------------------------------
@@ -157,36 +120,46 @@ fn told(p: Spot, verdict: usize) -> Answer
     refusal::answer_of(verdict, field, start + refusal::byte_of(verdict))
 }
 
+// The places from one order up to another, in order: a line of another size is refused, else the first refusal stands, with its
+// field and byte.
+fn judge_range(day: u64, kind: u64, t: LineType, first: usize, last: usize, s: &[u8]) -> Answer
+    requires { ⌜ first < last ⌝ }
+    ensures { λ r. ⌜ r ≡ placesFrom day kind t (spotsFrom t first (last - first)) (now (s .entry)) ⌝ }
+{
+    if s.len() != 1002 {
+        return Answer::Refused(Refusal::Size(refusal::nowhere()));
+    }
+    let mut k = first;
+    'places: loop {
+        if last <= k {
+            break 'places Answer::Accepted;
+        }
+        let verdict = rule(day, kind, t, k, s);
+        if verdict != 0 {
+            break 'places told(wage_line::spot_at(t, k), verdict);
+        }
+        k += 1;
+    }
+}
+
 // One place of a line, by its order; past the last there is nothing to refuse.
 pub fn judge_place(day: u64, kind: u64, t: LineType, k: usize, s: &[u8]) -> Answer
     ensures { λ r. ⌜ r ≡ placeAnswer day kind t (getD (spots t) k noSpot) (now (s .entry)) ⌝ }
 {
-    let p = wage_line::spot_at(t, k);
-    let n = p.field;
-    let held = held_for(t, n, s);
-    told(p, rule(day, kind, t, n, held, wage_line::part(p, s), s))
+    let count = wage_line::count(t);
+    if count < k {
+        return judge_range(day, kind, t, count, count + 1, s);
+    }
+    judge_range(day, kind, t, k, k + 1, s)
 }
 
-// A line's places in order: the first refusal, with its field and byte. A model is read at its own place, once for the fields
-// that go by it.
+// A line's places in order: the first refusal. A line without places has nothing to refuse.
 pub fn judge_places(day: u64, kind: u64, t: LineType, s: &[u8]) -> Answer
     ensures { λ r. ⌜ r ≡ placesAnswer day kind t (now (s .entry)) ⌝ }
 {
     let count = wage_line::count(t);
-    let mut held = Held::Blank;
-    let mut k = 0;
-    'places: loop {
-        if count <= k {
-            break 'places Answer::Accepted;
-        }
-        let p = wage_line::spot_at(t, k);
-        let n = p.field;
-        let f = wage_line::part(p, s);
-        held = held_at(t, n, held, f);
-        let verdict = rule(day, kind, t, n, held, f, s);
-        if verdict != 0 {
-            break 'places told(p, verdict);
-        }
-        k += 1;
+    if count == 0 {
+        return Answer::Accepted;
     }
+    judge_range(day, kind, t, 0, count, s)
 }

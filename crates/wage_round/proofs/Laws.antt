@@ -29,7 +29,7 @@ use Rattle.wage_line.proofs.Theorems.{field-size, typed-exactly}
 use Rattle.wage_line.proofs.PieceLaws.{AllWhole}
 use Rattle.wage_contents.proofs.Accepted.{among-accepted}
 use Rattle.wage_fields.specs.Rules.{placesAnswer}
-use Rattle.wage_fields.proofs.Laws.{both-accept}
+use Rattle.refusal.proofs.Verdicts.{first-both}
 use Rattle.wage_fields.proofs.Theorems.{label-kind, group-number-digits, group-sum-digits}
 use Rattle.wage_file.specs.Right.{Payments, RightLine, kindOf, amounts, RightGroup}
 use Rattle.wage_draft.specs.Draft.{partsOf}
@@ -64,7 +64,7 @@ module _ (day room : ℕ) where
   unfolding labelAnswer
   label-passed fs e =
       let d = day-passed day (firstOf (labelDraft day fs .answer) (forRoom room)) e in
-      let f = both-accept (labelDraft day fs .answer) (forRoom room) (d .1) in
+      let f = first-both (labelDraft day fs .answer) (forRoom room) (d .1) in
       (d .0, drafted-right day 0 Label fs (f .0))
 
   -- of a 399: the day
@@ -79,7 +79,7 @@ module _ (day room : ℕ) where
     order-passed e =
         let d = day-passed day (forKind kind (firstOf (orderDraft day kind fs .answer) (forRoom room))) e in
         let k = kind-passed kind (firstOf (orderDraft day kind fs .answer) (forRoom room)) (d .1) in
-        let f = both-accept (orderDraft day kind fs .answer) (forRoom room) (k .1) in
+        let f = first-both (orderDraft day kind fs .answer) (forRoom room) (k .1) in
         drafted-right day kind Order fs (f .0)
 
     -- of a 301: accepted orders, and an accepted draft
@@ -91,8 +91,8 @@ module _ (day room : ℕ) where
         let a = groupDraft day kind fs orders .answer in
         let d = day-passed day (forKind kind (firstOf (groupOrders day kind orders) (firstOf a (forRoom room)))) e in
         let k = kind-passed kind (firstOf (groupOrders day kind orders) (firstOf a (forRoom room))) (d .1) in
-        let o = both-accept (groupOrders day kind orders) (firstOf a (forRoom room)) (k .1) in
-        let f = both-accept a (forRoom room) (o .1) in
+        let o = first-both (groupOrders day kind orders) (firstOf a (forRoom room)) (k .1) in
+        let f = first-both a (forRoom room) (o .1) in
         (o .0, drafted-right day kind Group (groupFields fs (length orders / 1002) (amounts (pieces orders))) (f .0))
 
 -- ---------------------------------------------------------------------------

@@ -1,4 +1,4 @@
--- Laws of where the writer's refusals stand: a field's tells its field, and one of the lent orders its line or that they are not lines of a
+-- Laws of what the writer's refusals tell: a field's tells no needed number, and one of the lent orders its line or that they are not lines of a
 -- group; so none of them is the refusal of the room. Assumes nothing.
 use mathlib.Core.Path.{_≡_, refl, ap, _∙_}
 use mathlib.Core.Bool.{Bool, true, false, cond, _||_}
@@ -9,8 +9,8 @@ use lib.Dec.{eqb, leb, ltb}
 use lib.ListN.{length, getD, drop}
 use lib.Seq.{sets}
 use borrow.Author.Tests.{ltb-true, leb-false}
-use Rattle.refusal.specs.Refusal.{none, placeOf, inLine, firstOf}
-use Rattle.refusal.specs.Verdict.{verdictByte}
+use Rattle.refusal.specs.Refusal.{none, placeOf, neededOf, inLine, firstOf}
+use Rattle.refusal.specs.Verdict.{answerAt}
 use Rattle.refusal.specs.declared.Place.{Place}
 use Rattle.refusal.specs.declared.Answer.{Answer}
 use Rattle.refusal.specs.declared.Answer.the-variants.{Accepted, Refused}
@@ -41,64 +41,49 @@ noRoom = Refused (Room none 1002)
 -- ---------------------------------------------------------------------------
 -- A field's refusal
 
--- of one place
-at-place : (day kind : ℕ) (t : LineType) (p : Spot) (s : List ℕ) (r : Refusal) → placeAnswer day kind t p s ≡ Refused r → placeOf r .field ≡ p .field
+-- of one place: no room is needed
+at-place : (day kind : ℕ) (t : LineType) (p : Spot) (s : List ℕ) (r : Refusal) → placeAnswer day kind t p s ≡ Refused r → neededOf r ≡ 0
 unfolding placeAnswer
-at-place day kind t p s r e =
-    let v = placeVerdict day kind t p s in
-    ap (λ (x : Place). x .field) (told-place v (p .field) (p .start + verdictByte v) r e)
+at-place day kind t p s r e = go (eqb (length s) 1002) e
+  where
+    go : (b : Bool) → cond b (answerAt (p .field) (p .start) (placeVerdict day kind t p s)) (Refused (Size none)) ≡ Refused r → neededOf r ≡ 0
+    go true g = told-place (placeVerdict day kind t p s) (p .field) _ r g .1
+    go false g = let h : Size none ≡ r = cc in rw (← h)
 
 -- of a length that is not the place's
-wrong-length : (p : Spot) (r : Refusal) → wrongLength p ≡ Refused r → placeOf r .field ≡ p .field
+wrong-length : (p : Spot) (r : Refusal) → wrongLength p ≡ Refused r → neededOf r ≡ 0
 wrong-length p r e = let g : Length (record { line = 0; field = p .field; byte = p .start }) ≡ r = cc in rw (← g)
 
 module _ (day kind : ℕ) (t : LineType) where
   -- a field put at a place
-  placed-told : (p : Spot) (f line : List ℕ) (r : Refusal) → placed day kind t p f line .answer ≡ Refused r → placeOf r .field ≡ p .field
+  placed-told : (p : Spot) (f line : List ℕ) (r : Refusal) → placed day kind t p f line .answer ≡ Refused r → neededOf r ≡ 0
   placed-told p f line r e = go (eqb (length f) (p .size)) refl e
     where
-      go : (b : Bool) → eqb (length f) (p .size) ≡ b → placed day kind t p f line .answer ≡ Refused r → placeOf r .field ≡ p .field
+      go : (b : Bool) → eqb (length f) (p .size) ≡ b → placed day kind t p f line .answer ≡ Refused r → neededOf r ≡ 0
       go true h g = at-place day kind t p (sets line (p .start) f) r (rw h at g)
       go false h g = wrong-length p r (rw h at g)
 
-  -- fields at places that have numbers
-  drafted-told :
-      (ps : List Spot) (fs : List (List ℕ)) (line : List ℕ) (r : Refusal) → each (λ p. ltb 0 (p .field)) ps ≡ true
-      → drafted day kind t ps fs line .answer ≡ Refused r → 0 < placeOf r .field
-  drafted-told [] fs line r n e =
+  -- fields at places
+  drafted-told : (ps : List Spot) (fs : List (List ℕ)) (line : List ℕ) (r : Refusal) → drafted day kind t ps fs line .answer ≡ Refused r → neededOf r ≡ 0
+  drafted-told [] fs line r e =
       let g : Accepted ≡ Refused r = rw (no-places day kind t fs line) at e in
       let z : _≡_ {A = ℕ} 0 1 = cc in
       absurd (omega arith)
-  drafted-told (p ∷ ps) fs line r n e =
-      let h = both-true (ltb 0 (p .field)) (each (λ p. ltb 0 (p .field)) ps) n in
+  drafted-told (p ∷ ps) fs line r e =
       let d = placed day kind t p (getD fs 0 []) line in
-      go d (d .answer) refl
-      (λ (q : Refusal). λ (g : d .answer ≡ Refused q). placed-told p (getD fs 0 []) line q g)
-      (drafted-told ps (drop 1 fs) (d .line) r (h .1))
-      (ltb-true 0 (p .field) (h .0))
-      (rw (drafted-first day kind t p ps fs line) at e)
+      go d (d .answer) refl (placed-told p (getD fs 0 []) line r) (drafted-told ps (drop 1 fs) (d .line) r) (rw (drafted-first day kind t p ps fs line) at e)
     where
       go :
-          (d : Draft) (a : Answer) → d .answer ≡ a → ((q : Refusal) → d .answer ≡ Refused q → placeOf q .field ≡ p .field)
-          → (drafted day kind t ps (drop 1 fs) (d .line) .answer ≡ Refused r → 0 < placeOf r .field) → 0 < p .field
-          → goingOn (d .answer) d (drafted day kind t ps (drop 1 fs) (d .line)) .answer ≡ Refused r → 0 < placeOf r .field
-      go d Accepted h here later some g = later (rw h at g)
-      go d (Refused q) h here later some g =
-          let i : d .answer ≡ Refused r = rw (← h) at (rw h at g) in
-          omega (arith, here r i)
-
--- every place has a number: a test, which each table passes
-all-numbered : (t : LineType) → each (λ p. ltb 0 (p .field)) (spots t) ≡ true
-unfolding spots
-all-numbered Label = refl
-all-numbered Group = refl
-all-numbered Order = refl
-all-numbered Closing = refl
+          (d : Draft) (a : Answer) → d .answer ≡ a → (d .answer ≡ Refused r → neededOf r ≡ 0)
+          → (drafted day kind t ps (drop 1 fs) (d .line) .answer ≡ Refused r → neededOf r ≡ 0)
+          → goingOn (d .answer) d (drafted day kind t ps (drop 1 fs) (d .line)) .answer ≡ Refused r → neededOf r ≡ 0
+      go d Accepted h here later g = later (rw h at g)
+      go d (Refused q) h here later g = here (rw (← h) at (rw h at g))
 
 -- no field is refused for the room
 pub draft-no-room : (day kind : ℕ) (t : LineType) (fs : List (List ℕ)) (line : List ℕ) → drafted day kind t (spots t) fs line .answer ≡ noRoom → ⊥
 draft-no-room day kind t fs line e =
-    let h : 0 < 0 = drafted-told day kind t (spots t) fs line (Room none 1002) (all-numbered t) e in
+    let h : 1002 ≡ 0 = drafted-told day kind t (spots t) fs line (Room none 1002) e in
     omega arith
 
 -- ---------------------------------------------------------------------------

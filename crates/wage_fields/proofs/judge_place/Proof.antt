@@ -1,20 +1,23 @@
--- `wage_fields::judge_place` meets its contract: a verdict's byte lies within the place, so that its byte in the line fits. Assumes nothing.
-use Rattle.wage_fields.specs.Rules.{placeVerdict, placeAnswer}
-use Rattle.wage_fields.proofs.Laws.{fits}
+-- `wage_fields::judge_place` meets its contract: a range of one place. Assumes nothing.
+use mathlib.Core.Path.{_∙_}
+use native.Mathlib.Omega.{arith}
+use Rattle.wage_fields.proofs.Laws.{few, range-one, range-past}
 use borrow.Author.Needs.{needs}
 use Rattle.wage_fields.proofs.judge_place.Statement.{statement}
 use Rattle.wage_fields.proofs.judge_place.Tie as tie
 
-told-requires : tie.Need-told-requires
-told-requires c κs =
-    let a = c .before .before .before .before .before .args in
-    fits (a .day) (a .kind) (a .t) (a .k) _ (a .s .now) _ _ _ (c .before .before .before .spot-at .ensures) (c .before .part .ensures) (c .rule .ensures)
-
 returns : tie.Need-returns
-unfolding placeVerdict placeAnswer
-returns c = rw (← c .before .before .before .before .spot-at .ensures, ← c .before .before .before .held-for .ensures, ← c .before .before .part .ensures, ← c .before .rule .ensures) (c .told .ensures)
+returns c =
+    let a = c .before .before .before .before .args in
+    c .judge-range .ensures ∙ rw (c .before .before .count .ensures) (range-past (a .day) (a .kind) (a .t) (a .s .now) (a .k) (rw (c .before .before .count .ensures) at (c .before .if1 .taken)))
+
+add-judge-range-2 : tie.Need-add-judge-range-2
+add-judge-range-2 c = omega (arith, c .before .count .ensures, few (c .before .before .before .args .t))
+
+returns-2 : tie.Need-returns-2
+returns-2 c = let a = c .before .before .before .before .args in c .judge-range2 .ensures ∙ range-one (a .day) (a .kind) (a .t) (a .s .now) (a .k)
 
 pub judge-place-spec : {M : Type 1} → statement M
 judge-place-spec =
     tie.close
-    (tie.spec (λ c κs. search needs) (λ c κs. search needs) (λ c κs. search needs) (λ c κs. search needs) told-requires returns)
+    (tie.spec (λ c κs. search needs) (λ c. search needs) (λ c κs. search needs) returns add-judge-range-2 (λ c κs. search needs) returns-2)

@@ -1,17 +1,15 @@
--- `wage_fields::label_rule` meets its contract: each arm says the number, and its answer is the definition's at that number.
--- Assumes nothing.
-use borrow.Author.Tests.{ne-eqb}
+-- `wage_fields::label_rule` meets its contract: each arm says the order, and its answer is the definition's for the
+-- field at that order. Assumes nothing.
+use mathlib.Core.Path.{refl}
 use borrow.Author.Needs.{needs}
+use Rattle.wage_line.specs.declared.LineType.the-variants.{Label}
+use Rattle.wage_line.specs.Places.{spots, spotIn, noSpot}
+use Rattle.wage_line.proofs.Laws.{past}
 use Rattle.wage_fields.proofs.label_rule.Statement.{statement}
 use Rattle.wage_fields.proofs.label_rule.Tie as tie
 
-returns-9 : tie.Need-returns-9
-returns-9 c =
-    let n = c .before .before .before .args .n in
-    let r = c .match .rest in
-    rw (ne-eqb n 1 (r .0 .0 .0 .0 .0 .0 .0 .1), ne-eqb n 2 (r .0 .0 .0 .0 .0 .0 .1), ne-eqb n 3 (r .0 .0 .0 .0 .0 .1), ne-eqb n 4 (r .0 .0 .0 .0 .1), ne-eqb n 5 (r .0 .0 .0 .1), ne-eqb n 6 (r .0 .0 .1), ne-eqb n 7 (r .0 .1), ne-eqb n 8 (r .1))
-
 pub label-rule-spec : {M : Type 1} → statement M
+unfolding spots spotIn
 label-rule-spec =
     tie.close
     (tie.spec
@@ -27,12 +25,18 @@ label-rule-spec =
     (λ c κs. search needs)
     (λ c κs. search needs)
     (λ c κs. search needs)
-    (λ c. rw (c .before .match .keys1) (c .judge-date .ensures))
-    (λ c. rw (c .before .match .keys2) (c .judge-among .ensures))
-    (λ c. rw (c .before .match .keys3) (c .judge-among2 .ensures))
-    (λ c. rw (c .before .match .keys4) (c .judge-among3 .ensures))
-    (λ c. rw (c .before .match .keys5) (c .judge-oib .ensures))
-    (λ c. rw (c .before .match .keys6) (c .judge .ensures))
-    (λ c. rw (c .before .before .before .before .before .match .keys7, ← c .before .before .before .before .find .ensures, ← c .before .before .before .find2 .ensures, ← c .before .before .part .ensures, ← c .before .part2 .ensures) (c .judge-employer .ensures))
-    (λ c. rw (c .before .match .keys8) (c .judge-oib2 .ensures))
-    returns-9)
+    (λ c κs. search needs)
+    (λ c κs. search needs)
+    (λ c κs. search needs)
+    (λ c κs. search needs)
+    (λ c κs. search needs)
+    (λ c κs. search needs)
+    (λ c. rw (c .before .before .match .keys1, ← c .before .part .ensures) (c .judge-date .ensures))
+    (λ c. rw (c .before .before .match .keys2, ← c .before .part2 .ensures) (c .judge-among .ensures))
+    (λ c. rw (c .before .before .match .keys3, ← c .before .part3 .ensures) (c .judge-among2 .ensures))
+    (λ c. rw (c .before .before .match .keys4, ← c .before .part4 .ensures) (c .judge-among3 .ensures))
+    (λ c. rw (c .before .before .match .keys5, ← c .before .part5 .ensures) (c .judge-oib .ensures))
+    (λ c. rw (c .before .before .match .keys6, ← c .before .part6 .ensures) (c .judge .ensures))
+    (λ c. rw (c .before .before .before .before .match .keys7, ← c .before .before .before .part7 .ensures, ← c .before .before .part8 .ensures, ← c .before .part9 .ensures) (c .judge-employer .ensures))
+    (λ c. rw (c .before .before .match .keys8, ← c .before .part10 .ensures) (c .judge-oib2 .ensures))
+    (λ c. rw (← past (spots Label) _ noSpot (c .match .rest) refl)))

@@ -1,17 +1,15 @@
--- `wage_fields::order_rule` meets its contract: each arm says the number, and its answer is the definition's at that number.
--- Assumes nothing.
-use borrow.Author.Tests.{ne-eqb}
+-- `wage_fields::order_rule` meets its contract: each arm says the order, and its answer is the definition's for the
+-- field at that order. Assumes nothing.
+use mathlib.Core.Path.{refl}
 use borrow.Author.Needs.{needs}
+use Rattle.wage_line.specs.declared.LineType.the-variants.{Order}
+use Rattle.wage_line.specs.Places.{spots, spotIn, noSpot}
+use Rattle.wage_line.proofs.Laws.{past}
 use Rattle.wage_fields.proofs.order_rule.Statement.{statement}
 use Rattle.wage_fields.proofs.order_rule.Tie as tie
 
-returns-10 : tie.Need-returns-10
-returns-10 c =
-    let n = c .before .before .before .args .n in
-    let r = c .before .match .rest in
-    rw (ne-eqb n 1 (r .0 .0 .0 .0 .0 .0 .0 .0 .1), ne-eqb n 5 (r .0 .0 .0 .0 .0 .0 .0 .1), ne-eqb n 6 (r .0 .0 .0 .0 .0 .0 .1), ne-eqb n 7 (r .0 .0 .0 .0 .0 .1), ne-eqb n 8 (r .0 .0 .0 .0 .1), ne-eqb n 9 (r .0 .0 .0 .1), ne-eqb n 10 (r .0 .0 .1), ne-eqb n 11 (r .0 .1), ne-eqb n 12 (r .1)) (c .payment-rule .ensures)
-
 pub order-rule-spec : {M : Type 1} → statement M
+unfolding spots spotIn
 order-rule-spec =
     tie.close
     (tie.spec
@@ -25,13 +23,43 @@ order-rule-spec =
     (λ c κs. search needs)
     (λ c κs. search needs)
     (λ c κs. search needs)
-    (λ c. rw (c .before .match .keys1) (c .judge-iban .ensures))
-    (λ c. rw (c .before .match .keys2) (c .judge-among .ensures))
-    (λ c. rw (c .before .match .keys3) (c .judge-model .ensures))
-    (λ c. rw (c .before .match .keys4) (c .judge-reference .ensures))
-    (λ c. rw (c .before .match .keys5) (c .judge-purpose .ensures))
-    (λ c. rw (c .before .match .keys6) (c .judge-description .ensures))
-    (λ c. rw (c .before .match .keys7) (c .judge .ensures))
-    (λ c. rw (c .before .match .keys8) (c .judge-model2 .ensures))
-    (λ c. rw (c .before .match .keys9) (c .judge-reference2 .ensures))
-    returns-10)
+    (λ c κs. search needs)
+    (λ c κs. search needs)
+    (λ c κs. search needs)
+    (λ c κs. search needs)
+    (λ c κs. search needs)
+    (λ c κs. search needs)
+    (λ c κs. search needs)
+    (λ c κs. search needs)
+    (λ c κs. search needs)
+    (λ c κs. search needs)
+    (λ c κs. search needs)
+    (λ c κs. search needs)
+    (λ c κs. search needs)
+    (λ c κs. search needs)
+    (λ c κs. search needs)
+    (λ c κs. search needs)
+    (λ c κs. search needs)
+    (λ c κs. search needs)
+    (λ c κs. search needs)
+    (λ c κs. search needs)
+    (λ c κs. search needs)
+    (λ c κs. search needs)
+    (λ c κs. search needs)
+    (λ c. rw (c .before .before .match .keys1, ← c .before .part .ensures) (c .judge-iban .ensures))
+    (λ c. rw (c .match .keys2))
+    (λ c. rw (c .before .before .match .keys3, ← c .before .part2 .ensures) (c .judge-among .ensures))
+    (λ c. rw (c .before .before .match .keys4, ← c .before .model-at .ensures) (c .judge-model .ensures))
+    (λ c. rw (c .before .before .before .match .keys5, ← c .before .before .model-at2 .ensures, ← c .before .part3 .ensures) (c .judge-reference .ensures))
+    (λ c. rw (c .before .before .match .keys6, ← c .before .part4 .ensures) (c .judge-purpose .ensures))
+    (λ c. rw (c .before .before .match .keys7, ← c .before .part5 .ensures) (c .judge-description .ensures))
+    (λ c. rw (c .before .before .match .keys8, ← c .before .part6 .ensures) (c .judge .ensures))
+    (λ c. rw (c .before .before .match .keys9, ← c .before .model-at3 .ensures) (c .judge-model2 .ensures))
+    (λ c. rw (c .before .before .before .match .keys10, ← c .before .before .model-at4 .ensures, ← c .before .part7 .ensures) (c .judge-reference2 .ensures))
+    (λ c. rw (c .before .before .match .keys11, ← c .before .part8 .ensures) (c .judge-among2 .ensures))
+    (λ c. rw (c .before .before .match .keys12, ← c .before .part9 .ensures) (c .judge-currency .ensures))
+    (λ c. rw (c .before .before .match .keys13, ← c .before .part10 .ensures) (c .judge-sign .ensures))
+    (λ c. rw (c .before .before .match .keys14, ← c .before .part11 .ensures) (c .judge-sign2 .ensures))
+    (λ c. rw (c .before .before .before .match .keys15, ← c .before .before .model-at5 .ensures, ← c .before .part12 .ensures) (c .judge-code .ensures))
+    (λ c. rw (c .before .before .match .keys16, ← c .before .part13 .ensures) (c .judge-oib .ensures))
+    (λ c. rw (← past (spots Order) _ noSpot (c .match .rest) refl)))
