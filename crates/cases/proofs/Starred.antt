@@ -10,12 +10,12 @@ use Rattle.refusal.specs.Refusal.{answerNumber}
 use Rattle.refusal.specs.Verdict.{verdictNumber}
 use Rattle.text.specs.Bytes.{firstBad, bytesVerdict, allOf, countOf, same}
 use Rattle.text.specs.Digits.{digitsOf, valueFrom, digitsText}
-use Rattle.text.specs.Split.{split}
+use Rattle.text.specs.Split.{split, joined}
 use Rattle.check_digits.specs.CheckDigit.{weighted, carriedOver, checkDigit, passes}
 use Rattle.account.specs.Account.{ibanPasses, oibPasses}
 use Rattle.account.specs.Answers.{ibanVerdict, oibVerdict}
 use Rattle.models.specs.Models.{modelOf, specialOf}
-use Rattle.reference.specs.Parts.{partsOf, partsFit, formed, joined, groupRight, groupsRight}
+use Rattle.reference.specs.Parts.{partsOf, partsFit, formed, groupRight, groupsRight}
 use Rattle.reference.specs.Answers.{referenceVerdict}
 use Rattle.characters.specs.Characters.{firstWrong, characters}
 use Rattle.slip_fields.specs.Fields.{fieldVerdict}

@@ -13,12 +13,13 @@ use lib.ListN.{length, take, drop, getD, length-append, length-take, length-drop
 use lib.Seq.{take-all, take-length, take-append-seam, take-append-add, drop-append-add, drop-drop, getD-append-add, append-snoc, drop-cons}
 use borrow.Author.Tests.{ne-eqb, lt-ltb, le-leb, lt-leb, ltb-true, ltb-false, leb-true, leb-false}
 use Rattle.text.specs.Digits.{digitsOf}
+use Rattle.text.specs.Split.{joined}
 use Rattle.text.proofs.Laws.{digits-append, to-the-end}
 use Rattle.check_digits.specs.declared.Rule.{Rule}
 use Rattle.check_digits.specs.CheckDigit.{checkDigit, passes}
 use Rattle.models.specs.declared.Group.{Group}
 use Rattle.models.specs.declared.Model.{Model}
-use Rattle.reference.specs.Parts.{partsOf, formed, joined, present, groupRight, groupsRight, partsRight}
+use Rattle.reference.specs.Parts.{partsOf, formed, present, groupRight, groupsRight, partsRight}
 use Rattle.reference.specs.Ends.{endsFrom, endsOf, endOf, startOf, upTo, countFits, stretchRight, groupAt, groupsAt, obeysAt}
 use Rattle.reference.proofs.Pieces.{bound, spanOf, Solid, bound-parts, short-span, formed-solid}
 

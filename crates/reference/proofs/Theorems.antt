@@ -12,6 +12,7 @@ use Rattle.refusal.specs.Only.{Only, defined-only}
 use Rattle.refusal.specs.Verdict.{onlyIf, Within}
 use Rattle.refusal.proofs.Verdicts.{both-pass, test-holds, then-within, only-within}
 use Rattle.text.specs.Bytes.{bytesVerdict}
+use Rattle.text.specs.Split.{joined}
 use Rattle.text.specs.declared.Class.the-variants.{Reference}
 use Rattle.text.specs.declared.Found.{Found}
 use Rattle.text.specs.declared.Found.the-variants.{At, Nothing}
@@ -20,7 +21,7 @@ use Rattle.check_digits.specs.CheckDigit.{passes}
 use Rattle.models.specs.declared.Group.{Group}
 use Rattle.models.specs.declared.Model.{Model}
 use Rattle.models.specs.Models.{modelNumber, modelOf}
-use Rattle.reference.specs.Parts.{partsOf, formed, joined, present, groupRight, groupsRight, partsRight, obeys}
+use Rattle.reference.specs.Parts.{partsOf, formed, present, groupRight, groupsRight, partsRight, obeys}
 use Rattle.reference.specs.Ends.{partsFound, obeysAt}
 use Rattle.reference.specs.Answers.{textVerdict, modelledVerdict, numberVerdict, referenceVerdict}
 use Rattle.reference.proofs.Pieces.{formed-bytes}

@@ -5,7 +5,7 @@ use mathlib.Core.List.{List, [], _∷_, _++_}
 use lib.Dec.{leb, ltb}
 use lib.ListN.{length, take, drop}
 use Rattle.text.specs.Bytes.{allOf}
-use Rattle.text.specs.Split.{split}
+use Rattle.text.specs.Split.{split, joined}
 use Rattle.text.specs.declared.Class.the-variants.{Digits}
 use Rattle.check_digits.specs.CheckDigit.{passes}
 use Rattle.models.specs.declared.Group.{Group}
@@ -41,11 +41,6 @@ formed model s =
 
 -- ---------------------------------------------------------------------------
 -- Check groups (9)
-
--- parts one after the other, without the hyphens
-unfoldable pub joined : List (List ℕ) → List ℕ
-joined [] = []
-joined (p ∷ ps) = p ++ joined ps
 
 -- the parts of a group that are present
 abbrev pub present : Group → List (List ℕ) → List (List ℕ)

@@ -1,7 +1,7 @@
 -- The pieces of a text between the bytes that divide it: a slip's fields, a reference's parts.
 use Prim.Native.Nat.{ℕ}
 use mathlib.Core.Bool.{cond}
-use mathlib.Core.List.{List, [], _∷_}
+use mathlib.Core.List.{List, [], _∷_, _++_}
 use lib.Dec.{eqb}
 
 -- a byte more at the front of the first piece
@@ -13,3 +13,8 @@ longer b (p ∷ ps) = (b ∷ p) ∷ ps
 unfoldable pub split : ℕ → List ℕ → List (List ℕ)
 split c [] = [] ∷ []
 split c (b ∷ s) = cond (eqb b c) ([] ∷ split c s) (longer b (split c s))
+
+-- texts one behind the other
+unfoldable pub joined : List (List ℕ) → List ℕ
+joined [] = []
+joined (p ∷ ps) = p ++ joined ps

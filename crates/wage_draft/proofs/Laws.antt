@@ -13,6 +13,7 @@ use lib.Dec.{eqb, leb, ltb}
 use borrow.Author.Tests.{eq-eqb, ne-eqb, eqb-true, eqb-false, leb-true, ltb-true, ltb-false}
 use lib.Seq.{sets, drop-cons, drop-drop, drop-length, take-all, take-nil, take-take, take-append-seam, drop-append-seam, getD-drop}
 use Rattle.text.proofs.Laws.{both-true}
+use Rattle.text.specs.Split.{joined}
 use Rattle.room.proofs.Places.{sets-length, take-sets, drop-sets, place-filled, set-own, sets-over, sets-apart}
 use Rattle.refusal.specs.declared.Answer.{Answer}
 use Rattle.refusal.specs.declared.Answer.the-variants.{Accepted, Refused}
@@ -22,7 +23,6 @@ use Rattle.wage_line.specs.declared.Spot.{Spot}
 use Rattle.wage_line.specs.declared.LineType.the-variants.{Label, Group, Order, Closing}
 use Rattle.wage_line.specs.Places.{noSpot, spots, spotIn, spotOf}
 use Rattle.wage_line.specs.Line.{partAt, partOf}
-use Rattle.wage_line.specs.Pieces.{joined}
 use Rattle.wage_line.proofs.Laws.{part-length}
 use Rattle.wage_fields.specs.Rules.{labelRule, orderRule, ruleVerdict, placeVerdict, placeAnswer, placesFrom}
 use Rattle.refusal.proofs.Verdicts.{first-both}

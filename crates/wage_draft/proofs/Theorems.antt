@@ -8,6 +8,7 @@ use native.Mathlib.Omega.{arith}
 use lib.ListN.{length, take, drop, getD, replicate, List·getD-map}
 use lib.Seq.{drop-drop}
 use Rattle.refusal.specs.Only.{Only, defined-only}
+use Rattle.text.specs.Split.{joined}
 use Rattle.refusal.specs.declared.Answer.{Answer}
 use Rattle.refusal.specs.declared.Answer.the-variants.{Accepted}
 use Rattle.wage_line.specs.declared.LineType.{LineType}
@@ -16,7 +17,6 @@ use Rattle.wage_line.specs.declared.Spot.{Spot}
 use Rattle.wage_line.specs.declared.Typed.the-variants.{Line}
 use Rattle.wage_line.specs.Places.{spots, noSpot}
 use Rattle.wage_line.specs.Line.{typeFrom, typeText, typedOf, partAt}
-use Rattle.wage_line.specs.Pieces.{joined}
 use Rattle.wage_line.proofs.Theorems.{placeAt, typed-exactly}
 use Rattle.wage_fields.specs.Rules.{placesAnswer}
 use Rattle.wage_draft.specs.Fields.{fieldsOf, behind}

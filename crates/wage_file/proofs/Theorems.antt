@@ -8,10 +8,11 @@ use mathlib.Core.List.{List, [], _++_}
 use Prim.Native.Nat.{ℕ, _%_, _<_}
 use lib.ListN.{length, getD}
 use Rattle.refusal.specs.Only.{Only, defined-only}
+use Rattle.text.specs.Split.{joined}
 use Rattle.refusal.specs.declared.Refusal.the-variants.{Unfinished}
 use Rattle.dates.specs.Dates.{isDate}
 use Rattle.sums.specs.Sums.{sumOf}
-use Rattle.wage_line.specs.Pieces.{piecesOf, pieces, joined}
+use Rattle.wage_line.specs.Pieces.{piecesOf, pieces}
 use Rattle.wage_line.proofs.PieceLaws.{pieces-of-lines}
 use Rattle.judge.specs.declared.Counts.{Counts}
 use Rattle.judge.specs.declared.Ending.{Ending}

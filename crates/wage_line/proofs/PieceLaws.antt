@@ -9,7 +9,8 @@ use lib.ListN.{length, take, drop, getD, length-drop, length-append, take-append
 use lib.Seq.{drop-drop, drop-length, length-take-le, take-at, drop-at}
 use borrow.Author.Tests.{le-leb, lt-leb, leb-true, leb-false}
 use Rattle.text.proofs.Laws.{taken, left}
-use Rattle.wage_line.specs.Pieces.{piecesOf, pieces, nextPiece, joined}
+use Rattle.text.specs.Split.{joined}
+use Rattle.wage_line.specs.Pieces.{piecesOf, pieces, nextPiece}
 
 -- ---------------------------------------------------------------------------
 -- Where the next piece begins, in n bytes

@@ -18,8 +18,3 @@ pieces s = piecesOf (length s) s
 -- where the piece after the one at a place begins, in n bytes: at their end, if there is none
 abbrev pub nextPiece : ℕ → ℕ → ℕ
 nextPiece n at = cond (leb (at + 1002) n) (at + 1002) n
-
--- lists one behind the other: what the pieces are of
-unfoldable pub joined : List (List ℕ) → List ℕ
-joined [] = []
-joined (p ∷ ps) = p ++ joined ps

@@ -8,26 +8,26 @@ use native.Mathlib.Omega.{arith}
 use lib.Dec.{eqb}
 use lib.ListN.{length, length-append}
 use borrow.Author.Tests.{le-leb}
-use Rattle.refusal.specs.Refusal.{none}
+use Rattle.refusal.specs.Refusal.{none, firstOf}
 use Rattle.refusal.specs.declared.Answer.{Answer}
 use Rattle.refusal.specs.declared.Answer.the-variants.{Accepted, Refused}
 use Rattle.refusal.specs.declared.Refusal.the-variants.{Form, Date}
 use Rattle.text.specs.Bytes.{allOf}
+use Rattle.text.specs.Split.{joined}
 use Rattle.text.specs.declared.Class.the-variants.{Digits}
 use Rattle.text.specs.Digits.{digitsText}
-use Rattle.text.proofs.Laws.{both-true}
+use Rattle.text.proofs.Laws.{both-true, passes-all}
 use Rattle.dates.specs.Dates.{isDate}
-use Rattle.sums.specs.Sums.{numberOf}
+use Rattle.sums.specs.Sums.{numberOf, numberIn}
 use Rattle.sums.proofs.Theorems.{text-small, number-of-all}
 use Rattle.room.proofs.Digits.{digits-length, number-back, digits-again}
 use Rattle.wage_line.specs.declared.LineType.the-variants.{Label, Group, Order}
-use Rattle.wage_line.specs.Pieces.{pieces, joined}
+use Rattle.wage_line.specs.Pieces.{pieces}
 use Rattle.wage_line.specs.Places.{spots, spotIn}
 use Rattle.wage_line.specs.Line.{partOf}
 use Rattle.wage_line.proofs.Theorems.{field-size, typed-exactly}
 use Rattle.wage_line.proofs.PieceLaws.{AllWhole}
-use Rattle.wage_contents.specs.Contents.{andThen, numberIn}
-use Rattle.wage_contents.proofs.Accepted.{among-accepted, digits-accepted}
+use Rattle.wage_contents.proofs.Accepted.{among-accepted}
 use Rattle.wage_fields.specs.Rules.{placesAnswer}
 use Rattle.refusal.proofs.Verdicts.{first-both}
 use Rattle.wage_fields.proofs.Theorems.{label-kind, group-number-digits, group-sum-digits}
@@ -63,7 +63,7 @@ module _ (day room : ℕ) where
   pub label-passed : (fs : List (List ℕ)) → labelAnswer day fs room ≡ Accepted → (isDate day ≡ true) × DraftedRight day 0 Label fs (labelDraft day fs .line)
   unfolding labelAnswer
   label-passed fs e =
-      let d = day-passed day (andThen (labelDraft day fs .answer) (forRoom room)) e in
+      let d = day-passed day (firstOf (labelDraft day fs .answer) (forRoom room)) e in
       let f = first-both (labelDraft day fs .answer) (forRoom room) (d .1) in
       (d .0, drafted-right day 0 Label fs (f .0))
 
@@ -77,8 +77,8 @@ module _ (day room : ℕ) where
     pub order-passed : orderAnswer day kind fs room ≡ Accepted → DraftedRight day kind Order fs (orderDraft day kind fs .line)
     unfolding orderAnswer
     order-passed e =
-        let d = day-passed day (forKind kind (andThen (orderDraft day kind fs .answer) (forRoom room))) e in
-        let k = kind-passed kind (andThen (orderDraft day kind fs .answer) (forRoom room)) (d .1) in
+        let d = day-passed day (forKind kind (firstOf (orderDraft day kind fs .answer) (forRoom room))) e in
+        let k = kind-passed kind (firstOf (orderDraft day kind fs .answer) (forRoom room)) (d .1) in
         let f = first-both (orderDraft day kind fs .answer) (forRoom room) (k .1) in
         drafted-right day kind Order fs (f .0)
 
@@ -89,9 +89,9 @@ module _ (day room : ℕ) where
     unfolding groupAnswer
     group-passed orders e =
         let a = groupDraft day kind fs orders .answer in
-        let d = day-passed day (forKind kind (andThen (groupOrders day kind orders) (andThen a (forRoom room)))) e in
-        let k = kind-passed kind (andThen (groupOrders day kind orders) (andThen a (forRoom room))) (d .1) in
-        let o = first-both (groupOrders day kind orders) (andThen a (forRoom room)) (k .1) in
+        let d = day-passed day (forKind kind (firstOf (groupOrders day kind orders) (firstOf a (forRoom room)))) e in
+        let k = kind-passed kind (firstOf (groupOrders day kind orders) (firstOf a (forRoom room))) (d .1) in
+        let o = first-both (groupOrders day kind orders) (firstOf a (forRoom room)) (k .1) in
         let f = first-both a (forRoom room) (o .1) in
         (o .0, drafted-right day kind Group (groupFields fs (length orders / 1002) (amounts (pieces orders))) (f .0))
 
@@ -185,8 +185,8 @@ declared day kind g w =
     let l6 : length (partOf Group 6 s) ≡ 20 = field-size Group s whole 6 in
     let e : length (g .orders) ≡ numberOf (partOf Group 5 s) = w .number ∙ number-of-all (partOf Group 5 s) (omega arith) in
     record {
-      number = write-number 5 (partOf Group 5 s) (length (g .orders)) l5 (digits-accepted (partOf Group 5 s) .0 (group-number-digits day kind s f)) e;
-      sum = write-number 20 (partOf Group 6 s) (amounts (g .orders)) l6 (digits-accepted (partOf Group 6 s) .0 (group-sum-digits day kind s f)) (w .sum);
+      number = write-number 5 (partOf Group 5 s) (length (g .orders)) l5 (passes-all Digits (partOf Group 5 s) (group-number-digits day kind s f)) e;
+      sum = write-number 20 (partOf Group 6 s) (amounts (g .orders)) l6 (passes-all Digits (partOf Group 6 s) (group-sum-digits day kind s f)) (w .sum);
       few = omega (arith, text-small 5 (partOf Group 5 s) (omega arith));
     }
 

@@ -9,6 +9,7 @@ use lib.Dec.{eqb}
 use lib.ListN.{length, getD, length-map}
 use Rattle.refusal.specs.declared.Answer.the-variants.{Accepted}
 use Rattle.text.specs.Digits.{digitsText}
+use Rattle.text.specs.Split.{joined}
 use Rattle.dates.specs.Dates.{isDate}
 use Rattle.room.proofs.Digits.{number-back}
 use Rattle.wage_line.specs.declared.LineType.{LineType}
@@ -16,7 +17,7 @@ use Rattle.wage_line.specs.declared.LineType.the-variants.{Label, Group, Order,
 use Rattle.wage_line.specs.declared.Typed.the-variants.{Line}
 use Rattle.wage_line.specs.Places.{spots, spotIn}
 use Rattle.wage_line.specs.Line.{typedOf, partOf, placeOf}
-use Rattle.wage_line.specs.Pieces.{pieces, joined}
+use Rattle.wage_line.specs.Pieces.{pieces}
 use Rattle.wage_line.proofs.PieceLaws.{AllWhole, whole-pieces, pieces-of-lines, pieces-joined}
 use Rattle.wage_line.proofs.Theorems.{placeAt, found-spot, place-typed, typed-exactly}
 use Rattle.judge.specs.declared.Counts.{Counts}

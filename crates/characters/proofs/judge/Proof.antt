@@ -18,37 +18,10 @@ abbrev μ-loop : tie.MeasureT-loop
 loop-holds : tie.Need-loop-holds Inv-loop μ-loop
 loop-holds c = passed-none _
 
-shared-slice-read-is-single : tie.Need-shared-slice-read-is-single Inv-loop μ-loop
-shared-slice-read-is-single c = omega arith
-
-is-single-requires : tie.Need-is-single-requires Inv-loop μ-loop
-is-single-requires c κs = search needs
-
-add-n : tie.Need-add-n Inv-loop μ-loop
-add-n c = omega arith
-
-add-i : tie.Need-add-i Inv-loop μ-loop
-add-i c = omega arith
-
-loop-less : tie.Need-loop-less Inv-loop μ-loop
-loop-less c = omega arith
-
 loop-again : tie.Need-loop-again Inv-loop μ-loop
 loop-again c =
     let l = c .before .before .before .before .loop in
     passed-single _ (l .i) (l .n) (l .inv) (omega arith) (sym (c .before .is-single .ensures) ∙ c .if1 .taken)
-
-add-second : tie.Need-add-second Inv-loop μ-loop
-add-second c = omega arith
-
-shared-slice-read-is-completed : tie.Need-shared-slice-read-is-completed Inv-loop μ-loop
-shared-slice-read-is-completed c = omega arith
-
-is-completed-requires : tie.Need-is-completed-requires Inv-loop μ-loop
-is-completed-requires c κs = search needs
-
-add-result : tie.Need-add-result Inv-loop μ-loop
-add-result c = omega arith
 
 returns : tie.Need-returns Inv-loop μ-loop
 returns c =
@@ -57,15 +30,6 @@ returns c =
     wrong-told (a .most) (a .s .now) (l .i)
     (passed-wrong (a .s .now) (l .i) (l .n) (l .inv) (sym (c .before .before .before .before .is-single .ensures) ∙ c .before .before .before .if1 .left) (omega arith)
     (sym (c .before .is-completed .ensures) ∙ not-true _ (c .if2 .taken)))
-
-add-n-2 : tie.Need-add-n-2 Inv-loop μ-loop
-add-n-2 c = omega arith
-
-add-i-2 : tie.Need-add-i-2 Inv-loop μ-loop
-add-i-2 c = omega arith
-
-loop-less-2 : tie.Need-loop-less-2 Inv-loop μ-loop
-loop-less-2 c = omega arith
 
 loop-again-2 : tie.Need-loop-again-2 Inv-loop μ-loop
 loop-again-2 c =
@@ -92,20 +56,20 @@ judge-spec =
     Inv-loop
     μ-loop
     loop-holds
-    shared-slice-read-is-single
-    is-single-requires
-    add-n
-    add-i
-    loop-less
+    (λ c. omega arith)
+    (λ c κs. search needs)
+    (λ c. omega arith)
+    (λ c. omega arith)
+    (λ c. omega arith)
     loop-again
-    add-second
-    shared-slice-read-is-completed
-    is-completed-requires
-    add-result
+    (λ c. omega arith)
+    (λ c. omega arith)
+    (λ c κs. search needs)
+    (λ c. omega arith)
     returns
-    add-n-2
-    add-i-2
-    loop-less-2
+    (λ c. omega arith)
+    (λ c. omega arith)
+    (λ c. omega arith)
     loop-again-2
     returns-2
     returns-3)

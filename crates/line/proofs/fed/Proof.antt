@@ -29,18 +29,6 @@ returns c =
     let l = c .before .before .loop in
     whole (feed-ended (keptOf (l .so-far) (l .head) (l .tail)) (drop (l .i) (c .before .before .before .before .before .before .args .s .now)) (c .if1 .taken) ∙ sym (l .inv .1 .1 .1))
 
-shared-slice-read-took-byte : tie.Need-shared-slice-read-took-byte Inv-loop μ-loop
-shared-slice-read-took-byte c = omega arith
-
-took-byte-requires : tie.Need-took-byte-requires Inv-loop μ-loop
-took-byte-requires c κs = tt
-
-add-i : tie.Need-add-i Inv-loop μ-loop
-add-i c = omega arith
-
-loop-less : tie.Need-loop-less Inv-loop μ-loop
-loop-less c = omega arith
-
 loop-again : tie.Need-loop-again Inv-loop μ-loop
 loop-again c =
     let t = c .before .before .before .before .took-byte in
@@ -77,10 +65,10 @@ fed-spec =
     same-length
     same-length-2
     returns
-    shared-slice-read-took-byte
-    took-byte-requires
-    add-i
-    loop-less
+    (λ c. omega arith)
+    (λ c κs. tt)
+    (λ c. omega arith)
+    (λ c. omega arith)
     loop-again
     same-length-3
     same-length-4

@@ -18,21 +18,6 @@ abbrev μ-loop : tie.MeasureT-loop
 loop-holds : tie.Need-loop-holds Inv-loop μ-loop
 loop-holds c = reached-first (c .before .args .s .now)
 
-sub-first-bad : tie.Need-sub-first-bad Inv-loop μ-loop
-sub-first-bad c = search needs
-
-part-first-bad-start : tie.Need-part-first-bad-start Inv-loop μ-loop
-part-first-bad-start c = search needs
-
-part-first-bad-end : tie.Need-part-first-bad-end Inv-loop μ-loop
-part-first-bad-end c = search needs
-
-first-bad-requires : tie.Need-first-bad-requires Inv-loop μ-loop
-first-bad-requires c κs = search needs
-
-enum-known-i : tie.Need-enum-known-i Inv-loop μ-loop
-enum-known-i c = search needs
-
 add-stop : tie.Need-add-stop Inv-loop μ-loop
 add-stop c =
     let s = c .before .before .before .before .before .before .before .args .s .now in
@@ -40,21 +25,6 @@ add-stop c =
     let e = sym (c .before .before .before .first-bad .ensures) ∙ c .before .i .given .1 in
     let h = reached-ends s (l .n) (l .before) (l .end) (l .at) (l .inv) (c .before .i .given .0 .0) e in
     omega arith
-
-sub-judge-one : tie.Need-sub-judge-one Inv-loop μ-loop
-sub-judge-one c = search needs
-
-part-judge-one-start : tie.Need-part-judge-one-start Inv-loop μ-loop
-part-judge-one-start c = search needs
-
-part-judge-one-end : tie.Need-part-judge-one-end Inv-loop μ-loop
-part-judge-one-end c = search needs
-
-sub-judge-one-2 : tie.Need-sub-judge-one-2 Inv-loop μ-loop
-sub-judge-one-2 c = search needs
-
-part-judge-one-start-2 : tie.Need-part-judge-one-start-2 Inv-loop μ-loop
-part-judge-one-start-2 c = search needs
 
 part-judge-one-end-2 : tie.Need-part-judge-one-end-2 Inv-loop μ-loop
 part-judge-one-end-2 c =
@@ -104,16 +74,10 @@ loop-again c =
     let l = c .before .before .before .before .before .before .before .before .before .before .loop in
     reached-next (c .before .before .before .before .before .before .before .before .before .before .before .before .args .s .now) (l .n) (l .before) (l .end) (l .at) (l .inv) (c .before .before .before .before .before .before .i .given .0 .0) (sym (c .before .before .before .before .before .before .before .before .first-bad .ensures) ∙ c .before .before .before .before .before .before .i .given .1) (c .before .before .judge-one .result) (c .before .before .judge-one .ensures) (c .enum-told .given .1)
 
-enum-known-r : tie.Need-enum-known-r Inv-loop μ-loop
-enum-known-r c = search needs
-
 returns : tie.Need-returns Inv-loop μ-loop
 returns c =
     let l = c .before .before .before .before .before .before .before .before .before .before .before .loop in
     reached-refusal (c .before .before .before .before .before .before .before .before .before .before .before .before .before .args .s .now) (l .n) (l .before) (l .end) (l .at) (l .inv) (c .before .before .before .before .before .before .before .i .given .0 .0) (sym (c .before .before .before .before .before .before .before .before .before .first-bad .ensures) ∙ c .before .before .before .before .before .before .before .i .given .1) (c .before .before .before .judge-one .result) (c .before .before .before .judge-one .ensures) (c .before .r .given .0 .0) (c .before .r .given .1)
-
-enum-told-2 : tie.Need-enum-told-2 Inv-loop μ-loop
-enum-told-2 c = search needs
 
 returns-2 : tie.Need-returns-2 Inv-loop μ-loop
 returns-2 c =
@@ -127,17 +91,17 @@ judge-fields-spec =
     Inv-loop
     μ-loop
     loop-holds
-    sub-first-bad
-    part-first-bad-start
-    part-first-bad-end
-    first-bad-requires
-    enum-known-i
+    (λ c. search needs)
+    (λ c. search needs)
+    (λ c. search needs)
+    (λ c κs. search needs)
+    (λ c. search needs)
     add-stop
-    sub-judge-one
-    part-judge-one-start
-    part-judge-one-end
-    sub-judge-one-2
-    part-judge-one-start-2
+    (λ c. search needs)
+    (λ c. search needs)
+    (λ c. search needs)
+    (λ c. search needs)
+    (λ c. search needs)
     part-judge-one-end-2
     judge-one-requires
     enum-told
@@ -145,7 +109,7 @@ judge-fields-spec =
     add-n
     loop-less
     loop-again
-    enum-known-r
+    (λ c. search needs)
     returns
-    enum-told-2
+    (λ c. search needs)
     returns-2)

@@ -18,29 +18,11 @@ abbrev μ-loop : tie.MeasureT-loop
 loop-holds : tie.Need-loop-holds Inv-loop μ-loop
 loop-holds c = (omega arith, (omega arith, sym (zero-add (countOf (c .args .c) (c .args .s .now)))))
 
-shared-slice-read-if1 : tie.Need-shared-slice-read-if1 Inv-loop μ-loop
-shared-slice-read-if1 c = omega arith
-
-add-n : tie.Need-add-n Inv-loop μ-loop
-add-n c = omega arith
-
-add-i : tie.Need-add-i Inv-loop μ-loop
-add-i c = omega arith
-
-loop-less : tie.Need-loop-less Inv-loop μ-loop
-loop-less c = omega arith
-
 loop-again : tie.Need-loop-again Inv-loop μ-loop
 loop-again c =
     let s = c .before .before .before .before .args .s .now in
     let l = c .before .before .before .loop in
     (omega arith, (omega arith, l .inv .1 .1 ∙ count-more (c .before .before .before .before .args .c) s (l .i) (l .n) (omega arith) (c .if1 .taken)))
-
-add-i-2 : tie.Need-add-i-2 Inv-loop μ-loop
-add-i-2 c = omega arith
-
-loop-less-2 : tie.Need-loop-less-2 Inv-loop μ-loop
-loop-less-2 c = omega arith
 
 loop-again-2 : tie.Need-loop-again-2 Inv-loop μ-loop
 loop-again-2 c =
@@ -60,12 +42,12 @@ count-spec =
     Inv-loop
     μ-loop
     loop-holds
-    shared-slice-read-if1
-    add-n
-    add-i
-    loop-less
+    (λ c. omega arith)
+    (λ c. omega arith)
+    (λ c. omega arith)
+    (λ c. omega arith)
     loop-again
-    add-i-2
-    loop-less-2
+    (λ c. omega arith)
+    (λ c. omega arith)
     loop-again-2
     returns)

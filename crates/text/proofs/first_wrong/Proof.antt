@@ -18,23 +18,11 @@ abbrev μ-loop : tie.MeasureT-loop
 loop-holds : tie.Need-loop-holds Inv-loop μ-loop
 loop-holds c = (omega arith, shifted-zero (firstBad (c .before .args .class) (c .before .args .s .now)))
 
-shared-slice-read-permitted : tie.Need-shared-slice-read-permitted Inv-loop μ-loop
-shared-slice-read-permitted c = omega arith
-
-permitted-requires : tie.Need-permitted-requires Inv-loop μ-loop
-permitted-requires c κs = tt
-
 returns : tie.Need-returns Inv-loop μ-loop
 returns c =
     let a = c .before .before .before .before .before .before .args in
     let l = c .before .before .before .before .loop in
     scan-stops (a .class) (a .s .now) (l .i) (omega arith) (sym (c .before .permitted .ensures) ∙ not-true _ (c .if1 .taken)) ∙ sym (l .inv .1)
-
-add-i : tie.Need-add-i Inv-loop μ-loop
-add-i c = omega arith
-
-loop-less : tie.Need-loop-less Inv-loop μ-loop
-loop-less c = omega arith
 
 loop-again : tie.Need-loop-again Inv-loop μ-loop
 loop-again c =
@@ -55,10 +43,10 @@ first-wrong-spec =
     Inv-loop
     μ-loop
     loop-holds
-    shared-slice-read-permitted
-    permitted-requires
+    (λ c. omega arith)
+    (λ c κs. tt)
     returns
-    add-i
-    loop-less
+    (λ c. omega arith)
+    (λ c. omega arith)
     loop-again
     returns-2)

@@ -19,12 +19,6 @@ abbrev μ-loop : tie.MeasureT-loop
 loop-holds : tie.Need-loop-holds Inv-loop μ-loop
 loop-holds c = (omega arith, ap trimmed (sym (take-length (c .args .s .now))))
 
-sub-last : tie.Need-sub-last Inv-loop μ-loop
-sub-last c = omega arith
-
-shared-slice-read-if1 : tie.Need-shared-slice-read-if1 Inv-loop μ-loop
-shared-slice-read-if1 c = omega arith
-
 slice-aggregate-result : tie.Need-slice-aggregate-result Inv-loop μ-loop
 slice-aggregate-result c =
     let l = c .before .before .before .before .loop in
@@ -35,16 +29,10 @@ returns c =
     let l = c .before .before .before .before .loop in
     sym (l .inv .1 ∙ trimmed-ends (c .before .before .before .before .before .args .s .now) (l .n) (omega arith) (omega arith) (c .before .if1 .taken))
 
-loop-less : tie.Need-loop-less Inv-loop μ-loop
-loop-less c = omega arith
-
 loop-again : tie.Need-loop-again Inv-loop μ-loop
 loop-again c =
     let l = c .before .before .before .loop in
     (omega arith, l .inv .1 ∙ trimmed-back (c .before .before .before .before .args .s .now) (l .n) (omega arith) (omega arith) (c .if1 .left))
-
-slice-aggregate-result-2 : tie.Need-slice-aggregate-result-2 Inv-loop μ-loop
-slice-aggregate-result-2 c = refl
 
 returns-2 : tie.Need-returns-2 Inv-loop μ-loop
 returns-2 c =
@@ -60,11 +48,11 @@ trim-spec =
     Inv-loop
     μ-loop
     loop-holds
-    sub-last
-    shared-slice-read-if1
+    (λ c. omega arith)
+    (λ c. omega arith)
     slice-aggregate-result
     returns
-    loop-less
+    (λ c. omega arith)
     loop-again
-    slice-aggregate-result-2
+    (λ c. refl)
     returns-2)
