@@ -83,7 +83,7 @@ module _ (day kind : ℕ) (t : LineType) where
 -- no field is refused for the room
 pub draft-no-room : (day kind : ℕ) (t : LineType) (fs : List (List ℕ)) (line : List ℕ) → drafted day kind t (spots t) fs line .answer ≡ noRoom → ⊥
 draft-no-room day kind t fs line e =
-    let h : 1002 ≡ 0 = drafted-told day kind t (spots t) fs line (Room none 1002) e in
+    let h : _≡_ {A = ℕ} 1002 0 = drafted-told day kind t (spots t) fs line (Room none 1002) e in
     omega arith
 
 -- ---------------------------------------------------------------------------
