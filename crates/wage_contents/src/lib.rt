@@ -58,7 +58,7 @@ pub fn judge_oib(absent: bool, f: &[u8]) -> usize
     ensures { λ r. ⌜ r ≡ oibPlaceVerdict absent (now (f .entry)) ⌝ }
 {
     if text::all_of(Class::Zeros, f) {
-        return judge_tested(Class::Digits, f, absent, 5);
+        return only_if(absent, 5);
     }
     judge_tested(Class::Digits, f, account::oib_passes(f), 6)
 }

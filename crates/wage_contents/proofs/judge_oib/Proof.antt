@@ -1,17 +1,23 @@
--- `wage_contents::judge_oib` meets its contract. Assumes nothing.
+-- `wage_contents::judge_oib` meets its contract: zeros are digits. Assumes nothing.
 use mathlib.Core.Path.{sym, _∙_}
+use borrow.Author.Tests.{eqb-true}
+use Rattle.refusal.proofs.Verdicts.{passed}
+use Rattle.text.specs.declared.Class.the-variants.{Digits, Zeros}
+use Rattle.text.proofs.Laws.{all-wider, all-passes}
 use Rattle.wage_contents.specs.Contents.{tested, oibPlaceVerdict}
 use borrow.Author.Needs.{needs}
 use Rattle.wage_contents.proofs.judge_oib.Statement.{statement}
 use Rattle.wage_contents.proofs.judge_oib.Tie as tie
 
 returns : tie.Need-returns
-unfolding tested oibPlaceVerdict
-returns c = rw (sym (c .before .before .all-of .ensures) ∙ c .before .if1 .taken) (c .judge-tested .ensures)
+unfolding oibPlaceVerdict
+returns c =
+    let z = sym (c .before .before .all-of .ensures) ∙ c .before .if1 .taken in
+    rw z (passed _ _ _ (all-passes Digits _ (all-wider Zeros Digits (λ x e. rw (eqb-true x 48 e)) _ z)) (c .only-if .ensures))
 
 returns-2 : tie.Need-returns-2
 unfolding tested oibPlaceVerdict
-returns-2 c = rw (sym (c .before .before .before .all-of .ensures) ∙ c .before .before .if1 .left, ← c .before .oib-passes .ensures) (c .judge-tested2 .ensures)
+returns-2 c = rw (sym (c .before .before .before .all-of .ensures) ∙ c .before .before .if1 .left, ← c .before .oib-passes .ensures) (c .judge-tested .ensures)
 
 pub judge-oib-spec : {M : Type 1} → statement M
 judge-oib-spec =
