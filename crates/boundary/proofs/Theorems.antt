@@ -1,9 +1,8 @@
 -- What is promised of the boundary: nothing is lost on the way through numbers, and the parts that it tells are those that are handed back.
 -- Assumes nothing.
 use mathlib.Core.Path.{_≡_, refl, sym, ap, _∙_}
-use mathlib.Core.Bool.{Bool, true, false, cond, _&&_}
-use mathlib.Core.List.{List, []}
-use Prim.Native.Nat.{ℕ, zero, suc, _+_, _-_, _<_}
+use mathlib.Core.List.{List}
+use Prim.Native.Nat.{ℕ, _<_}
 use native.Mathlib.Omega.{arith}
 use lib.ListN.{length, take, drop}
 use Rattle.refusal.specs.Refusal.{numberOf, refusalOf}
@@ -25,7 +24,7 @@ use Rattle.boundary.specs.declared.Told.{Told}
 use Rattle.text.specs.declared.Part.{Part}
 use Rattle.boundary.specs.Told.{refusal, toldOf}
 use Rattle.boundary.specs.Record.{placeIn, conditionOf, conditionTold, judgeOf, recordOf}
-use Rattle.boundary.specs.Parts.{noPart, partIn, placePart}
+use Rattle.boundary.specs.Parts.{partIn, placePart}
 
 -- ---------------------------------------------------------------------------
 -- Answers

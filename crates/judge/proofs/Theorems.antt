@@ -1,7 +1,7 @@
 -- What is promised of the judge: a refusal stays, a record that it did not make and a line too many get 17, a file cut short gets 14, and one
 -- answer, also for records that it did not make.
 -- Assumes nothing.
-use mathlib.Core.Path.{_≡_, refl, sym, ap, _∙_}
+use mathlib.Core.Path.{_≡_, refl, ap, _∙_}
 use mathlib.Core.Bool.{Bool, true, false}
 use mathlib.Core.List.{List, [], _∷_, _++_}
 use Prim.Native.Nat.{ℕ}

@@ -1,7 +1,7 @@
 -- Document 01, "The wage file": the judge, which stands in one condition and reads a line at a step. "Order in a line: 17, 1, 2, 5 (type), 10,
 -- 12, 13, then the fields in order".
 use Prim.Native.Nat.{ℕ, _+_}
-use mathlib.Core.Bool.{Bool, true, false, cond, _&&_}
+use mathlib.Core.Bool.{Bool, cond, _&&_}
 use mathlib.Core.List.{List, [], _∷_}
 use lib.Dec.{eqb, leb, ltb}
 use Rattle.refusal.specs.Refusal.{refusalOf, inLine}

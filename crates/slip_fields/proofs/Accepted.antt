@@ -5,7 +5,7 @@ use mathlib.Core.Bool.{Bool, true, false, cond, not, _&&_, _||_}
 use mathlib.Core.List.{List, [], _∷_}
 use Prim.Native.Nat.{ℕ, zero, suc, _*_, _≤_, _<_}
 use native.Mathlib.Omega.{arith}
-use lib.Dec.{eqb, leb}
+use lib.Dec.{eqb}
 use lib.ListN.{length, getD}
 use borrow.Author.Tests.{eqb-true, eq-eqb, ne-eqb, leb-true}
 use Rattle.refusal.specs.Verdict.{onlyIf}
@@ -21,7 +21,6 @@ use Rattle.characters.specs.Answers.{charactersVerdict}
 use Rattle.characters.proofs.Theorems as texts
 use Rattle.account.specs.Answers.{ibanVerdict}
 use Rattle.models.specs.Models.{modelNumber, modelOf, modelFrom, modelVerdict}
-use Rattle.models.specs.declared.Model.{Model}
 use Rattle.reference.specs.Answers.{textVerdict, numberVerdict, referenceVerdict}
 use Rattle.slip_fields.specs.Fields.{wordVerdict, sizedVerdict}
 use Rattle.text.proofs.Same.{same-equal}

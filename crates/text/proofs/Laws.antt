@@ -15,7 +15,7 @@ use Rattle.text.specs.declared.Class.{Class}
 use Rattle.text.specs.declared.Found.{Found}
 use Rattle.text.specs.declared.Found.the-variants.{At, Nothing}
 use Rattle.text.specs.Digits.{digitsOf, valueFrom}
-use Rattle.refusal.specs.Verdict.{wrongAt, Within}
+use Rattle.refusal.specs.Verdict.{Within}
 use Rattle.text.specs.Bytes.{isDigit, permits, later, firstBad, found, bytesVerdict, allOf, countOf}
 
 -- ---------------------------------------------------------------------------
