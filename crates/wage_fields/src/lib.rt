@@ -41,7 +41,11 @@ fn label_rule(day: u64, k: usize, s: &[u8]) -> usize
         3 => wage_contents::judge_among(1, 2, 2, part(LineType::Label, 3, s)),
         4 => wage_contents::judge_oib(true, part(LineType::Label, 4, s)),
         5 => text::judge(Class::Digits, part(LineType::Label, 5, s)),
-        6 => wage_contents::judge_employer(part(LineType::Label, 4, s), part(LineType::Label, 5, s), part(LineType::Label, 6, s)),
+        6 => wage_contents::judge_employer(
+            part(LineType::Label, 4, s),
+            part(LineType::Label, 5, s),
+            part(LineType::Label, 6, s),
+        ),
         7 => wage_contents::judge_oib(false, part(LineType::Label, 7, s)),
         _ => 0,
     }

@@ -1,22 +1,20 @@
 -- Laws of what the writer's refusals tell: a field's tells no needed number, and one of the lent orders its line or that they are not lines of a
 -- group; so none of them is the refusal of the room. Assumes nothing.
-use mathlib.Core.Path.{_≡_, refl, ap, _∙_}
+use mathlib.Core.Path.{_≡_, refl, _∙_}
 use mathlib.Core.Bool.{Bool, true, false, cond, _||_}
 use mathlib.Core.List.{List, [], _∷_}
 use Prim.Native.Nat.{ℕ, _+_, _/_, _%_, _≤_, _<_}
 use native.Mathlib.Omega.{arith}
-use lib.Dec.{eqb, leb, ltb}
+use lib.Dec.{eqb, leb}
 use lib.ListN.{length, getD, drop}
 use lib.Seq.{sets}
-use borrow.Author.Tests.{ltb-true, leb-false}
+use borrow.Author.Tests.{leb-false}
 use Rattle.refusal.specs.Refusal.{none, placeOf, neededOf, inLine, firstOf}
 use Rattle.refusal.specs.Verdict.{answerAt}
-use Rattle.refusal.specs.declared.Place.{Place}
 use Rattle.refusal.specs.declared.Answer.{Answer}
 use Rattle.refusal.specs.declared.Answer.the-variants.{Accepted, Refused}
 use Rattle.refusal.specs.declared.Refusal.{Refusal}
 use Rattle.refusal.specs.declared.Refusal.the-variants.{Size, Ends, Byte, Length, Form, Check, Model, Parts, Digit, Misplaced, Date, Orders, Sum, Unfinished, Room, Marks, Beyond}
-use Rattle.text.proofs.Laws.{both-true}
 use Rattle.dates.specs.Dates.{isDate}
 use Rattle.wage_line.specs.declared.LineType.{LineType}
 use Rattle.wage_line.specs.declared.LineType.the-variants.{Label, Group, Order, Closing}
@@ -26,7 +24,6 @@ use Rattle.wage_line.specs.declared.Typed.the-variants as typed
 use Rattle.wage_line.specs.Line.{typedOf}
 use Rattle.wage_line.specs.Places.{spots}
 use Rattle.wage_line.specs.Pieces.{pieces}
-use Rattle.wage_line.proofs.Laws.{each}
 use Rattle.wage_fields.specs.Rules.{placeVerdict, placeAnswer, placesAnswer}
 use Rattle.wage_fields.proofs.Laws.{told-place}
 use Rattle.wage_draft.specs.Draft.{Draft, placed, goingOn, drafted, wrongLength}
