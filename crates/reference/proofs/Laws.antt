@@ -6,7 +6,7 @@ use mathlib.Core.List.{List, [], _∷_}
 use Prim.Native.Nat.{ℕ, zero, suc, _≤_, _<_}
 use native.Mathlib.Omega.{arith}
 use lib.Dec.{eqb, leb, eqb·suc-zero, leb·suc-zero}
-use lib.ListN.{length}
+use lib.ListN.{length, take, drop}
 use borrow.Author.Tests.{ne-eqb, lt-leb, le-leb}
 use Rattle.refusal.specs.Verdict.{onlyIf, andThen}
 use Rattle.refusal.proofs.Verdicts.{passed, failed, met}
@@ -14,9 +14,10 @@ use Rattle.text.specs.Bytes.{bytesVerdict}
 use Rattle.text.specs.Split.{split}
 use Rattle.text.specs.declared.Class.the-variants.{Reference}
 use Rattle.text.specs.declared.Found.the-variants.{At, Nothing}
-use Rattle.text.proofs.Laws.{all-passes}
+use Rattle.text.proofs.Laws.{taken, all-passes}
+use Rattle.models.specs.declared.Group.{Group}
 use Rattle.models.specs.declared.Model.{Model}
-use Rattle.reference.specs.Parts.{partsOf, partsFit, formed, partsRight, obeys}
+use Rattle.reference.specs.Parts.{partsOf, partsFit, formed, groupRight, groupsRight, partsRight, obeys}
 use Rattle.reference.specs.Ends.{endsFrom, endsOf, partRead, countFits, partsFound, obeysAt}
 use Rattle.reference.specs.Answers.{textVerdict}
 use Rattle.reference.proofs.Pieces.{Bytes, first-part, fit-solid, formed-short, formed-bytes}
@@ -83,6 +84,19 @@ module _ (model : Model) where
 -- ---------------------------------------------------------------------------
 -- Answers
 
+-- of no parts every group is right
+none-right : (gs : List Group) (s : List ℕ) → length s ≡ 0 → groupsRight gs (partsOf s) ≡ true
+unfolding groupsRight groupRight partsOf
+none-right [] s h = refl
+none-right (g ∷ gs) [] h = rw (none (g .skipped) (g .joins)) (none-right gs [] h)
+  where
+    none : (k n : ℕ) → take {A = List ℕ} n (drop k []) ≡ []
+    none zero zero = refl
+    none zero (suc n) = refl
+    none (suc k) zero = refl
+    none (suc k) (suc n) = refl
+none-right (g ∷ gs) (b ∷ s) h = absurd (omega arith)
+
 module _ (model : Model) (s : List ℕ) where
   -- what is not formed: 3, 4, then 8
   pub unformed-judged : formed model s ≡ false → andThen (bytesVerdict Reference s) (andThen (onlyIf (leb (length s) 22) 4) 8) ≡ textVerdict model s
@@ -96,6 +110,13 @@ module _ (model : Model) (s : List ℕ) where
     -- so it obeys where its groups are right
     pub found-obeys : (r : Bool) → length s < 1024 → r ≡ obeysAt model ends s → r ≡ obeys model s
     found-obeys r h e = rw (found-formed model s ends f .0) (found-right r h e)
+
+    -- of no byte: right, since there is no group to check
+    pub found-bare : length s ≡ 0 → 0 ≡ textVerdict model s
+    found-bare h =
+        let w = found-formed model s ends f in
+        passed _ _ _ (all-passes Reference s (formed-bytes model s (w .0)))
+        (met _ 4 _ _ (le-leb (length s) 22 (omega arith)) (met _ 8 _ _ (w .0) (taken _ _ _ (none-right (model .groups) s h))))
 
     -- of more than 22 bytes: 4
     pub found-long : 22 < length s → 4 ≡ textVerdict model s

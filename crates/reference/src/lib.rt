@@ -203,12 +203,15 @@ pub fn obeys(model: Model, s: &[u8]) -> bool
 // Answers
 
 // A reference's text under a handled model: 3 with its byte, then 4, 8, 9. What is formed has no byte for 3, so that
-// only what is not is looked through for one.
+// only what is not is looked through for one; an empty one has no group to check.
 fn judged(model: Model, s: &[u8]) -> usize
     ensures { λ r. ⌜ r ≡ textVerdict model (now (s .entry)) ⌝ }
 {
     match parts(model, s) {
         Found::At(ends) => {
+            if s.len() == 0 {
+                return 0;
+            }
             if 22 < s.len() {
                 return 4;
             }

@@ -214,6 +214,15 @@ pub fn judge(class: Class, s: &[u8]) -> usize
 fn all_within(least: u8, most: u8, s: &[u8]) -> bool
     ensures { λ r. ⌜ ((k : Class) → ((b : ℕ) → permits k b ≡ (leb least b && leb b most)) → r ≡ allOf k (now (s .entry))) ⌝ }
 {
+    if s.len() == 0 {
+        return true;
+    }
+    if s[0] < least {
+        return false;
+    }
+    if most < s[0] {
+        return false;
+    }
     let mut right = true;
     let mut i = 0;
     while i < s.len() {
@@ -224,16 +233,10 @@ fn all_within(least: u8, most: u8, s: &[u8]) -> bool
     right
 }
 
-// Whether every byte is a blank: `all_of` of that class, which is asked most often. Most texts are not at their first byte.
+// Whether every byte is a blank: `all_of` of that class, which is asked most often.
 pub fn all_blank(s: &[u8]) -> bool
     ensures { λ r. ⌜ r ≡ allOf Class.Blanks (now (s .entry)) ⌝ }
 {
-    if s.len() == 0 {
-        return true;
-    }
-    if s[0] != 32 {
-        return false;
-    }
     all_within(32, 32, s)
 }
 
