@@ -15,7 +15,8 @@ use Rattle.check_digits.specs.CheckDigit.{weighted, carriedOver, checkDigit, pa
 use Rattle.account.specs.Account.{ibanPasses, oibPasses}
 use Rattle.account.specs.Answers.{ibanVerdict, oibVerdict}
 use Rattle.models.specs.Models.{modelOf, specialOf}
-use Rattle.reference.specs.Parts.{partsOf, partsFit, formed, groupRight, groupsRight}
+use Rattle.parts.specs.Parts.{partsOf, partsFit, formed}
+use Rattle.groups.specs.Groups.{groupRight, groupsRight}
 use Rattle.reference.specs.Answers.{referenceVerdict}
 use Rattle.characters.specs.Characters.{firstWrong, characters}
 use Rattle.slip_fields.specs.Fields.{fieldVerdict}

@@ -16,10 +16,11 @@ use Rattle.text.specs.declared.Found.the-variants.{At, Nothing}
 use Rattle.text.proofs.Laws.{digit-between, entered, left}
 use Rattle.account.specs.Answers.{isIban}
 use Rattle.models.specs.declared.Model.{Model}
-use Rattle.reference.specs.Parts.{obeys}
-use Rattle.reference.specs.Ends.{partsFound}
-use Rattle.reference.proofs.Laws.{found-none, found-obeys}
-use Rattle.reference.proofs.Shape.{shapeOf, shapeByte, same-shape-found}
+use Rattle.reference.specs.Answers.{obeys}
+use Rattle.parts.specs.Ends.{partsFound}
+use Rattle.parts.proofs.Laws.{found-none}
+use Rattle.reference.proofs.Laws.{found-obeys}
+use Rattle.parts.proofs.Shape.{shapeOf, shapeByte, same-shape-found}
 use Rattle.fillings.specs.declared.Aim.{Aim}
 use Rattle.fillings.specs.Accepts.{accepts, aimFrom}
 use Rattle.fillings.specs.Fillings.{fill, fillings}

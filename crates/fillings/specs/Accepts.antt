@@ -7,7 +7,7 @@ use Rattle.text.specs.declared.Found.{Found}
 use Rattle.text.specs.declared.Found.the-variants.{At, Nothing}
 use Rattle.account.specs.Answers.{isIban}
 use Rattle.models.specs.declared.Model.{Model}
-use Rattle.reference.specs.Ends.{obeysAt}
+use Rattle.groups.specs.Stretches.{obeysAt}
 use Rattle.fillings.specs.declared.Aim.{Aim}
 
 -- "A form that no filling can mend": none is accepted

@@ -13,7 +13,7 @@ use Rattle.text.specs.declared.Found.the-variants.{At, Nothing}
 use Rattle.account.specs.Answers.{isIban}
 use Rattle.models.specs.declared.Model as declared
 use Rattle.models.specs.Models.{modelNumber, modelOf}
-use Rattle.reference.specs.Parts.{obeys}
+use Rattle.reference.specs.Answers.{obeys}
 use Rattle.fillings.specs.Fillings.{fillings}
 use Rattle.fillings.specs.Answers.{roomAnswer}
 use Rattle.fillings.specs.declared.Listed.{Listed}

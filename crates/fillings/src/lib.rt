@@ -11,8 +11,8 @@ ghost use Rattle.text.specs.Bytes.{marks};
 ghost use Rattle.fillings.specs.Fillings.{fill, fillings};
 ghost use Rattle.fillings.specs.Wet.{wetIban, ibanListing, modelListing, numberListing, numberFillings, referenceListing, referenceFillings};
 ghost use Rattle.account.specs.Answers.{isIban};
-ghost use Rattle.reference.specs.Parts.{obeys};
-ghost use Rattle.reference.specs.Ends.{partsFound};
+ghost use Rattle.reference.specs.Answers.{obeys};
+ghost use Rattle.parts.specs.Ends.{partsFound};
 ghost use Rattle.text.specs.Stands.{Stands};
 ghost use Rattle.fillings.specs.ByMark.{block};
 ghost use Rattle.fillings.specs.Accepts.{accepts, aimFrom};
@@ -49,7 +49,7 @@ fn accepted(aim: Aim, s: &[u8]) -> bool
     }
     let model = aim.model;
     let ends = aim.ends;
-    reference::obeys_at(model, ends, s)
+    groups::obeys_at(model, ends, s)
 }
 
 // A text of at most 22 bytes, held by value.
@@ -212,7 +212,7 @@ fn aimed(model: Model, s: &[u8]) -> Aim
     let n = s.len();
     let mut t = [0u8; 22];
     filled(s, 0, &mut t);
-    match reference::parts(model, &t[..n]) {
+    match parts::parts(model, &t[..n]) {
         Found::At(ends) => Aim {
             iban: false,
             mendable: true,

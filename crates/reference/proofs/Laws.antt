@@ -1,88 +1,29 @@
--- What the readers find (specs/Ends.antt), and the answers to a reference (specs/Answers.antt), by whether the text is formed.
+-- The answers to a reference (specs/Answers.antt), by whether the text is formed.
 -- Assumes nothing.
 use mathlib.Core.Path.{_≡_, refl, _∙_}
-use mathlib.Core.Bool.{Bool, true, false, cond, _&&_, and-true, and-false}
+use mathlib.Core.Bool.{Bool, true, false}
 use mathlib.Core.List.{List, [], _∷_}
 use Prim.Native.Nat.{ℕ, zero, suc, _≤_, _<_}
 use native.Mathlib.Omega.{arith}
-use lib.Dec.{eqb, leb, eqb·suc-zero, leb·suc-zero}
+use lib.Dec.{leb}
 use lib.ListN.{length, take, drop}
-use borrow.Author.Tests.{ne-eqb, lt-leb, le-leb}
+use borrow.Author.Tests.{lt-leb, le-leb}
 use Rattle.refusal.specs.Verdict.{onlyIf, andThen}
 use Rattle.refusal.proofs.Verdicts.{passed, failed, met}
 use Rattle.text.specs.Bytes.{bytesVerdict}
-use Rattle.text.specs.Split.{split}
 use Rattle.text.specs.declared.Class.the-variants.{Reference}
-use Rattle.text.specs.declared.Found.the-variants.{At, Nothing}
+use Rattle.text.specs.declared.Found.the-variants.{At}
 use Rattle.text.proofs.Laws.{taken, all-passes}
 use Rattle.models.specs.declared.Group.{Group}
 use Rattle.models.specs.declared.Model.{Model}
-use Rattle.reference.specs.Parts.{partsOf, partsFit, formed, groupRight, groupsRight, partsRight, obeys}
-use Rattle.reference.specs.Ends.{endsFrom, endsOf, partRead, countFits, partsFound, obeysAt}
-use Rattle.reference.specs.Answers.{textVerdict}
-use Rattle.reference.proofs.Pieces.{Bytes, first-part, fit-solid, formed-short, formed-bytes}
-use Rattle.reference.proofs.Stretches.{parts-span, obeys-at, count-right, ends-some}
-
--- ---------------------------------------------------------------------------
--- What is found
-
-module _ (model : Model) where
-  -- no byte is no part
-  pub found-empty : (s : List ℕ) → length s ≡ 0 → cond (eqb (model .fewest) 0) (At 0) Nothing ≡ partsFound model s
-  unfolding formed partsOf partsFit endsFrom
-  found-empty [] h = rw (le-leb 0 (model .most) (omega arith), and-true) (go (model .fewest))
-    where
-      go : (n : ℕ) → cond (eqb n 0) (At 0) Nothing ≡ cond (leb n 0) (At 0) Nothing
-      go zero = refl
-      go (suc n) = rw (eqb·suc-zero n, leb·suc-zero n)
-  found-empty (b ∷ s) h = absurd (omega arith)
-
-  -- the ends that were read, where there are as many parts as the model asks
-  pub found-read :
-      (s : List ℕ) (ends : ℕ) → (length s ≡ 0 → ⊥) → length s < 1024 → ends ≡ partRead (model .lengths) 0 (split 45 s) →
-      cond (eqb ends 0) Nothing (cond (countFits (model .fewest) (model .most) ends) (At ends) Nothing) ≡ partsFound model s
-  unfolding formed partsOf
-  found-read [] ends h g e = absurd (h refl)
-  found-read (b ∷ s) ends h g e = go (partsFit (model .lengths) ps) refl e
-    where
-      ps : List (List ℕ)
-      ps = split 45 (b ∷ s)
-
-      go : (t : Bool) → partsFit (model .lengths) ps ≡ t → ends ≡ cond t (endsFrom 0 ps) 0 →
-          cond (eqb ends 0) Nothing (cond (countFits (model .fewest) (model .most) ends) (At ends) Nothing) ≡ cond (leb (model .fewest) (length ps) && (leb (length ps) (model .most) && t)) (At (endsFrom 0 ps)) Nothing
-      go true f e =
-          let d = fit-solid (model .lengths) ps f .1 .0 in
-          let l = parts-span (b ∷ s) g in
-          rw (e, ne-eqb _ 0 (ends-some ps d l (rw (first-part (b ∷ s) .2) (omega arith))), count-right (model .fewest) (model .most) ps d l, and-true)
-      go false f e = rw (e, and-false, and-false)
-
-  module _ (s : List ℕ) where
-    -- nothing in a text of more bytes than parts can have
-    pub found-far : Bytes (model .lengths) → length (model .lengths) ≤ 8 → 1023 < length s → Nothing ≡ partsFound model s
-    found-far b n h = go (formed model s) refl
-      where
-        go : (t : Bool) → formed model s ≡ t → Nothing ≡ cond t (At (endsOf s)) Nothing
-        go true e = absurd (omega (arith, formed-short model s b n e))
-        go false e = refl
-
-    -- what is found is formed
-    pub found-formed : (ends : ℕ) → At ends ≡ partsFound model s → (formed model s ≡ true) × (ends ≡ endsOf s)
-    found-formed ends e = go (formed model s) refl e
-      where
-        go : (t : Bool) → formed model s ≡ t → At ends ≡ cond t (At (endsOf s)) Nothing → (formed model s ≡ true) × (ends ≡ endsOf s)
-        go true f e = (f, cc)
-        go false f e = let z : _≡_ {A = ℕ} 0 1 = cc in absurd (omega arith)
-
-    -- where nothing is found the text is not
-    pub found-none : Nothing ≡ partsFound model s → formed model s ≡ false
-    found-none e = go (formed model s) e
-      where
-        go : (t : Bool) → Nothing ≡ cond t (At (endsOf s)) Nothing → t ≡ false
-        go true e = let z : _≡_ {A = ℕ} 0 1 = cc in absurd (omega arith)
-        go false e = refl
-
--- ---------------------------------------------------------------------------
--- Answers
+use Rattle.parts.specs.Parts.{partsOf, formed}
+use Rattle.groups.specs.Groups.{groupRight, groupsRight, partsRight}
+use Rattle.reference.specs.Answers.{obeys, textVerdict}
+use Rattle.parts.specs.Ends.{partsFound}
+use Rattle.groups.specs.Stretches.{obeysAt}
+use Rattle.parts.proofs.Pieces.{formed-bytes}
+use Rattle.groups.proofs.Stretches.{obeys-at}
+use Rattle.parts.proofs.Laws.{found-formed}
 
 -- of no parts every group is right
 none-right : (gs : List Group) (s : List ℕ) → length s ≡ 0 → groupsRight gs (partsOf s) ≡ true

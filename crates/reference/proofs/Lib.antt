@@ -1,7 +1,3 @@
--- What is promised of references, and the laws behind it.
-pub mod Pieces
-pub mod Readers
-pub mod Stretches
+-- The laws of the crate `reference`.
 pub mod Laws
-pub mod Shape
 pub mod Theorems

@@ -1,9 +1,9 @@
 -- What is promised of references, over every model, every list of groups and every text.
 -- Assumes nothing.
-use mathlib.Core.Path.{_≡_, refl, sym}
-use mathlib.Core.Logic.{_↔_, ⊎-elim}
+use mathlib.Core.Path.{_≡_, refl}
+use mathlib.Core.Logic.{_↔_}
 use mathlib.Core.Bool.{Bool, true, _&&_}
-use mathlib.Core.List.{List, [], _∷_, List·Memᴰ, List·Memᴰ·head, List·Memᴰ·tail, List·Memᴰ·not-nil, List·Memᴰ·cases-cons}
+use mathlib.Core.List.{List}
 use Prim.Native.Nat.{ℕ}
 use native.Mathlib.Omega.{arith}
 use lib.Dec.{leb}
@@ -12,19 +12,16 @@ use Rattle.refusal.specs.Only.{Only, defined-only}
 use Rattle.refusal.specs.Verdict.{onlyIf, Within}
 use Rattle.refusal.proofs.Verdicts.{both-pass, test-holds, then-within, only-within}
 use Rattle.text.specs.Bytes.{bytesVerdict}
-use Rattle.text.specs.Split.{joined}
 use Rattle.text.specs.declared.Class.the-variants.{Reference}
 use Rattle.text.specs.declared.Found.{Found}
 use Rattle.text.specs.declared.Found.the-variants.{At, Nothing}
-use Rattle.text.proofs.Laws.{both-true, and-second, all-passes, bytes-within}
-use Rattle.check_digits.specs.CheckDigit.{passes}
-use Rattle.models.specs.declared.Group.{Group}
+use Rattle.text.proofs.Laws.{both-true, all-passes, bytes-within}
 use Rattle.models.specs.declared.Model.{Model}
 use Rattle.models.specs.Models.{modelNumber, modelOf}
-use Rattle.reference.specs.Parts.{partsOf, formed, present, groupRight, groupsRight, partsRight, obeys}
-use Rattle.reference.specs.Ends.{partsFound, obeysAt}
-use Rattle.reference.specs.Answers.{textVerdict, modelledVerdict, numberVerdict, referenceVerdict}
-use Rattle.reference.proofs.Pieces.{formed-bytes}
+use Rattle.parts.specs.Parts.{partsOf, formed}
+use Rattle.groups.specs.Groups.{partsRight}
+use Rattle.reference.specs.Answers.{obeys, textVerdict, modelledVerdict, numberVerdict, referenceVerdict}
+use Rattle.parts.proofs.Pieces.{formed-bytes}
 
 -- ---------------------------------------------------------------------------
 -- Accepted exactly when
@@ -45,37 +42,6 @@ accepted-obeys model s = (λ e. accepted e, λ e. obeyed e)
         let a = both-true (leb (length s) 22) (obeys model s) e in
         let b = both-true (formed model s) (partsRight model (partsOf s)) (a .1) in
         rw (all-passes Reference s (formed-bytes model s (b .0)), a .0, b .0, b .1)
-
--- ---------------------------------------------------------------------------
--- Every group
-
--- the parts of a group that are present, if any, end in their check digit
-abbrev pub EndsRight : Group → List (List ℕ) → Type 0
-EndsRight g ps = (present g ps ≡ [] → ⊥) → passes (g .rule) (joined (present g ps)) ≡ true
-
-group-ends : (g : Group) (ps : List (List ℕ)) → (groupRight g (present g ps) ≡ true) ↔ EndsRight g ps
-unfolding groupRight
-group-ends g ps = go (present g ps)
-  where
-    go : (qs : List (List ℕ)) → (groupRight g qs ≡ true) ↔ ((qs ≡ [] → ⊥) → passes (g .rule) (joined qs) ≡ true)
-    go [] = (λ e n. absurd (n refl), λ h. refl)
-    go (q ∷ qs) = (λ e n. e, λ h. h (λ z. let w : _≡_ {A = ℕ} 0 1 = cc in omega arith))
-
--- where the groups are right, every one of them ends in its check digit
-pub groups-right-every : (gs : List Group) (ps : List (List ℕ)) → groupsRight gs ps ≡ true → (g : Group) → List·Memᴰ g gs → EndsRight g ps
-unfolding groupsRight
-groups-right-every [] ps e g m = absurd (List·Memᴰ·not-nil m)
-groups-right-every (h ∷ gs) ps e g m =
-    let w = both-true (groupRight h (present h ps)) (groupsRight gs ps) e in
-    ⊎-elim (λ (q : g ≡ h). rw q (group-ends h ps .0 (w .0))) (groups-right-every gs ps (w .1) g) (List·Memᴰ·cases-cons m)
-
--- and where every one does, the groups are right
-pub every-groups-right : (gs : List Group) (ps : List (List ℕ)) → ((g : Group) → List·Memᴰ g gs → EndsRight g ps) → groupsRight gs ps ≡ true
-unfolding groupsRight
-every-groups-right [] ps h = refl
-every-groups-right (g ∷ gs) ps h =
-    sym (and-second (groupRight g (present g ps)) (groupsRight gs ps) true (group-ends g ps .1 (h g (List·Memᴰ·head refl)))
-    (sym (every-groups-right gs ps (λ k m. h k (List·Memᴰ·tail m)))))
 
 -- ---------------------------------------------------------------------------
 -- A 3's byte is one of the text's
@@ -104,12 +70,6 @@ reference-only m s = defined-only (referenceVerdict m s)
 
 pub numbered-only : (n : ℕ) (s : List ℕ) → Only (λ (r : ℕ). r ≡ modelledVerdict (modelOf n) s)
 numbered-only n s = defined-only (modelledVerdict (modelOf n) s)
-
-pub parts-only : (model : Model) (s : List ℕ) → Only (λ (r : Found). r ≡ partsFound model s)
-parts-only model s = defined-only (partsFound model s)
-
-pub obeys-at-only : (model : Model) (ends : ℕ) (s : List ℕ) → Only (λ (r : Bool). r ≡ obeysAt model ends s)
-obeys-at-only model ends s = defined-only (obeysAt model ends s)
 
 pub obeys-only : (model : Model) (s : List ℕ) → Only (λ (r : Bool). r ≡ obeys model s)
 obeys-only model s = defined-only (obeys model s)

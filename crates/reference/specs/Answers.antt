@@ -1,6 +1,7 @@
 -- What judging a reference answers: 5 and 7 of its model, 3 and 4 of its bytes, 8 and 9 of its parts and groups, in the order of the
 -- slip's fields 11 and 12.
 use Prim.Native.Nat.{ℕ}
+use mathlib.Core.Bool.{Bool, _&&_}
 use mathlib.Core.List.{List}
 use lib.Dec.{leb}
 use lib.ListN.{length}
@@ -11,7 +12,12 @@ use Rattle.text.specs.declared.Found.{Found}
 use Rattle.text.specs.declared.Found.the-variants.{At, Nothing}
 use Rattle.models.specs.declared.Model.{Model}
 use Rattle.models.specs.Models.{modelNumber, modelOf}
-use Rattle.reference.specs.Parts.{partsOf, formed, partsRight}
+use Rattle.parts.specs.Parts.{partsOf, formed}
+use Rattle.groups.specs.Groups.{partsRight}
+
+-- "obeying the model": a text of parts that are right
+abbrev pub obeys : Model → List ℕ → Bool
+obeys model s = formed model s && partsRight model (partsOf s)
 
 -- "digits and hyphens, at most 22 characters, obeying the model": 3, 4, 8, 9
 abbrev pub textVerdict : Model → List ℕ → ℕ

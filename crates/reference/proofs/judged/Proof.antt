@@ -1,69 +1,77 @@
--- `reference::judged` meets its contract: what is found has no byte for 3, and is judged by its groups; what is not fails by 3, 4 or 8.
+-- `reference::judged` meets its contract: 7 where the model is not handled; what is found has no byte for 3, and is judged by its groups;
+-- what is not fails by 3, 4 or 8.
 -- Assumes nothing.
 use mathlib.Core.Path.{refl, sym, _∙_}
 use borrow.Author.Needs.{needs}
-use borrow.Author.Tests.{lt-leb, le-leb}
+use borrow.Author.Tests.{lt-leb, le-leb, not-true, not-false}
 use Rattle.text.proofs.Laws.{taken, left}
 use Rattle.refusal.proofs.Verdicts.{refused, passed, failed, met}
-use Rattle.reference.proofs.Laws.{found-none, found-bare, found-long, found-judged, unformed-judged}
+use Rattle.parts.proofs.Laws.{found-none}
+use Rattle.reference.proofs.Laws.{found-bare, found-long, found-judged, unformed-judged}
 use Rattle.reference.proofs.judged.Statement.{statement}
 use Rattle.reference.proofs.judged.Tie as tie
 
 returns : tie.Need-returns
 returns c =
-    let a = c .before .before .before .before .before .before .args in
-    let f = sym (c .before .before .ends .given .1) ∙ c .before .before .before .before .parts .ensures in
-    found-bare (a .model) (a .s .now) _ f (c .if1 .taken)
+    let h = c .before .before .before .args .model .handled in
+    failed h 7 _ (not-true h (c .if1 .taken)) refl
 
 returns-2 : tie.Need-returns-2
 returns-2 c =
-    let a = c .before .before .before .before .before .before .before .args in
-    let f = sym (c .before .before .before .ends .given .1) ∙ c .before .before .before .before .before .parts .ensures in
-    found-long (a .model) (a .s .now) _ f (c .if2 .taken)
+    let a = c .before .before .before .before .before .before .before .before .args in
+    let f = sym (c .before .before .ends .given .1) ∙ c .before .before .before .before .parts .ensures in
+    met (a .model .handled) 7 _ _ (not-false (a .model .handled) (c .before .before .before .before .before .if1 .left)) (found-bare (a .model) (a .s .now) _ f (c .if2 .taken))
 
 returns-3 : tie.Need-returns-3
 returns-3 c =
     let a = c .before .before .before .before .before .before .before .before .before .args in
-    let f = sym (c .before .before .before .before .before .ends .given .1) ∙ c .before .before .before .before .before .before .before .parts .ensures in
-    taken _ _ _ (c .if3 .taken) ∙ found-judged (a .model) (a .s .now) _ f (c .before .obeys-at .result) (c .before .before .if2 .left) (c .before .obeys-at .ensures)
+    let f = sym (c .before .before .before .ends .given .1) ∙ c .before .before .before .before .before .parts .ensures in
+    met (a .model .handled) 7 _ _ (not-false (a .model .handled) (c .before .before .before .before .before .before .if1 .left)) (found-long (a .model) (a .s .now) _ f (c .if3 .taken))
 
 returns-4 : tie.Need-returns-4
 returns-4 c =
-    let a = c .before .before .before .before .before .before .args in
-    let f = found-none (a .model) (a .s .now) (sym (c .before .before .enum-told .given .1) ∙ c .before .before .before .before .parts .ensures) in
-    refused _ _ _ (rw (c .before .judge .ensures) at (c .if4 .taken)) (c .before .judge .ensures) ∙ unformed-judged (a .model) (a .s .now) f
+    let a = c .before .before .before .before .before .before .before .before .before .before .before .args in
+    let f = sym (c .before .before .before .before .before .ends .given .1) ∙ c .before .before .before .before .before .before .before .parts .ensures in
+    met (a .model .handled) 7 _ _ (not-false (a .model .handled) (c .before .before .before .before .before .before .before .before .if1 .left)) (taken _ _ _ (c .if4 .taken) ∙ found-judged (a .model) (a .s .now) _ f (c .before .obeys-at .result) (c .before .before .if3 .left) (c .before .obeys-at .ensures))
 
 returns-5 : tie.Need-returns-5
 returns-5 c =
-    let a = c .before .before .before .before .before .before .before .args in
-    let f = found-none (a .model) (a .s .now) (sym (c .before .before .before .enum-told .given .1) ∙ c .before .before .before .before .before .parts .ensures) in
-    passed _ _ _ (sym (c .before .before .judge .ensures) ∙ c .before .if4 .left) (failed _ 4 _ (lt-leb _ _ (c .if5 .taken)) refl) ∙ unformed-judged (a .model) (a .s .now) f
+    let a = c .before .before .before .before .before .before .before .before .args in
+    let f = found-none (a .model) (a .s .now) (sym (c .before .before .enum-told .given .1) ∙ c .before .before .before .before .parts .ensures) in
+    met (a .model .handled) 7 _ _ (not-false (a .model .handled) (c .before .before .before .before .before .if1 .left)) (refused _ _ _ (rw (c .before .judge .ensures) at (c .if5 .taken)) (c .before .judge .ensures) ∙ unformed-judged (a .model) (a .s .now) f)
 
 returns-6 : tie.Need-returns-6
 returns-6 c =
     let a = c .before .before .before .before .before .before .before .before .before .args in
-    let f = sym (c .before .before .before .before .before .ends .given .1) ∙ c .before .before .before .before .before .before .before .parts .ensures in
-    left _ _ _ _ (c .if3 .left) refl ∙ found-judged (a .model) (a .s .now) _ f (c .before .obeys-at .result) (c .before .before .if2 .left) (c .before .obeys-at .ensures)
+    let f = found-none (a .model) (a .s .now) (sym (c .before .before .before .enum-told .given .1) ∙ c .before .before .before .before .before .parts .ensures) in
+    met (a .model .handled) 7 _ _ (not-false (a .model .handled) (c .before .before .before .before .before .before .if1 .left)) (passed _ _ _ (sym (c .before .before .judge .ensures) ∙ c .before .if5 .left) (failed _ 4 _ (lt-leb _ _ (c .if6 .taken)) refl) ∙ unformed-judged (a .model) (a .s .now) f)
 
 returns-7 : tie.Need-returns-7
 returns-7 c =
-    let a = c .before .before .before .before .before .before .before .args in
+    let a = c .before .before .before .before .before .before .before .before .before .before .before .args in
+    let f = sym (c .before .before .before .before .before .ends .given .1) ∙ c .before .before .before .before .before .before .before .parts .ensures in
+    met (a .model .handled) 7 _ _ (not-false (a .model .handled) (c .before .before .before .before .before .before .before .before .if1 .left)) (left _ _ _ _ (c .if4 .left) refl ∙ found-judged (a .model) (a .s .now) _ f (c .before .obeys-at .result) (c .before .before .if3 .left) (c .before .obeys-at .ensures))
+
+returns-8 : tie.Need-returns-8
+returns-8 c =
+    let a = c .before .before .before .before .before .before .before .before .before .args in
     let f = found-none (a .model) (a .s .now) (sym (c .before .before .before .enum-told .given .1) ∙ c .before .before .before .before .before .parts .ensures) in
-    passed _ _ _ (sym (c .before .before .judge .ensures) ∙ c .before .if4 .left) (met _ 4 _ _ (le-leb _ _ (c .if5 .left)) refl) ∙ unformed-judged (a .model) (a .s .now) f
+    met (a .model .handled) 7 _ _ (not-false (a .model .handled) (c .before .before .before .before .before .before .if1 .left)) (passed _ _ _ (sym (c .before .before .judge .ensures) ∙ c .before .if5 .left) (met _ 4 _ _ (le-leb _ _ (c .if6 .left)) refl) ∙ unformed-judged (a .model) (a .s .now) f)
 
 pub judged-spec : {M : Type 1} → statement M
 judged-spec =
     tie.close
     (tie.spec
-    (λ c κs. search needs)
-    (λ c. search needs)
     returns
-    returns-2
     (λ c κs. search needs)
-    returns-3
     (λ c. search needs)
+    returns-2
+    returns-3
     (λ c κs. search needs)
     returns-4
+    (λ c. search needs)
+    (λ c κs. search needs)
     returns-5
     returns-6
-    returns-7)
+    returns-7
+    returns-8)

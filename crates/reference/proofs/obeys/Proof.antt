@@ -5,10 +5,12 @@ use lib.ListN.{length}
 use Prim.Native.Nat.{_≤_}
 use borrow.Author.Needs.{needs}
 use Rattle.text.proofs.Laws.{and-first}
-use Rattle.reference.proofs.Pieces.{Bytes, formed-short}
-use Rattle.reference.proofs.Laws.{found-none, found-formed, found-obeys}
+use Rattle.parts.proofs.Pieces.{Bytes, formed-short}
+use Rattle.parts.proofs.Laws.{found-none, found-formed}
+use Rattle.reference.proofs.Laws.{found-obeys}
 use Rattle.reference.proofs.obeys.Statement.{statement}
 use Rattle.reference.proofs.obeys.Tie as tie
+use Rattle.groups.proofs.Stretches.{obeys-at}
 
 -- the model's lengths are bytes
 bytes : (c : tie.Start) → Bytes (c .args .model .lengths)

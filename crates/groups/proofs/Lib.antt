@@ -1,0 +1,3 @@
+-- The laws of the crate `groups`.
+pub mod Stretches
+pub mod Theorems

@@ -1,0 +1,53 @@
+-- What is promised of check groups, over every list of groups and every text.
+-- Assumes nothing.
+use mathlib.Core.Path.{_≡_, refl, sym}
+use mathlib.Core.Logic.{_↔_, ⊎-elim}
+use mathlib.Core.Bool.{Bool, true}
+use mathlib.Core.List.{List, [], _∷_, List·Memᴰ, List·Memᴰ·head, List·Memᴰ·tail, List·Memᴰ·not-nil, List·Memᴰ·cases-cons}
+use Prim.Native.Nat.{ℕ}
+use native.Mathlib.Omega.{arith}
+use Rattle.refusal.specs.Only.{Only, defined-only}
+use Rattle.text.specs.Split.{joined}
+use Rattle.text.proofs.Laws.{both-true, and-second}
+use Rattle.check_digits.specs.CheckDigit.{passes}
+use Rattle.models.specs.declared.Group.{Group}
+use Rattle.models.specs.declared.Model.{Model}
+use Rattle.groups.specs.Groups.{present, groupRight, groupsRight}
+use Rattle.groups.specs.Stretches.{obeysAt}
+
+-- ---------------------------------------------------------------------------
+-- Every group
+
+-- the parts of a group that are present, if any, end in their check digit
+abbrev pub EndsRight : Group → List (List ℕ) → Type 0
+EndsRight g ps = (present g ps ≡ [] → ⊥) → passes (g .rule) (joined (present g ps)) ≡ true
+
+group-ends : (g : Group) (ps : List (List ℕ)) → (groupRight g (present g ps) ≡ true) ↔ EndsRight g ps
+unfolding groupRight
+group-ends g ps = go (present g ps)
+  where
+    go : (qs : List (List ℕ)) → (groupRight g qs ≡ true) ↔ ((qs ≡ [] → ⊥) → passes (g .rule) (joined qs) ≡ true)
+    go [] = (λ e n. absurd (n refl), λ h. refl)
+    go (q ∷ qs) = (λ e n. e, λ h. h (λ z. let w : _≡_ {A = ℕ} 0 1 = cc in omega arith))
+
+-- where the groups are right, every one of them ends in its check digit
+pub groups-right-every : (gs : List Group) (ps : List (List ℕ)) → groupsRight gs ps ≡ true → (g : Group) → List·Memᴰ g gs → EndsRight g ps
+unfolding groupsRight
+groups-right-every [] ps e g m = absurd (List·Memᴰ·not-nil m)
+groups-right-every (h ∷ gs) ps e g m =
+    let w = both-true (groupRight h (present h ps)) (groupsRight gs ps) e in
+    ⊎-elim (λ (q : g ≡ h). rw q (group-ends h ps .0 (w .0))) (groups-right-every gs ps (w .1) g) (List·Memᴰ·cases-cons m)
+
+-- and where every one does, the groups are right
+pub every-groups-right : (gs : List Group) (ps : List (List ℕ)) → ((g : Group) → List·Memᴰ g gs → EndsRight g ps) → groupsRight gs ps ≡ true
+unfolding groupsRight
+every-groups-right [] ps h = refl
+every-groups-right (g ∷ gs) ps h =
+    sym (and-second (groupRight g (present g ps)) (groupsRight gs ps) true (group-ends g ps .1 (h g (List·Memᴰ·head refl)))
+    (sym (every-groups-right gs ps (λ k m. h k (List·Memᴰ·tail m)))))
+
+-- ---------------------------------------------------------------------------
+-- Any two answers that a contract allows are equal
+
+pub obeys-at-only : (model : Model) (ends : ℕ) (s : List ℕ) → Only (λ (r : Bool). r ≡ obeysAt model ends s)
+obeys-at-only model ends s = defined-only (obeysAt model ends s)

@@ -1,0 +1,50 @@
+-- `reference::group_at` meets its contract: each return is the definition's choice on the tests that led there. Assumes nothing.
+use mathlib.Core.Path.{sym, _∙_}
+use borrow.Author.Needs.{needs}
+use borrow.Author.Tests.{eq-eqb, ne-eqb}
+use Rattle.text.proofs.Laws.{taken, left, or-first, or-second}
+use Rattle.groups.proofs.group_at.Statement.{statement}
+use Rattle.groups.proofs.group_at.Tie as tie
+
+returns : tie.Need-returns
+returns c = taken _ _ _ (sym (or-first _ _ (eq-eqb _ 0 (rw (c .before .wide2 .ensures) at (c .if1 .taken)))))
+
+returns-2 : tie.Need-returns-2
+returns-2 c =
+    taken _ _ _
+    (sym (or-second _ _ _ (ne-eqb _ 0 (rw (c .before .before .before .wide2 .ensures) at (c .before .before .if1 .left)))
+    (sym (eq-eqb _ 0 (rw (c .before .end-of .ensures, c .before .before .before .before .wide .ensures) at (c .if2 .taken))))))
+
+returns-3 : tie.Need-returns-3
+returns-3 c =
+    let w = c .before .before .before .before .before .before .before .before .wide .ensures in
+    let v = c .before .before .before .before .before .before .before .wide2 .ensures in
+    let e = rw (w, v) at (c .before .before .end-of2 .ensures) in
+    left _ _ _ _ (sym (or-second _ _ _ (ne-eqb _ 0 (rw v at (c .before .before .before .before .before .before .if1 .left))) (sym (ne-eqb _ 0 (rw (c .before .before .before .before .before .end-of .ensures, w) at (c .before .before .before .before .if2 .left))))))
+    (rw (sym e ∙ c .before .if3 .taken, ← w, ← (c .before .before .before .start-of .ensures)) (c .stretch-right .ensures))
+
+returns-4 : tie.Need-returns-4
+returns-4 c =
+    let w = c .before .before .before .before .before .before .before .before .wide .ensures in
+    let v = c .before .before .before .before .before .before .before .wide2 .ensures in
+    let e = rw (w, v) at (c .before .before .end-of2 .ensures) in
+    left _ _ _ _ (sym (or-second _ _ _ (ne-eqb _ 0 (rw v at (c .before .before .before .before .before .before .if1 .left))) (sym (ne-eqb _ 0 (rw (c .before .before .before .before .before .end-of .ensures, w) at (c .before .before .before .before .if2 .left))))))
+    (rw (ne-eqb _ 0 (rw e at (c .before .if3 .left)), ← e, ← w, ← (c .before .before .before .start-of .ensures)) (c .stretch-right2 .ensures))
+
+pub group-at-spec : {M : Type 1} → statement M
+group-at-spec =
+    tie.close
+    (tie.spec
+    (λ c κs. search needs)
+    (λ c κs. search needs)
+    returns
+    (λ c κs. search needs)
+    returns-2
+    (λ c κs. search needs)
+    (λ c. search needs)
+    (λ c. search needs)
+    (λ c κs. search needs)
+    (λ c κs. search needs)
+    returns-3
+    (λ c κs. search needs)
+    returns-4)

@@ -1,0 +1,27 @@
+-- Document 01, "Reference models": the parts of a reference, a model's lengths, and its check groups.
+use Prim.Native.Nat.{ℕ}
+use mathlib.Core.Bool.{Bool, true, _&&_}
+use mathlib.Core.List.{List, [], _∷_}
+use lib.ListN.{take, drop}
+use Rattle.text.specs.Split.{joined}
+use Rattle.check_digits.specs.CheckDigit.{passes}
+use Rattle.models.specs.declared.Group.{Group}
+use Rattle.models.specs.declared.Model.{Model}
+
+-- the parts of a group that are present
+abbrev pub present : Group → List (List ℕ) → List (List ℕ)
+present g ps = take (g .joins) (drop (g .skipped) ps)
+
+-- "A check group joins those of its parts that are present and ends in its check digit; with none present it is not checked"
+unfoldable pub groupRight : Group → List (List ℕ) → Bool
+groupRight g [] = true
+groupRight g (p ∷ ps) = passes (g .rule) (joined (p ∷ ps))
+
+-- every group
+unfoldable pub groupsRight : List Group → List (List ℕ) → Bool
+groupsRight [] ps = true
+groupsRight (g ∷ gs) ps = groupRight g (present g ps) && groupsRight gs ps
+
+-- what is asked of parts that have their number and lengths
+abbrev pub partsRight : Model → List (List ℕ) → Bool
+partsRight model ps = groupsRight (model .groups) ps

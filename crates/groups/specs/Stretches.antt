@@ -1,0 +1,42 @@
+-- Where the parts of a text end, packed into one number, and what is asked of the text by them: it mirrors src/. proofs/Readers.antt leads
+-- from what is read to `formed` of Parts.antt, and proofs/Stretches.antt from `obeysAt` to `partsRight`.
+use Prim.Native.Nat.{ℕ, _+_, _-_}
+use mathlib.Core.Bool.{Bool, true, false, cond, _&&_, _||_}
+use mathlib.Core.List.{List, [], _∷_}
+use lib.Dec.{eqb, leb}
+use lib.ListN.{length, take, drop}
+use Rattle.check_digits.specs.declared.Rule.{Rule}
+use Rattle.check_digits.specs.CheckDigit.{passes}
+use Rattle.models.specs.declared.Group.{Group}
+use Rattle.models.specs.declared.Model.{Model}
+use Rattle.parts.specs.Ends.{endOf}
+
+-- ---------------------------------------------------------------------------
+-- Check groups as stretches of the text, hyphens and all
+
+-- the byte at which part k begins
+abbrev pub startOf : ℕ → ℕ → ℕ
+startOf k ends = cond (eqb k 0) 0 (endOf (k - 1) ends + 1)
+
+-- the end of a stretch, that of a part or, where there is no such part, that of the text
+abbrev pub upTo : ℕ → List ℕ → ℕ
+upTo e s = cond (eqb e 0) (length s) e
+
+-- a stretch from a byte to another ends in its check digit; what does not stand in the text fails
+abbrev pub stretchRight : Rule → ℕ → ℕ → List ℕ → Bool
+stretchRight rule a e s = cond (leb a e && leb e (length s)) (passes rule (take (e - a) (drop a s))) false
+
+-- a group goes from its first part to its last, or to the end of the text; with no part it is not checked
+abbrev pub groupAt : Group → ℕ → List ℕ → Bool
+groupAt g ends s =
+    cond (eqb (g .joins) 0 || eqb (endOf (g .skipped) ends) 0)
+    true
+    (stretchRight (g .rule) (startOf (g .skipped) ends) (upTo (endOf (g .skipped + g .joins - 1) ends) s) s)
+
+unfoldable pub groupsAt : List Group → ℕ → List ℕ → Bool
+groupsAt [] ends s = true
+groupsAt (g ∷ gs) ends s = groupAt g ends s && groupsAt gs ends s
+
+-- what a model asks of a formed text, by the ends of its parts
+unfoldable pub obeysAt : Model → ℕ → List ℕ → Bool
+obeysAt model ends s = groupsAt (model .groups) ends s
