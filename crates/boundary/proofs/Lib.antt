@@ -1,3 +1,3 @@
--- What the proofs of `boundary` share, and what is promised of it.
+-- The laws of the crate `boundary`.
 pub mod Laws
 pub mod Theorems

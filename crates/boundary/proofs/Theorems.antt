@@ -1,30 +1,17 @@
--- What is promised of the boundary: nothing is lost on the way through numbers, and the parts that it tells are those that are handed back.
+-- What is promised of the boundary: nothing is lost on the way through numbers, and each call leaves one answer.
 -- Assumes nothing.
 use mathlib.Core.Path.{_≡_, refl, sym, ap, _∙_}
 use mathlib.Core.List.{List}
 use Prim.Native.Nat.{ℕ, _<_}
 use native.Mathlib.Omega.{arith}
-use lib.ListN.{length, take, drop}
 use Rattle.refusal.specs.Refusal.{numberOf, refusalOf}
-use Rattle.refusal.proofs.Theorems.{numbers-tell-all}
 use Rattle.refusal.specs.declared.Answer.{Answer}
 use Rattle.refusal.specs.declared.Answer.the-variants.{Accepted, Refused}
 use Rattle.refusal.specs.declared.Refusal.{Refusal}
 use Rattle.refusal.specs.declared.Refusal.the-variants.{Size, Ends, Byte, Length, Form, Check, Model, Parts, Digit, Misplaced, Date, Orders, Sum, Unfinished, Room, Marks, Beyond}
-use Rattle.slip.specs.Slip.{fieldPart, fieldOf}
-use Rattle.slip.proofs.Laws.{field-stands}
-use Rattle.wage_line.specs.declared.Typed.{Typed}
-use Rattle.wage_line.specs.declared.Typed.the-variants as typed
-use Rattle.wage_line.specs.Line.{typedOf, queried, placeOf}
-use Rattle.judge.specs.declared.Condition.{Condition}
-use Rattle.judge.specs.declared.Condition.the-variants as condition
-use Rattle.judge.specs.declared.Judge.{Judge}
-use Rattle.judge.specs.Judge.{stageOf}
+use Rattle.refusal.proofs.Theorems.{numbers-tell-all}
 use Rattle.boundary.specs.declared.Told.{Told}
-use Rattle.text.specs.declared.Part.{Part}
-use Rattle.boundary.specs.Told.{refusal, toldOf}
-use Rattle.boundary.specs.Record.{placeIn, conditionOf, conditionTold, judgeOf, recordOf}
-use Rattle.boundary.specs.Parts.{partIn, placePart}
+use Rattle.boundary.specs.Told.{refusal, toldOf, placeIn}
 
 -- ---------------------------------------------------------------------------
 -- Answers
@@ -66,37 +53,14 @@ told-apart (Refused r) Accepted e = let z : numberOf r ≡ 0 = ap (λ (t : Told)
 told-apart (Refused r) (Refused q) e = ap Refused (sym (refusal-told-back r) ∙ (ap refusalIn e ∙ refusal-told-back q))
 
 -- ---------------------------------------------------------------------------
--- The judge's record
+-- One answer
 
--- a condition told as numbers loses nothing
-condition-told-back : (c : Condition) → conditionOf (stageOf c) (conditionTold c) ≡ c
-condition-told-back condition.Fresh = refl
-condition-told-back condition.Labelled = refl
-condition-told-back condition.Grouped = refl
-condition-told-back condition.Closed = refl
-condition-told-back (condition.Refused r) = ap condition.Refused (refusal-told-back r)
+-- of a call that writes nothing: its contract is `r ≡ x`
+pub answer-only : {A : Type 0} (x r r′ : A) → r ≡ x → r′ ≡ x → r ≡ r′
+answer-only x r r′ p q = p ∙ sym q
 
--- a judge's record loses nothing
-pub record-told-back : (j : Judge) → judgeOf (recordOf j) ≡ j
-unfolding judgeOf recordOf
-record-told-back j = rw (condition-told-back (j .condition))
-
--- ---------------------------------------------------------------------------
--- Parts
-
--- the bytes of a part
-abbrev bytesOf : Part → List ℕ → List ℕ
-bytesOf p s = take (p .length) (drop (p .start) s)
-
--- the part that is told of a slip's field is the field that is handed back
-pub part-is-field : (s : List ℕ) (n : ℕ) → bytesOf (fieldPart s n) s ≡ fieldOf s n
-part-is-field s n = field-stands s n .1
-
--- the part that is told of a wage line's place is the place that is handed back
-pub part-is-place : (s : List ℕ) (n : ℕ) → take (placePart s n .length) (drop (placePart s n .start) s) ≡ placeOf s n
-unfolding placePart placeOf
-part-is-place s n = go (typedOf s)
-  where
-    go : (t : Typed) → bytesOf (partIn n t) s ≡ queried n s t
-    go (typed.Line t) = refl
-    go (typed.Refused r) = refl
+-- of a listing, and of a text filled: answer and lent slice together
+pub outcome-only :
+    {A : Type 0} (x r r′ : A) (y after after′ : List ℕ)
+    → (r ≡ x) × (after ≡ y) → (r′ ≡ x) × (after′ ≡ y) → (r ≡ r′) × (after ≡ after′)
+outcome-only x r r′ y after after′ p q = (p .0 ∙ sym (q .0), p .1 ∙ sym (q .1))

@@ -5,21 +5,11 @@ use Rattle.refusal.specs.Refusal.{none, numberOf, placeOf, neededOf}
 use Rattle.refusal.specs.Verdict.{answerIn}
 use Rattle.refusal.specs.declared.Answer.{Answer}
 use Rattle.refusal.specs.declared.Answer.the-variants as answer
+use Rattle.refusal.specs.declared.Place.{Place}
 use Rattle.refusal.specs.declared.Refusal.{Refusal}
 use Rattle.refusal.specs.declared.Refusal.the-variants.{Form}
-use Rattle.check_digits.specs.declared.Made.{Made}
-use Rattle.check_digits.specs.declared.Made.the-variants as made
-use Rattle.fillings.specs.declared.Listed.{Listed}
-use Rattle.fillings.specs.declared.Listed.the-variants as listed
-use Rattle.slip.specs.declared.Amount.{Amount}
-use Rattle.slip.specs.declared.Amount.the-variants as amount
-use Rattle.slip_writer.specs.declared.Written.{Written}
-use Rattle.slip_writer.specs.declared.Written.the-variants as written
-use Rattle.judge.specs.declared.Ending.{Ending}
-use Rattle.judge.specs.declared.Ending.the-variants as ending
 use Rattle.boundary.specs.declared.Told.{Told}
 use Rattle.boundary.specs.declared.Valued.{Valued}
-use Rattle.boundary.specs.declared.Ended.{Ended}
 
 -- acceptance, which tells nothing
 abbrev pub accepted : Told
@@ -41,27 +31,10 @@ verdictTold v = toldOf (answerIn 0 v)
 abbrev pub valued : Told → ℕ → Valued
 valued t v = record { told = t; value = v }
 
-unfoldable pub madeOf : Made → Valued
-madeOf (made.Digit d) = valued accepted d
-madeOf (made.Refused r) = valued (refusal r) 0
-
-unfoldable pub listedOf : Listed → Valued
-listedOf (listed.Count n) = valued accepted n
-listedOf (listed.Refused r) = valued (refusal r) 0
-
-unfoldable pub centsTold : Amount → Valued
-centsTold (amount.Cents n) = valued accepted n
-centsTold (amount.Refused r) = valued (refusal r) 0
-
-unfoldable pub writtenOf : Written → Valued
-writtenOf (written.Bytes n) = valued accepted n
-writtenOf (written.Refused r) = valued (refusal r) 0
-
--- what the end of a wage file tells
-unfoldable pub endedOf : Ending → Ended
-endedOf (ending.Accepted c) = record { told = accepted; lines = c .lines; groups = c .groups; orders = c .orders }
-endedOf (ending.Refused r) = record { told = refusal r; lines = 0; groups = 0; orders = 0 }
-
 -- a rule that there is not: 5
 abbrev pub noRule : Told
 noRule = refusal (Form none)
+
+-- the place that an answer tells
+abbrev pub placeIn : Told → Place
+placeIn t = record { line = t .line; field = t .field; byte = t .byte }

@@ -1,7 +1,7 @@
 -- Document 01, "Reference models": the parts of a reference, a model's lengths, and its check groups.
-use Prim.Native.Nat.{ℕ}
 use mathlib.Core.Bool.{Bool, true, _&&_}
 use mathlib.Core.List.{List, [], _∷_}
+use Prim.Native.Nat.{ℕ}
 use lib.ListN.{take, drop}
 use Rattle.text.specs.Split.{joined}
 use Rattle.check_digits.specs.CheckDigit.{passes}

@@ -5,15 +5,15 @@ use mathlib.Core.Path.{_≡_, refl, sym, ap, _∙_}
 use mathlib.Core.Bool.{Bool, true, false, cond}
 use mathlib.Core.List.{List, [], _∷_}
 use Prim.Native.Nat.{ℕ, suc, _+_}
+use native.Mathlib.Omega.{arith}
 use lib.Dec.{eqb}
 use lib.ListN.{length}
-use native.Mathlib.Omega.{arith}
 use borrow.Author.Tests.{ne-eqb}
 use Rattle.text.specs.Bytes.{isDigit, allOf}
 use Rattle.text.specs.declared.Class.the-variants.{Digits}
+use Rattle.text.specs.Split.{longer, split}
 use Rattle.text.proofs.Laws.{digit-bounds}
 use Rattle.models.specs.declared.Model.{Model}
-use Rattle.text.specs.Split.{longer, split}
 use Rattle.parts.specs.Parts.{partsOf, partsFit, formed}
 use Rattle.parts.specs.Ends.{endsFrom, partsFound}
 

@@ -17,13 +17,13 @@ use Rattle.text.proofs.Laws.{taken, all-passes}
 use Rattle.models.specs.declared.Group.{Group}
 use Rattle.models.specs.declared.Model.{Model}
 use Rattle.parts.specs.Parts.{partsOf, formed}
-use Rattle.groups.specs.Groups.{groupRight, groupsRight, partsRight}
-use Rattle.reference.specs.Answers.{obeys, textVerdict}
 use Rattle.parts.specs.Ends.{partsFound}
-use Rattle.groups.specs.Stretches.{obeysAt}
 use Rattle.parts.proofs.Pieces.{formed-bytes}
-use Rattle.groups.proofs.Stretches.{obeys-at}
 use Rattle.parts.proofs.Laws.{found-formed}
+use Rattle.groups.specs.Groups.{groupRight, groupsRight, partsRight}
+use Rattle.groups.specs.Stretches.{obeysAt}
+use Rattle.groups.proofs.Stretches.{obeys-at}
+use Rattle.reference.specs.Answers.{obeys, textVerdict}
 
 -- of no parts every group is right
 none-right : (gs : List Group) (s : List ℕ) → length s ≡ 0 → groupsRight gs (partsOf s) ≡ true

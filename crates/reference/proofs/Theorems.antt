@@ -19,9 +19,9 @@ use Rattle.text.proofs.Laws.{both-true, all-passes, bytes-within}
 use Rattle.models.specs.declared.Model.{Model}
 use Rattle.models.specs.Models.{modelNumber, modelOf}
 use Rattle.parts.specs.Parts.{partsOf, formed}
+use Rattle.parts.proofs.Pieces.{formed-bytes}
 use Rattle.groups.specs.Groups.{partsRight}
 use Rattle.reference.specs.Answers.{obeys, textVerdict, modelledVerdict, numberVerdict, referenceVerdict}
-use Rattle.parts.proofs.Pieces.{formed-bytes}
 
 -- ---------------------------------------------------------------------------
 -- Accepted exactly when

@@ -1,8 +1,8 @@
 -- What judging a reference answers: 5 and 7 of its model, 3 and 4 of its bytes, 8 and 9 of its parts and groups, in the order of the
 -- slip's fields 11 and 12.
-use Prim.Native.Nat.{ℕ}
 use mathlib.Core.Bool.{Bool, _&&_}
 use mathlib.Core.List.{List}
+use Prim.Native.Nat.{ℕ}
 use lib.Dec.{leb}
 use lib.ListN.{length}
 use Rattle.refusal.specs.Verdict.{onlyIf, andThen}

@@ -1,6 +1,6 @@
 -- `boundary::tell` meets its contract. Assumes nothing.
-use Rattle.boundary.specs.Told.{toldOf}
 use borrow.Author.Needs.{needs}
+use Rattle.boundary.specs.Told.{toldOf}
 use Rattle.boundary.proofs.tell.Statement.{statement}
 use Rattle.boundary.proofs.tell.Tie as tie
 

@@ -1,4 +1,4 @@
--- `reference::group_at` meets its contract: each return is the definition's choice on the tests that led there. Assumes nothing.
+-- `groups::group_at` meets its contract: each return is the definition's choice on the tests that led there. Assumes nothing.
 use mathlib.Core.Path.{sym, _∙_}
 use borrow.Author.Needs.{needs}
 use borrow.Author.Tests.{eq-eqb, ne-eqb}

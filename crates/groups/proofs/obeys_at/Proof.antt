@@ -1,7 +1,7 @@
--- `reference::obeys_at` meets its contract. The loop's invariant: the groups are right where those from `i` on are. Assumes nothing.
-use Prim.Native.Nat.{ℕ, _≤_, _-_}
+-- `groups::obeys_at` meets its contract. The loop's invariant: the groups are right where those from `i` on are. Assumes nothing.
 use mathlib.Core.List.{List, map}
 use mathlib.Core.Path.{_≡_, refl, sym, _∙_}
+use Prim.Native.Nat.{ℕ, _≤_, _-_}
 use native.Mathlib.Omega.{arith}
 use lib.ListN.{length, drop, length-map}
 use borrow.Author.Needs.{needs}

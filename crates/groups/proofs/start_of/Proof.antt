@@ -1,7 +1,7 @@
--- `reference::start_of` meets its contract: the first part begins at 0, another behind the hyphen that ends the one before. Assumes nothing.
+-- `groups::start_of` meets its contract: the first part begins at 0, another behind the hyphen that ends the one before. Assumes nothing.
+use native.Mathlib.Omega.{arith}
 use borrow.Author.Needs.{needs}
 use borrow.Author.Tests.{ne-eqb}
-use native.Mathlib.Omega.{arith}
 use Rattle.groups.proofs.start_of.Statement.{statement}
 use Rattle.groups.proofs.start_of.Tie as tie
 

@@ -1,4 +1,4 @@
--- `reference::stretch_right` meets its contract: what does not stand in the text fails. Assumes nothing.
+-- `groups::stretch_right` meets its contract: what does not stand in the text fails. Assumes nothing.
 use mathlib.Core.Path.{refl, sym}
 use borrow.Author.Needs.{needs}
 use borrow.Author.Tests.{lt-leb, le-leb}

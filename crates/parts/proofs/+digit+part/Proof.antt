@@ -1,17 +1,18 @@
-use borrow.Author.Needs.{needs}
+use mathlib.Core.Path.{_≡_, refl, sym, ap, _∙_}
 use Prim.Native.Nat.{ℕ, _+_, _-_, _≤_, _<_}
 use native.Mathlib.Omega.{arith}
 use native.Mathlib.Nat.{add-zero}
-use mathlib.Core.Path.{_≡_, refl, sym, ap, _∙_}
 use lib.ListN.{length, take, drop, length-drop}
+use borrow.Author.Needs.{needs}
 use borrow.Author.Tests.{lt-ltb, le-ltb, le-leb, lt-leb}
+use borrow.Fn.Kinds.{In}
+use borrow.Fn.PlainCycle.{Measures, is, falls, and}
 use Rattle.text.specs.Split.{split}
 use Rattle.text.proofs.Laws.{left, entered, and-first, and-second, to-the-end}
+use Rattle.text.proofs.is_digit.Reads as is-digit-reads
 use Rattle.parts.specs.Ends.{digitRead}
 use Rattle.parts.proofs.Pieces.{short-span}
 use Rattle.parts.proofs.Readers.{digits-end, digits-on, digits-break, handed-none, handed-on, part-judged, read-small, unread}
-use borrow.Fn.Kinds.{In}
-use borrow.Fn.PlainCycle.{Measures, is, falls, and}
 use Rattle.parts.proofs.digit.Reads as digit
 use Rattle.parts.proofs.digit.Kinds as digit-kinds
 use Rattle.parts.proofs.+digit+part.Lts-digit as digit-lts
@@ -19,7 +20,6 @@ use Rattle.parts.proofs.part.Reads as part
 use Rattle.parts.proofs.part.Kinds as part-kinds
 use Rattle.parts.proofs.+digit+part.Lts-part as part-lts
 use Rattle.parts.proofs.wide.Reads as wide-reads
-use Rattle.text.proofs.is_digit.Reads as is-digit-reads
 use Rattle.parts.proofs.+digit+part.{statement}
 use Rattle.parts.proofs.+digit+part.Tie.{close}
 

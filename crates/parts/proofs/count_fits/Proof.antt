@@ -1,4 +1,4 @@
--- `reference::count_fits` meets its contract: each return is the definition's choice on the tests that led there. Assumes nothing.
+-- `parts::count_fits` meets its contract: each return is the definition's choice on the tests that led there. Assumes nothing.
 use mathlib.Core.Path.{ap}
 use mathlib.Core.Bool.{not}
 use Prim.Native.Nat.{ℕ}

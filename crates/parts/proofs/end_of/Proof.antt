@@ -1,4 +1,4 @@
--- `reference::end_of` meets its contract: ten bits for each end; a power of 1024 above the sixth is beyond every number. Assumes nothing.
+-- `parts::end_of` meets its contract: ten bits for each end; a power of 1024 above the sixth is beyond every number. Assumes nothing.
 use mathlib.Core.Path.{_≡_, refl, sym, ap, _∙_}
 use Prim.Native.Nat.{ℕ, zero, suc, _*_, _^_, _≤_}
 use native.Mathlib.Omega.{arith}

@@ -1,9 +1,9 @@
--- `reference::parts` meets its contract: of no byte the definition's choice on the fewest parts, nothing in a text that is too long, and else
+-- `parts::parts` meets its contract: of no byte the definition's choice on the fewest parts, nothing in a text that is too long, and else
 -- what the readers read, where there are as many parts as the model asks. Assumes nothing.
 use mathlib.Core.Path.{_≡_, refl, sym, _∙_}
+use Prim.Native.Nat.{_≤_}
 use native.Mathlib.Omega.{arith}
 use lib.ListN.{length}
-use Prim.Native.Nat.{_≤_}
 use borrow.Author.Needs.{needs}
 use borrow.Author.Tests.{eq-eqb, ne-eqb}
 use Rattle.text.proofs.Laws.{taken, left}

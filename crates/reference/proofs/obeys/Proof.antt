@@ -1,16 +1,16 @@
 -- `reference::obeys` meets its contract: what is found is judged by its groups, and what is not does not obey. Assumes nothing.
 use mathlib.Core.Path.{_≡_, sym, _∙_}
+use Prim.Native.Nat.{_≤_}
 use native.Mathlib.Omega.{arith}
 use lib.ListN.{length}
-use Prim.Native.Nat.{_≤_}
 use borrow.Author.Needs.{needs}
 use Rattle.text.proofs.Laws.{and-first}
 use Rattle.parts.proofs.Pieces.{Bytes, formed-short}
 use Rattle.parts.proofs.Laws.{found-none, found-formed}
+use Rattle.groups.proofs.Stretches.{obeys-at}
 use Rattle.reference.proofs.Laws.{found-obeys}
 use Rattle.reference.proofs.obeys.Statement.{statement}
 use Rattle.reference.proofs.obeys.Tie as tie
-use Rattle.groups.proofs.Stretches.{obeys-at}
 
 -- the model's lengths are bytes
 bytes : (c : tie.Start) → Bytes (c .args .model .lengths)

@@ -1,0 +1,2 @@
+-- The laws of the crate `desk_checks`.
+pub mod Laws

@@ -1,0 +1,2 @@
+-- The definitions of the crate `desk_checks`.
+pub mod Made

@@ -1,0 +1,2 @@
+-- The laws of the crate `desk_record`.
+pub mod Theorems

@@ -1,0 +1,2 @@
+-- The definitions of the crate `desk_record`.
+pub mod Record

@@ -1,0 +1,3 @@
+-- The laws of the crate `desk_slips`.
+pub mod Laws
+pub mod Theorems

@@ -1,0 +1,39 @@
+-- What the calls of slips tell at the boundary, and what a call that writes answers and leaves.
+use mathlib.Core.List.{List, []}
+use mathlib.Core.Path.{_≡_}
+use Prim.Native.Nat.{ℕ}
+use lib.ListN.{getD, length}
+use Rattle.slip.specs.declared.Amount.{Amount}
+use Rattle.slip.specs.declared.Amount.the-variants as amount
+use Rattle.slip_writer.specs.declared.Written.{Written}
+use Rattle.slip_writer.specs.declared.Written.the-variants as written
+use Rattle.slip_writer.specs.Steps.{eleven}
+use Rattle.slip_writer.specs.Writer as slip
+use Rattle.wage_draft.specs.Fields.{fieldsOf}
+use Rattle.boundary.specs.declared.Valued.{Valued}
+use Rattle.boundary.specs.Told.{accepted, refusal, valued}
+
+-- an amount
+unfoldable pub centsTold : Amount → Valued
+centsTold (amount.Cents n) = valued accepted n
+centsTold (amount.Refused r) = valued (refusal r) 0
+
+-- how many bytes were written
+unfoldable pub writtenOf : Written → Valued
+writtenOf (written.Bytes n) = valued accepted n
+writtenOf (written.Refused r) = valued (refusal r) 0
+
+-- a field of a text of fields one behind the other; one that is not there is empty
+unfoldable pub givenOf : List ℕ → List ℕ → ℕ → List ℕ
+givenOf sizes text k = getD (fieldsOf sizes text) k []
+
+-- the fields 4 to 14 of a slip, one behind the other in a text; one that is not there is empty
+abbrev pub elevenOf : List ℕ → List ℕ → List (List ℕ)
+elevenOf sizes text =
+    eleven (givenOf sizes text 0) (givenOf sizes text 1) (givenOf sizes text 2) (givenOf sizes text 3) (givenOf sizes text 4) (givenOf sizes text 5)
+    (givenOf sizes text 6) (givenOf sizes text 7) (givenOf sizes text 8) (givenOf sizes text 9) (givenOf sizes text 10)
+
+-- a slip
+pub record WritesSlipGiven (cents : ℕ) (fields : List (List ℕ)) (out : List ℕ) (r : Valued) (after : List ℕ) : Type 0 where
+  pub answers : r ≡ writtenOf (slip.writeAnswer cents fields (length out))
+  pub leaves : after ≡ slip.leftBy (slip.writeAnswer cents fields (length out)) (slip.slipText cents fields) out

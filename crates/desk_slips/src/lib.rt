@@ -1,0 +1,106 @@
+// The desk's calls of slips, for callers in other languages.
+//
+// Each call is thin: it calls the proved one and tells its answer by the crate boundary. include/lanecockle.h declares it
+// for C. No call has a `requires`: whatever numbers and bytes arrive get an answer.
+ghost use mathlib.Core.Path.{_≡_};
+ghost use lib.ListN.{take};
+ghost use Rattle.slip.specs.Slip.{slipAnswer, fieldPart, centsOf};
+ghost use Rattle.boundary.specs.Told.{toldOf};
+ghost use Rattle.desk_slips.specs.Slips.{centsTold, writtenOf, givenOf, elevenOf, WritesSlipGiven};
+use boundary::Told;
+use boundary::Valued;
+use slip::Amount;
+use slip_writer::Written;
+use text::Part;
+
+// A slip's amount.
+fn tell_amount(a: Amount) -> Valued
+    ensures { λ r. ⌜ r ≡ centsTold a ⌝ }
+{
+    match a {
+        Amount::Cents(n) => boundary::accept_value(n as usize),
+        Amount::Refused(r) => boundary::refuse_value(r),
+    }
+}
+
+// How many bytes a slip was written with.
+fn tell_written(w: Written) -> Valued
+    ensures { λ r. ⌜ r ≡ writtenOf w ⌝ }
+{
+    match w {
+        Written::Bytes(n) => boundary::accept_value(n),
+        Written::Refused(r) => boundary::refuse_value(r),
+    }
+}
+
+// The front of a text, as far as it goes.
+fn front(s: &[u8], n: usize) -> &[u8]
+    ensures { λ r. ⌜ now r ≡ take n (now (s .entry)) ⌝ }
+{
+    if s.len() < n {
+        return s;
+    }
+    &s[0..n]
+}
+
+// A field of a text of fields one behind the other: what `sizes` gives it, as far as the text goes.
+fn given<'a>(text: &'a [u8], sizes: &[usize], k: usize) -> &'a [u8]
+    ensures { λ r. ⌜ now r ≡ givenOf (now (sizes .entry)) (now (text .entry)) k ⌝ }
+{
+    front(
+        wage_draft::text_behind(text, sizes, k),
+        wage_draft::size_at(sizes, k),
+    )
+}
+
+// Reads a slip.
+#[no_mangle]
+pub extern "C" fn lanecockle_slip_read(slip: &[u8]) -> Told
+    ensures { λ r. ⌜ r ≡ toldOf (slipAnswer (now (slip .entry))) ⌝ }
+{
+    boundary::tell(slip::read(slip))
+}
+
+// Where a field of an accepted slip stands, 4 to 14; else no part.
+#[no_mangle]
+pub extern "C" fn lanecockle_slip_field(slip: &[u8], number: usize) -> Part
+    ensures { λ r. ⌜ r ≡ fieldPart (now (slip .entry)) number ⌝ }
+{
+    slip::part(slip, number)
+}
+
+// The amount of an accepted slip in cents.
+#[no_mangle]
+pub extern "C" fn lanecockle_slip_cents(slip: &[u8]) -> Valued
+    ensures { λ r. ⌜ r ≡ centsTold (centsOf (now (slip .entry))) ⌝ }
+{
+    tell_amount(slip::cents(slip))
+}
+
+// Writes a slip of an amount in cents and the fields 4 to 14, which stand one behind the other in `text`; the value is how
+// many bytes were written.
+#[no_mangle]
+pub extern "C" fn lanecockle_slip_write(
+    cents: u64,
+    text: &[u8],
+    sizes: &[usize],
+    out: &mut [u8],
+) -> Valued
+    ensures { λ r. ⌜ WritesSlipGiven cents (elevenOf (now (sizes .entry)) (now (text .entry))) (now (out .entry)) r (now (out .exit)) ⌝ }
+{
+    tell_written(slip_writer::write(
+        cents,
+        given(text, sizes, 0),
+        given(text, sizes, 1),
+        given(text, sizes, 2),
+        given(text, sizes, 3),
+        given(text, sizes, 4),
+        given(text, sizes, 5),
+        given(text, sizes, 6),
+        given(text, sizes, 7),
+        given(text, sizes, 8),
+        given(text, sizes, 9),
+        given(text, sizes, 10),
+        out,
+    ))
+}

@@ -1,0 +1,1 @@
+-- The laws of the crate `desk_wet`.

@@ -1,0 +1,2 @@
+-- The definitions of the crate `desk_wet`.
+pub mod Listed

@@ -1,0 +1,3 @@
+-- The laws of the crate `desk_writers`.
+pub mod Laws
+pub mod Theorems

@@ -1,0 +1,13 @@
+-- What a call that writes a wage line answers and leaves.
+use mathlib.Core.Path.{_≡_}
+use mathlib.Core.List.{List}
+use Prim.Native.Nat.{ℕ}
+use Rattle.refusal.specs.declared.Answer.{Answer}
+use Rattle.wage_writer.specs.Writer as wage
+use Rattle.boundary.specs.Told.{toldOf}
+use Rattle.boundary.specs.declared.Told.{Told}
+
+-- a wage line
+pub record WritesLine (a : Answer) (line out : List ℕ) (r : Told) (after : List ℕ) : Type 0 where
+  pub answers : r ≡ toldOf a
+  pub leaves : after ≡ wage.leftBy a line out
