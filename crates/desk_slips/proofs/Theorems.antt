@@ -4,8 +4,8 @@ use mathlib.Core.List.{List}
 use Prim.Native.Nat.{ℕ}
 use lib.ListN.{length, take, drop}
 use Rattle.text.specs.declared.Part.{Part}
-use Rattle.slip.specs.Slip.{fieldPart, fieldOf}
-use Rattle.slip.proofs.Laws.{field-stands}
+use Rattle.slip_handed.specs.Handed.{fieldPart, fieldOf}
+use Rattle.slip_handed.proofs.Laws.{field-stands}
 use Rattle.boundary.specs.declared.Valued.{Valued}
 use Rattle.desk_slips.specs.Slips.{WritesSlipGiven}
 

@@ -3,8 +3,8 @@ use mathlib.Core.List.{List, []}
 use mathlib.Core.Path.{_≡_}
 use Prim.Native.Nat.{ℕ}
 use lib.ListN.{getD, length}
-use Rattle.slip.specs.declared.Amount.{Amount}
-use Rattle.slip.specs.declared.Amount.the-variants as amount
+use Rattle.slip_handed.specs.declared.Amount.{Amount}
+use Rattle.slip_handed.specs.declared.Amount.the-variants as amount
 use Rattle.slip_writer.specs.declared.Written.{Written}
 use Rattle.slip_writer.specs.declared.Written.the-variants as written
 use Rattle.slip_writer.specs.Steps.{eleven}

@@ -4,12 +4,13 @@
 // for C. No call has a `requires`: whatever numbers and bytes arrive get an answer.
 ghost use mathlib.Core.Path.{_≡_};
 ghost use lib.ListN.{take};
-ghost use Rattle.slip.specs.Slip.{slipAnswer, fieldPart, centsOf};
+ghost use Rattle.slip.specs.Slip.{slipAnswer};
+ghost use Rattle.slip_handed.specs.Handed.{fieldPart, centsOf};
 ghost use Rattle.boundary.specs.Told.{toldOf};
 ghost use Rattle.desk_slips.specs.Slips.{centsTold, writtenOf, givenOf, elevenOf, WritesSlipGiven};
 use boundary::Told;
 use boundary::Valued;
-use slip::Amount;
+use slip_handed::Amount;
 use slip_writer::Written;
 use text::Part;
 
@@ -66,7 +67,7 @@ pub extern "C" fn lanecockle_slip_read(slip: &[u8]) -> Told
 pub extern "C" fn lanecockle_slip_field(slip: &[u8], number: usize) -> Part
     ensures { λ r. ⌜ r ≡ fieldPart (now (slip .entry)) number ⌝ }
 {
-    slip::part(slip, number)
+    slip_handed::part(slip, number)
 }
 
 // The amount of an accepted slip in cents.
@@ -74,7 +75,7 @@ pub extern "C" fn lanecockle_slip_field(slip: &[u8], number: usize) -> Part
 pub extern "C" fn lanecockle_slip_cents(slip: &[u8]) -> Valued
     ensures { λ r. ⌜ r ≡ centsTold (centsOf (now (slip .entry))) ⌝ }
 {
-    tell_amount(slip::cents(slip))
+    tell_amount(slip_handed::cents(slip))
 }
 
 // Writes a slip of an amount in cents and the fields 4 to 14, which stand one behind the other in `text`; the value is how

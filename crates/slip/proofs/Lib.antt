@@ -1,4 +1,3 @@
 -- What the proofs of `slip` share, and what its definitions promise.
 pub mod Laws
 pub mod Theorems
-pub mod Amounts

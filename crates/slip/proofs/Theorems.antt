@@ -13,18 +13,16 @@ use borrow.Author.Tests.{eq-eqb, eqb-true, leb-true}
 use Rattle.refusal.specs.Only.{Only, defined-only}
 use Rattle.refusal.specs.Refusal.{none}
 use Rattle.refusal.specs.Verdict.{answerAt}
-use Rattle.refusal.proofs.Verdicts.{answer-accepted, first-both}
 use Rattle.refusal.specs.declared.Answer.{Answer}
 use Rattle.refusal.specs.declared.Answer.the-variants.{Accepted, Refused}
 use Rattle.refusal.specs.declared.Refusal.{Refusal}
 use Rattle.refusal.specs.declared.Refusal.the-variants.{Size, Ends}
+use Rattle.refusal.proofs.Verdicts.{answer-accepted, first-both}
 use Rattle.text.specs.Bytes.{countOf}
-use Rattle.text.specs.declared.Part.{Part}
 use Rattle.text.specs.Split.{split}
 use Rattle.text.proofs.Laws.{both-true, and-second}
 use Rattle.slip_fields.specs.Fields.{fieldVerdict}
-use Rattle.slip.specs.declared.Amount.{Amount}
-use Rattle.slip.specs.Slip.{centsOf, slipEnds, fieldsAnswer, slipAnswer, pieceOf, fieldPart, fieldOf}
+use Rattle.slip.specs.Slip.{slipEnds, fieldsAnswer, slipAnswer, pieceOf}
 use Rattle.slip.proofs.Laws.{pieces-counted, fields-judged}
 
 -- ---------------------------------------------------------------------------
@@ -100,12 +98,3 @@ module _ (s : List ℕ) where
 
 pub read-only : (s : List ℕ) → Only (λ (r : Answer). r ≡ slipAnswer s)
 read-only s = defined-only (slipAnswer s)
-
-pub part-only : (s : List ℕ) (n : ℕ) → Only (λ (r : Part). r ≡ fieldPart s n)
-part-only s n = defined-only (fieldPart s n)
-
-pub field-only : (s : List ℕ) (n : ℕ) → Only (λ (r : List ℕ). r ≡ fieldOf s n)
-field-only s n = defined-only (fieldOf s n)
-
-pub cents-only : (s : List ℕ) → Only (λ (r : Amount). r ≡ centsOf s)
-cents-only s = defined-only (centsOf s)

@@ -1,21 +1,16 @@
 -- Document 01, "The slip's fourteen fields": what reading a slip answers, and its fields.
-use Prim.Native.Nat.{ℕ, zero, suc, _+_, _-_}
 use mathlib.Core.Bool.{Bool, cond, _&&_}
 use mathlib.Core.List.{List, [], _∷_}
+use Prim.Native.Nat.{ℕ, _+_, _-_}
 use lib.Dec.{eqb, leb}
 use lib.ListN.{length, getD}
-use Rattle.refusal.specs.Refusal.{none, isAccepted, firstOf}
+use Rattle.refusal.specs.Refusal.{none, firstOf}
 use Rattle.refusal.specs.Verdict.{answerAt}
 use Rattle.refusal.specs.declared.Answer.{Answer}
 use Rattle.refusal.specs.declared.Answer.the-variants.{Accepted, Refused}
 use Rattle.refusal.specs.declared.Refusal.the-variants.{Size, Ends}
-use Rattle.text.specs.declared.Part.{Part}
 use Rattle.text.specs.Bytes.{countOf}
-use Rattle.text.specs.Digits.{digitsOf, valueOf}
 use Rattle.text.specs.Split.{split}
-use Rattle.slip.specs.declared.Amount.{Amount}
-use Rattle.slip.specs.declared.Amount.the-variants as amount
-use Rattle.slip.specs.declared.Amount.the-variants.{Cents}
 use Rattle.slip_fields.specs.Fields.{fieldVerdict}
 
 -- ---------------------------------------------------------------------------
@@ -41,47 +36,6 @@ slipAnswer s =
     (cond (slipEnds s) (fieldsAnswer 1 0 [] (split 10 s)) (Refused (Ends none)))
     (Refused (Size none))
 
--- ---------------------------------------------------------------------------
--- A field of a slip
-
 -- the piece at a place, counted from 0; nothing past the end
 unfoldable pub pieceOf : ℕ → List (List ℕ) → List ℕ
 pieceOf k ps = getD ps k []
-
--- a field is handed out: 4 to 14, of an accepted slip
-abbrev pub isHanded : List ℕ → ℕ → Bool
-isHanded s n = leb 4 n && (leb n 14 && isAccepted (slipAnswer s))
-
--- "hands back each text field as the part of the lent bytes where it stands, 10 to 13 too (1 to 3 empty)"; an unknown number and a refused
--- slip give an empty one
-unfoldable pub fieldOf : List ℕ → ℕ → List ℕ
-fieldOf s n = cond (isHanded s n) (pieceOf (n - 1) (split 10 s)) []
-
--- where the piece at a place begins, behind the pieces before it and their line feeds
-unfoldable pub startOf : ℕ → List (List ℕ) → ℕ
-startOf zero ps = 0
-startOf (suc k) [] = 0
-startOf (suc k) (p ∷ []) = 0
-startOf (suc k) (p ∷ (q ∷ ps)) = length p + 1 + startOf k (q ∷ ps)
-
--- the same field told as start and length
-abbrev pub piecePart : ℕ → List (List ℕ) → Part
-piecePart k ps = record { start = startOf k ps; length = length (pieceOf k ps) }
-
-unfoldable pub fieldPart : List ℕ → ℕ → Part
-fieldPart s n = cond (isHanded s n) (piecePart (n - 1) (split 10 s)) (record { start = 0; length = 0 })
-
--- ---------------------------------------------------------------------------
--- The amount of a slip
-
--- the number that its field 3 writes
-abbrev pub amountOf : List ℕ → ℕ
-amountOf s = valueOf (digitsOf (pieceOf 2 (split 10 s)))
-
-abbrev pub centsFrom : List ℕ → Answer → Amount
-centsFrom s Accepted = Cents (amountOf s)
-centsFrom s (Refused r) = amount.Refused r
-
--- the amount of an accepted slip in cents; else its refusal
-abbrev pub centsOf : List ℕ → Amount
-centsOf s = centsFrom s (slipAnswer s)

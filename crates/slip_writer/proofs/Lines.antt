@@ -12,7 +12,6 @@ use Rattle.text.proofs.Laws.{both-true}
 use Rattle.text.specs.Bytes.{allOf, countOf}
 use Rattle.text.specs.declared.Class.the-variants.{Line}
 use Rattle.text.specs.Split.{longer, split}
-use Rattle.slip.specs.Slip.{}
 use Rattle.slip_writer.specs.Writer.{joinLines}
 use Rattle.slip_writer.specs.Claims.{EachLine, none, more, linesOf}
 

@@ -8,7 +8,8 @@ use Rattle.refusal.specs.declared.Answer.the-variants.{Accepted}
 use Rattle.text.specs.Bytes.{allOf}
 use Rattle.text.specs.declared.Class.the-variants.{Line}
 use Rattle.text.specs.Split.{split}
-use Rattle.slip.specs.Slip.{amountOf, slipAnswer, pieceOf, fieldOf}
+use Rattle.slip_handed.specs.Handed.{amountOf, fieldOf}
+use Rattle.slip.specs.Slip.{pieceOf, slipAnswer}
 use Rattle.text.specs.Digits.{digitsText}
 use Rattle.slip_writer.specs.Writer.{slipText, givenAnswer}
 use Rattle.slip_writer.specs.Steps.{eleven}

@@ -55,6 +55,6 @@ fn write_amount(s: &[u8]) {
 fn write_field(s: &[u8], n: usize) {
     say_number(n);
     say(b"=");
-    say(slip::field(s, n));
+    say(slip_handed::field(s, n));
     say(b"\n");
 }

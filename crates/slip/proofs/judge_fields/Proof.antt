@@ -1,10 +1,10 @@
 -- `slip::judge_fields` meets its contract. The loop's invariant: the answer is that of the pieces from `at` on, from field `n` on, after
 -- the field that stands from `before` to `end`. Assumes nothing.
-use Prim.Native.Nat.{_+_, _-_}
 use mathlib.Core.Path.{sym, _∙_}
+use Prim.Native.Nat.{_+_, _-_}
 use native.Mathlib.Omega.{arith}
-use borrow.Author.Needs.{needs}
 use lib.ListN.{length, drop, length-take, length-drop}
+use borrow.Author.Needs.{needs}
 use Rattle.slip.proofs.Laws.{Reached, reached-first, reached-ends, reached-next, reached-refusal, reached-last}
 use Rattle.slip.proofs.judge_fields.Statement.{statement}
 use Rattle.slip.proofs.judge_fields.Tie as tie

@@ -1,8 +1,8 @@
 -- `slip::read` meets its contract: each return is the definition's choice on the tests that led there. Assumes nothing.
 use mathlib.Core.Path.{sym, _∙_}
 use borrow.Author.Tests.{not-true, not-false}
-use Rattle.slip.proofs.Laws.{too-long, ends-wrong, fields-judged}
 use borrow.Author.Needs.{needs}
+use Rattle.slip.proofs.Laws.{too-long, ends-wrong, fields-judged}
 use Rattle.slip.proofs.read.Statement.{statement}
 use Rattle.slip.proofs.read.Tie as tie
 

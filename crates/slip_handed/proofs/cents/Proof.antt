@@ -1,19 +1,19 @@
 -- `slip::cents` meets its contract: an accepted slip's third field has fifteen digits. Assumes nothing.
 use mathlib.Core.Path.{_≡_, sym, ap, _∙_}
-use native.Mathlib.Omega.{arith}
 use mathlib.Core.List.{List}
 use Prim.Native.Nat.{ℕ}
+use native.Mathlib.Omega.{arith}
 use lib.ListN.{take}
+use borrow.Author.Needs.{needs}
 use Rattle.text.specs.Split.{split}
 use Rattle.sums.specs.Sums.{numberOf}
 use Rattle.sums.proofs.Theorems.{number-of-all}
 use Rattle.slip.specs.Slip.{pieceOf}
-use Rattle.slip.specs.declared.Amount.the-variants.{Cents}
-use Rattle.slip.proofs.Laws.{piece-stands}
-use Rattle.slip.proofs.Amounts.{third-size}
-use borrow.Author.Needs.{needs}
-use Rattle.slip.proofs.cents.Statement.{statement}
-use Rattle.slip.proofs.cents.Tie as tie
+use Rattle.slip_handed.specs.declared.Amount.the-variants.{Cents}
+use Rattle.slip_handed.proofs.Laws.{piece-stands}
+use Rattle.slip_handed.proofs.Amounts.{third-size}
+use Rattle.slip_handed.proofs.cents.Statement.{statement}
+use Rattle.slip_handed.proofs.cents.Tie as tie
 
 bytes-requires : tie.Need-bytes-requires
 bytes-requires c κs = rw (c .piece .ensures) (piece-stands 2 (c .before .before .before .before .before .args .s .now) .0)

@@ -2,11 +2,11 @@
 use mathlib.Core.Path.{sym, _∙_}
 use native.Mathlib.Omega.{arith}
 use lib.Seq.{length-take-le}
-use Rattle.slip.specs.Slip.{pieceOf}
-use Rattle.slip.proofs.Laws.{split-at, split-whole}
 use borrow.Author.Needs.{needs}
-use Rattle.slip.proofs.first_length.Statement.{statement}
-use Rattle.slip.proofs.first_length.Tie as tie
+use Rattle.slip.specs.Slip.{pieceOf}
+use Rattle.slip.proofs.Laws.{split-at, split-whole}
+use Rattle.slip_handed.proofs.first_length.Statement.{statement}
+use Rattle.slip_handed.proofs.first_length.Tie as tie
 
 returns : tie.Need-returns
 unfolding pieceOf

@@ -3,8 +3,8 @@ use mathlib.Core.Path.{_≡_}
 use Prim.Native.Nat.{_+_, _-_}
 use native.Mathlib.Omega.{arith}
 use borrow.Author.Needs.{needs}
-use Rattle.slip.proofs.bytes.Statement.{statement}
-use Rattle.slip.proofs.bytes.Tie as tie
+use Rattle.slip_handed.proofs.bytes.Statement.{statement}
+use Rattle.slip_handed.proofs.bytes.Tie as tie
 
 returns : tie.Need-returns
 returns c = let p = c .before .args .p in let e : p .start + p .length - p .start ≡ p .length = omega arith in rw e

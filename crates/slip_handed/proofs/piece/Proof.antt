@@ -1,15 +1,16 @@
 -- `slip::piece` meets its contract. The loop's invariant: the piece is the one that is left to count, of what is left from `at` on.
 -- Assumes nothing.
-use Prim.Native.Nat.{_≤_}
 use mathlib.Core.Path.{_≡_, sym, _∙_}
+use Prim.Native.Nat.{_≤_}
 use native.Mathlib.Omega.{arith}
 use lib.ListN.{length, drop}
-use Rattle.text.specs.Split.{split}
-use Rattle.slip.specs.Slip.{piecePart}
-use Rattle.slip.proofs.Laws.{behind, behind-none, next-piece, piece-again, piece-none, piece-here}
 use borrow.Author.Needs.{needs}
-use Rattle.slip.proofs.piece.Statement.{statement}
-use Rattle.slip.proofs.piece.Tie as tie
+use Rattle.text.specs.Split.{split}
+use Rattle.slip.proofs.Laws.{next-piece}
+use Rattle.slip_handed.specs.Handed.{piecePart}
+use Rattle.slip_handed.proofs.Laws.{behind, behind-none, piece-again, piece-none, piece-here}
+use Rattle.slip_handed.proofs.piece.Statement.{statement}
+use Rattle.slip_handed.proofs.piece.Tie as tie
 
 abbrev Inv-loop : tie.InvT-loop
 Inv-loop s k left₀ at₀ left at = (at ≤ length s) × (piecePart k (split 10 s) ≡ behind at (piecePart left (split 10 (drop at s))))

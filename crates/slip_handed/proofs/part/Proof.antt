@@ -1,10 +1,10 @@
 -- `slip::part` meets its contract: each return is the definition's choice on the tests that led there. Assumes nothing.
 use mathlib.Core.Path.{sym, _∙_}
 use borrow.Author.Tests.{not-true, not-false, lt-leb, le-leb}
-use Rattle.slip.proofs.Laws.{not-handed, handed}
 use borrow.Author.Needs.{needs}
-use Rattle.slip.proofs.part.Statement.{statement}
-use Rattle.slip.proofs.part.Tie as tie
+use Rattle.slip_handed.proofs.Laws.{not-handed, handed}
+use Rattle.slip_handed.proofs.part.Statement.{statement}
+use Rattle.slip_handed.proofs.part.Tie as tie
 
 returns : tie.Need-returns
 returns c = not-handed _ _ (rw (lt-leb 4 _ (c .if1 .taken)))

@@ -1,7 +1,7 @@
 -- `slip::is_accepted` meets its contract. Assumes nothing.
 use borrow.Author.Needs.{needs}
-use Rattle.slip.proofs.is_accepted.Statement.{statement}
-use Rattle.slip.proofs.is_accepted.Tie as tie
+use Rattle.slip_handed.proofs.is_accepted.Statement.{statement}
+use Rattle.slip_handed.proofs.is_accepted.Tie as tie
 
 returns : tie.Need-returns
 returns c = rw (c .is-accepted .ensures, c .before .read .ensures)

@@ -5,11 +5,11 @@ use mathlib.Core.List.{List}
 use Prim.Native.Nat.{ℕ}
 use native.Mathlib.Omega.{arith}
 use lib.ListN.{length}
-use Rattle.text.specs.Split.{split}
 use Rattle.refusal.specs.declared.Answer.the-variants.{Accepted}
+use Rattle.text.specs.Split.{split}
 use Rattle.slip_fields.proofs.Theorems.{third-is-digits}
 use Rattle.slip.specs.Slip.{slipAnswer, pieceOf}
 use Rattle.slip.proofs.Theorems.{accepted-exactly}
 
 -- ---------------------------------------------------------------------------
 -- An accepted slip's third field

@@ -1,9 +1,10 @@
 -- `slip::field` meets its contract: the bytes of the field's part. Assumes nothing.
 use mathlib.Core.Path.{_∙_}
-use Rattle.slip.proofs.Laws.{field-stands}
 use borrow.Author.Needs.{needs}
-use Rattle.slip.proofs.field.Statement.{statement}
-use Rattle.slip.proofs.field.Tie as tie
+use Rattle.slip.proofs.Laws.{part}
+use Rattle.slip_handed.proofs.Laws.{field-stands}
+use Rattle.slip_handed.proofs.field.Statement.{statement}
+use Rattle.slip_handed.proofs.field.Tie as tie
 
 bytes-requires : tie.Need-bytes-requires
 bytes-requires c κs = rw (c .part .ensures) (field-stands (c .before .before .args .s .now) (c .before .before .args .n) .0)
