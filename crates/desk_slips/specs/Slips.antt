@@ -7,7 +7,7 @@ use Rattle.slip_handed.specs.declared.Amount.{Amount}
 use Rattle.slip_handed.specs.declared.Amount.the-variants as amount
 use Rattle.slip_writer.specs.declared.Written.{Written}
 use Rattle.slip_writer.specs.declared.Written.the-variants as written
-use Rattle.slip_writer.specs.Steps.{eleven}
+use Rattle.slip_given.specs.Given.{eleven}
 use Rattle.slip_writer.specs.Writer as slip
 use Rattle.wage_draft.specs.Fields.{fieldsOf}
 use Rattle.boundary.specs.declared.Valued.{Valued}

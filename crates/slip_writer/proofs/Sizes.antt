@@ -5,14 +5,14 @@ use Prim.Native.Nat.{ℕ, zero, suc, _+_, _≤_}
 use native.Mathlib.Omega.{arith}
 use lib.ListN.{length}
 use Rattle.refusal.specs.Verdict.{answerIn}
-use Rattle.refusal.proofs.Verdicts.{answer-accepted, first-both}
 use Rattle.refusal.specs.declared.Answer.{Answer}
 use Rattle.refusal.specs.declared.Answer.the-variants.{Accepted}
+use Rattle.refusal.proofs.Verdicts.{answer-accepted, first-both}
 use Rattle.slip_fields.specs.Fields.{fieldVerdict}
 use Rattle.slip_fields.specs.Sizes.{sizeOf}
 use Rattle.slip_fields.proofs.Theorems.{field-size}
-use Rattle.slip_writer.specs.Writer.{joinLines, slipText, givenAnswer}
-use Rattle.slip_writer.specs.Steps.{eleven}
+use Rattle.slip_given.specs.Given.{givenAnswer, eleven}
+use Rattle.slip_writer.specs.Writer.{joinLines, slipText}
 use Rattle.slip_writer.proofs.Laws.{lines-length, slip-length}
 
 -- of accepted fields the first is accepted, and so are those after it

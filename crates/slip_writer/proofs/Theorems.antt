@@ -15,20 +15,21 @@ use Rattle.refusal.specs.declared.Answer.{Answer}
 use Rattle.refusal.specs.declared.Answer.the-variants.{Accepted, Refused}
 use Rattle.refusal.specs.Refusal.{none}
 use Rattle.refusal.specs.declared.Refusal.{Refusal}
-use Rattle.text.proofs.Laws.{both-true}
-use Rattle.text.specs.Digits.{digitsOf, valueOf, digitsText}
-use Rattle.text.specs.Split.{split}
-use Rattle.room.proofs.Digits.{digits-length, text-digits, number-back, value-below, digits-again}
 use Rattle.refusal.specs.Verdict.{answerAt}
 use Rattle.refusal.proofs.Verdicts.{answer-accepted, first-both}
+use Rattle.text.specs.Digits.{digitsOf, valueOf, digitsText}
+use Rattle.text.specs.Split.{split}
+use Rattle.text.specs.Bytes.{countOf, eur}
+use Rattle.text.proofs.Laws.{both-true}
 use Rattle.slip_fields.specs.Fields.{hrvhub30, fieldVerdict}
 use Rattle.slip_fields.proofs.Theorems.{no-line-feed, first-is-hrvhub30, second-is-eur, third-is-digits, hrvhub30-accepted, eur-accepted, digits-accepted, before-matters-to-12-alone}
+use Rattle.room.proofs.Digits.{digits-length, text-digits, number-back, value-below, digits-again}
 use Rattle.slip.specs.Slip.{slipEnds, fieldsAnswer, slipAnswer, pieceOf}
 use Rattle.slip_handed.specs.Handed.{fieldOf, amountOf}
-use Rattle.text.specs.Bytes.{countOf, eur}
+use Rattle.slip_given.specs.Given.{givenAnswer}
 use Rattle.slip_writer.specs.declared.Written.{Written}
 use Rattle.slip_writer.specs.declared.Written.the-variants.{Bytes}
-use Rattle.slip_writer.specs.Writer.{joinLines, slipText, givenAnswer, afterFields, writeAnswer, leftBy}
+use Rattle.slip_writer.specs.Writer.{joinLines, slipText, afterFields, writeAnswer, leftBy}
 use Rattle.slip_writer.specs.Steps.{WritesSlip}
 use Rattle.slip_writer.specs.Claims.{EachLine, none as no-line, more, linesOf, fieldsOf, ReadsBack, WritesBack}
 use Rattle.slip_writer.proofs.Laws.{slip-length}

@@ -1,18 +1,18 @@
 -- What is claimed of slips written and read (proofs/Theorems.antt): lines, a slip's amount and fields, and what is read back.
-use Prim.Native.Nat.{ℕ, _-_, _^_, _≤_, _<_}
 use mathlib.Core.Path.{_≡_}
 use mathlib.Core.Bool.{true}
 use mathlib.Core.List.{List, [], _∷_}
+use Prim.Native.Nat.{ℕ, _-_, _^_, _≤_, _<_}
 use lib.ListN.{length, getD}
 use Rattle.refusal.specs.declared.Answer.the-variants.{Accepted}
 use Rattle.text.specs.Bytes.{allOf}
 use Rattle.text.specs.declared.Class.the-variants.{Line}
 use Rattle.text.specs.Split.{split}
-use Rattle.slip_handed.specs.Handed.{amountOf, fieldOf}
-use Rattle.slip.specs.Slip.{pieceOf, slipAnswer}
 use Rattle.text.specs.Digits.{digitsText}
-use Rattle.slip_writer.specs.Writer.{slipText, givenAnswer}
-use Rattle.slip_writer.specs.Steps.{eleven}
+use Rattle.slip.specs.Slip.{pieceOf, slipAnswer}
+use Rattle.slip_handed.specs.Handed.{amountOf, fieldOf}
+use Rattle.slip_given.specs.Given.{givenAnswer, eleven}
+use Rattle.slip_writer.specs.Writer.{slipText}
 
 -- no line feed stands in any of the texts
 pub data EachLine : List (List ℕ) → Type 0 where

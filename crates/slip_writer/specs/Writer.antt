@@ -1,17 +1,17 @@
 -- Document 01, "The slip's fourteen fields": what the writer of slips answers, and what it leaves in the lent room.
-use Prim.Native.Nat.{ℕ, _+_, _^_}
 use mathlib.Core.Bool.{cond}
 use mathlib.Core.List.{List, [], _∷_, _++_}
+use Prim.Native.Nat.{ℕ, _^_}
 use lib.Dec.{ltb}
 use lib.ListN.{length, drop}
-use Rattle.refusal.specs.Refusal.{none, firstOf}
-use Rattle.refusal.specs.Verdict.{answerIn}
+use Rattle.refusal.specs.Refusal.{none}
 use Rattle.refusal.specs.declared.Answer.{Answer}
 use Rattle.refusal.specs.declared.Answer.the-variants as answer
 use Rattle.refusal.specs.declared.Refusal.the-variants.{Length, Room}
 use Rattle.text.specs.Bytes.{eur}
 use Rattle.text.specs.Digits.{digitsText}
-use Rattle.slip_fields.specs.Fields.{hrvhub30, fieldVerdict}
+use Rattle.slip_fields.specs.Fields.{hrvhub30}
+use Rattle.slip_given.specs.Given.{givenAnswer}
 use Rattle.slip_writer.specs.declared.Written.{Written}
 use Rattle.slip_writer.specs.declared.Written.the-variants.{Bytes, Refused}
 
@@ -29,11 +29,6 @@ slipText cents fields = joinLines (hrvhub30 ∷ (eur ∷ (digitsText 15 cents �
 
 -- ---------------------------------------------------------------------------
 -- Answers
-
--- "It refuses as the reader does, in field order, the byte of a 3 counted within its field and 0 otherwise": from field n on, after m
-unfoldable pub givenAnswer : ℕ → List ℕ → List (List ℕ) → Answer
-givenAnswer n m [] = answer.Accepted
-givenAnswer n m (p ∷ ps) = firstOf (answerIn n (fieldVerdict n m p)) (givenAnswer (n + 1) p ps)
 
 -- "then 15 exactly when the room is too small"
 abbrev pub roomAnswer : List ℕ → ℕ → Written

@@ -1,6 +1,6 @@
 -- `slip_writer::put` meets its contract. Assumes nothing.
-use native.Mathlib.Omega.{arith}
 use mathlib.Core.Path.{refl}
+use native.Mathlib.Omega.{arith}
 use borrow.Author.Needs.{needs}
 use Rattle.slip_writer.proofs.put.Statement.{statement}
 use Rattle.slip_writer.proofs.put.Tie as tie

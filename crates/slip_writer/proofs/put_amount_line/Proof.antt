@@ -1,9 +1,9 @@
 -- `slip_writer::put_amount_line` meets its contract. Assumes nothing.
 use native.Mathlib.Omega.{arith}
+use borrow.Author.Needs.{needs}
 use Rattle.text.specs.Digits.{digitsText}
 use Rattle.room.proofs.Digits.{digits-length}
 use Rattle.slip_writer.proofs.Laws.{line-length, line-stands, room-feed}
-use borrow.Author.Needs.{needs}
 use Rattle.slip_writer.proofs.put_amount_line.Statement.{statement}
 use Rattle.slip_writer.proofs.put_amount_line.Tie as tie
 

@@ -1,8 +1,8 @@
 -- `slip_writer::put_four` meets its contract: a line, and three behind it. Assumes nothing.
 use mathlib.Core.List.{[], _∷_}
-use Rattle.slip_writer.proofs.Laws.{room-first, room-next, lines-stand}
-use Rattle.slip_writer.specs.Steps.{three}
 use borrow.Author.Needs.{needs}
+use Rattle.slip_given.specs.Given.{three}
+use Rattle.slip_writer.proofs.Laws.{room-first, room-next, lines-stand}
 use Rattle.slip_writer.proofs.put_four.Statement.{statement}
 use Rattle.slip_writer.proofs.put_four.Tie as tie
 

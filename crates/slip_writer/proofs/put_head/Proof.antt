@@ -1,10 +1,10 @@
 -- `slip_writer::put_head` meets its contract: one line behind another. Assumes nothing.
 use mathlib.Core.List.{[], _∷_}
-use Rattle.slip_writer.proofs.Laws.{room-first, room-next, lines-stand}
-use Rattle.slip_fields.specs.Fields.{hrvhub30}
+use borrow.Author.Needs.{needs}
 use Rattle.text.specs.Bytes.{eur}
 use Rattle.text.specs.Digits.{digitsText}
-use borrow.Author.Needs.{needs}
+use Rattle.slip_fields.specs.Fields.{hrvhub30}
+use Rattle.slip_writer.proofs.Laws.{room-first, room-next, lines-stand}
 use Rattle.slip_writer.proofs.put_head.Statement.{statement}
 use Rattle.slip_writer.proofs.put_head.Tie as tie
 

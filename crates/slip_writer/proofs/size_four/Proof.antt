@@ -1,8 +1,8 @@
 -- `slip_writer::size_four` meets its contract. Assumes nothing.
 use native.Mathlib.Omega.{arith}
-use Rattle.slip_writer.specs.Steps.{three}
-use Rattle.slip_writer.proofs.Laws.{lines-length}
 use borrow.Author.Needs.{needs}
+use Rattle.slip_given.specs.Given.{three}
+use Rattle.slip_writer.proofs.Laws.{lines-length}
 use Rattle.slip_writer.proofs.size_four.Statement.{statement}
 use Rattle.slip_writer.proofs.size_four.Tie as tie
 

@@ -1,8 +1,8 @@
 -- `slip_writer::write` meets its contract: the amount, the fields in their order, then the room. Assumes nothing.
-use Rattle.slip_writer.specs.Steps.{eleven}
+use borrow.Author.Needs.{needs}
+use Rattle.slip_given.specs.Given.{eleven}
 use Rattle.slip_writer.proofs.Laws.{amount-refused, field-refused, fields-accepted}
 use Rattle.slip_writer.proofs.Sizes.{accepted-small}
-use borrow.Author.Needs.{needs}
 use Rattle.slip_writer.proofs.write.Statement.{statement}
 use Rattle.slip_writer.proofs.write.Tie as tie
 

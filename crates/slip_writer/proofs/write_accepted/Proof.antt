@@ -1,14 +1,14 @@
 -- `slip_writer::write_accepted` meets its contract: the slip is its head and its fields in three parts. Assumes nothing.
-use Prim.Native.Nat.{ℕ, _+_, _≤_}
 use mathlib.Core.Path.{_≡_, refl}
 use mathlib.Core.List.{List, _++_}
+use Prim.Native.Nat.{ℕ, _+_, _≤_}
 use native.Mathlib.Omega.{arith}
 use lib.ListN.{length}
-use Rattle.slip_writer.specs.Writer.{joinLines, slipText}
-use Rattle.text.proofs.Stands.{front-stands}
-use Rattle.slip_writer.specs.Steps.{three, four}
-use Rattle.slip_writer.proofs.Laws.{headOf, slip-size, slip-room, slip-stands, room-refused, room-counted, room-first, room-next}
 use borrow.Author.Needs.{needs}
+use Rattle.text.proofs.Stands.{front-stands}
+use Rattle.slip_given.specs.Given.{three, four}
+use Rattle.slip_writer.specs.Writer.{joinLines, slipText}
+use Rattle.slip_writer.proofs.Laws.{headOf, slip-size, slip-room, slip-stands, room-refused, room-counted, room-first, room-next}
 use Rattle.slip_writer.proofs.write_accepted.Statement.{statement}
 use Rattle.slip_writer.proofs.write_accepted.Tie as tie
 

@@ -1,9 +1,9 @@
 -- `slip_writer::judge_one` meets its contract: a 3 keeps its byte. Assumes nothing.
 use mathlib.Core.Path.{_∙_}
 use borrow.Author.Needs.{needs}
-use Rattle.slip_writer.proofs.Laws.{one-given}
-use Rattle.slip_writer.proofs.judge_one.Statement.{statement}
-use Rattle.slip_writer.proofs.judge_one.Tie as tie
+use Rattle.slip_given.proofs.Laws.{one-given}
+use Rattle.slip_given.proofs.judge_one.Statement.{statement}
+use Rattle.slip_given.proofs.judge_one.Tie as tie
 
 returns : tie.Need-returns
 returns c = one-given _ _ _ _ (c .answer-in .ensures ∙ rw (c .before .judge-field .ensures))

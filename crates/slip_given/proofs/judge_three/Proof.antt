@@ -1,12 +1,12 @@
 -- `slip_writer::judge_three` meets its contract: the first refusal stands. Assumes nothing.
 use mathlib.Core.List.{[], _∷_}
-use Rattle.slip_writer.proofs.Laws.{refused-first, accepted-next}
 use mathlib.Core.Path.{_≡_}
 use Prim.Native.Nat.{_+_}
 use native.Mathlib.Omega.{arith}
 use borrow.Author.Needs.{needs}
-use Rattle.slip_writer.proofs.judge_three.Statement.{statement}
-use Rattle.slip_writer.proofs.judge_three.Tie as tie
+use Rattle.slip_given.proofs.Laws.{refused-first, accepted-next}
+use Rattle.slip_given.proofs.judge_three.Statement.{statement}
+use Rattle.slip_given.proofs.judge_three.Tie as tie
 
 returns : tie.Need-returns
 returns c =

@@ -1,10 +1,10 @@
 -- `slip_writer::judge_four` meets its contract: the first refusal stands. Assumes nothing.
 use mathlib.Core.List.{[], _∷_}
-use Rattle.slip_writer.specs.Steps.{three}
-use Rattle.slip_writer.proofs.Laws.{refused-first, accepted-next}
 use borrow.Author.Needs.{needs}
-use Rattle.slip_writer.proofs.judge_four.Statement.{statement}
-use Rattle.slip_writer.proofs.judge_four.Tie as tie
+use Rattle.slip_given.specs.Given.{three}
+use Rattle.slip_given.proofs.Laws.{refused-first, accepted-next}
+use Rattle.slip_given.proofs.judge_four.Statement.{statement}
+use Rattle.slip_given.proofs.judge_four.Tie as tie
 
 returns : tie.Need-returns
 returns c =
