@@ -1,6 +1,6 @@
 /* Lanecockle for C: HUB3 payment slips, wage files of 300/301/309/399 lines, wet slips, check digits.
  *
- * Link with target/staticlib/libdesk.a (`rt staticlib desk` writes it). The library is proved: whatever numbers and bytes
+ * Link with target/staticlib/libdesk.a (`callers/library` writes it). The library is proved: whatever numbers and bytes
  * a caller lends, every call answers and ends, keeps nothing, allocates nothing and has no state of its own, so any number
  * of threads may call it.
  *

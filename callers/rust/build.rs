@@ -21,7 +21,7 @@ fn main() {
     println!("cargo:rerun-if-changed={}", library.display());
     if !library.is_file() {
         eprintln!(
-            "lanecockle: there is no {}; write it with `rt staticlib desk`, or name its folder in LANECOCKLE_LIB.",
+            "lanecockle: there is no {}; write it with `callers/library`, or name its folder in LANECOCKLE_LIB.",
             library.display()
         );
         exit(1);
