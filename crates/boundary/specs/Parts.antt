@@ -5,7 +5,7 @@ use lib.ListN.{getD}
 use Rattle.text.specs.declared.Part.{Part}
 use Rattle.wage_line.specs.declared.Typed.{Typed}
 use Rattle.wage_line.specs.declared.Typed.the-variants.{Line, Refused}
-use Rattle.wage_line.specs.Places.{spotOf}
+use Rattle.wage_places.specs.Places.{spotOf}
 use Rattle.wage_line.specs.Line.{typedOf}
 use Rattle.wage_draft.specs.Fields.{fieldsOf}
 

@@ -31,7 +31,7 @@ use boundary::Valued;
 use check_digits::Rule;
 use refusal::Refusal;
 use text::Part;
-use wage_line::LineType;
+use wage_places::LineType;
 
 // ---------------------------------------------------------------------------
 // Check digits, accounts, references

@@ -19,12 +19,11 @@ use Rattle.refusal.specs.declared.Refusal.the-variants.{Size, Ends, Byte, Lengt
 use Rattle.refusal.proofs.Verdicts.{choice-within, byte-within}
 use Rattle.text.specs.declared.Class.the-variants.{Digits}
 use Rattle.text.proofs.Laws.{bytes-within}
-use Rattle.wage_line.specs.declared.LineType.{LineType}
-use Rattle.wage_line.specs.declared.LineType.the-variants.{Label, Group, Order, Closing}
-use Rattle.wage_line.specs.declared.Spot.{Spot}
-use Rattle.wage_line.specs.Places.{spots, noSpot}
-use Rattle.wage_line.specs.Line.{partAt, partOf}
-use Rattle.wage_line.proofs.Theorems.{placeAt, Small, sizes-small}
+use Rattle.wage_places.specs.declared.LineType.{LineType}
+use Rattle.wage_places.specs.declared.LineType.the-variants.{Label, Group, Order, Closing}
+use Rattle.wage_places.specs.declared.Spot.{Spot}
+use Rattle.wage_places.specs.Places.{spots, noSpot, partAt, partOf}
+use Rattle.wage_places.proofs.Theorems.{placeAt, Small, sizes-small}
 use Rattle.wage_contents.specs.Contents.{heldIn, heldBlank}
 use Rattle.wage_contents.proofs.Within.{among-within, oib-within, employer-within, date-within, iban-place-within, currency-within, purpose-within, sign-within, held-within, reference-within, description-within, code-within}
 use Rattle.wage_fields.specs.Rules.{ruleVerdict, placeVerdict, placeAnswer, placesFrom, placesAnswer, spotsFrom}

@@ -12,11 +12,10 @@ use Rattle.refusal.specs.declared.Answer.the-variants.{Accepted, Refused}
 use Rattle.refusal.specs.declared.Refusal.the-variants.{Size}
 use Rattle.text.specs.Bytes.{bytesVerdict}
 use Rattle.text.specs.declared.Class.the-variants.{Digits}
-use Rattle.wage_line.specs.declared.LineType.{LineType}
-use Rattle.wage_line.specs.declared.LineType.the-variants.{Label, Group, Order, Closing}
-use Rattle.wage_line.specs.declared.Spot.{Spot}
-use Rattle.wage_line.specs.Places.{spots, noSpot}
-use Rattle.wage_line.specs.Line.{partAt, partOf}
+use Rattle.wage_places.specs.declared.LineType.{LineType}
+use Rattle.wage_places.specs.declared.LineType.the-variants.{Label, Group, Order, Closing}
+use Rattle.wage_places.specs.declared.Spot.{Spot}
+use Rattle.wage_places.specs.Places.{spots, noSpot, partAt, partOf}
 use Rattle.wage_contents.specs.Contents.{amongVerdict, oibPlaceVerdict, employerVerdict, dateVerdict, ibanPlaceVerdict, currencyVerdict, purposePlaceVerdict, signVerdict, heldIn, heldBlank, heldVerdict, referenceHeld, descriptionVerdict, codeVerdict}
 
 -- ---------------------------------------------------------------------------

@@ -8,17 +8,16 @@ ghost use mathlib.Core.Path.{_≡_};
 ghost use lib.ListN.{getD};
 ghost use Prim.Native.Nat.{_+_, _-_, _<_, _^_};
 ghost use Rattle.refusal.specs.Verdict.{verdictByte, answerAt};
-ghost use Rattle.wage_line.specs.declared.LineType.the-variants.{Label, Group, Order};
-ghost use Rattle.wage_line.specs.Line.{partAt};
-ghost use Rattle.wage_line.specs.Places.{spots, noSpot};
+ghost use Rattle.wage_places.specs.declared.LineType.the-variants.{Label, Group, Order};
+ghost use Rattle.wage_places.specs.Places.{partAt, spots, noSpot};
 ghost use Rattle.wage_contents.specs.Contents.{heldIn};
 ghost use Rattle.wage_fields.specs.Rules.{labelRule, groupRule, orderRule, placeVerdict, placeAnswer, spotsFrom, placesFrom, placesAnswer};
 use refusal::Answer;
 use refusal::Refusal;
 use text::Class;
 use wage_contents::Held;
-use wage_line::LineType;
-use wage_line::Spot;
+use wage_places::LineType;
+use wage_places::Spot;
 
 // ---------------------------------------------------------------------------
 // Rules by order
@@ -27,7 +26,7 @@ use wage_line::Spot;
 fn part(t: LineType, k: usize, s: &[u8]) -> &[u8]
     ensures { λ r. ⌜ now r ≡ partAt (getD (spots t) k noSpot) (now (s .entry)) ⌝ }
 {
-    wage_line::part(wage_line::spot_at(t, k), s)
+    wage_places::part(wage_places::spot_at(t, k), s)
 }
 
 // A 300's rule for a place.
@@ -140,7 +139,7 @@ fn judge_range(day: u64, kind: u64, t: LineType, first: usize, last: usize, s: &
         }
         let verdict = rule(day, kind, t, k, s);
         if verdict != 0 {
-            break 'places told(wage_line::spot_at(t, k), verdict);
+            break 'places told(wage_places::spot_at(t, k), verdict);
         }
         k += 1;
     }
@@ -150,7 +149,7 @@ fn judge_range(day: u64, kind: u64, t: LineType, first: usize, last: usize, s: &
 pub fn judge_place(day: u64, kind: u64, t: LineType, k: usize, s: &[u8]) -> Answer
     ensures { λ r. ⌜ r ≡ placeAnswer day kind t (getD (spots t) k noSpot) (now (s .entry)) ⌝ }
 {
-    let count = wage_line::count(t);
+    let count = wage_places::count(t);
     if count < k {
         return judge_range(day, kind, t, count, count + 1, s);
     }
@@ -161,7 +160,7 @@ pub fn judge_place(day: u64, kind: u64, t: LineType, k: usize, s: &[u8]) -> Answ
 pub fn judge_places(day: u64, kind: u64, t: LineType, s: &[u8]) -> Answer
     ensures { λ r. ⌜ r ≡ placesAnswer day kind t (now (s .entry)) ⌝ }
 {
-    let count = wage_line::count(t);
+    let count = wage_places::count(t);
     if count == 0 {
         return Answer::Accepted;
     }

@@ -2,9 +2,9 @@
 -- field at that order. Assumes nothing.
 use mathlib.Core.Path.{refl}
 use borrow.Author.Needs.{needs}
-use Rattle.wage_line.specs.declared.LineType.the-variants.{Label}
-use Rattle.wage_line.specs.Places.{spots, spotIn, noSpot}
-use Rattle.wage_line.proofs.Laws.{past}
+use Rattle.wage_places.specs.declared.LineType.the-variants.{Label}
+use Rattle.wage_places.specs.Places.{spots, spotIn, noSpot}
+use Rattle.wage_places.proofs.Laws.{past}
 use Rattle.wage_fields.proofs.label_rule.Statement.{statement}
 use Rattle.wage_fields.proofs.label_rule.Tie as tie
 

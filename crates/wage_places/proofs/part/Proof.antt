@@ -1,9 +1,9 @@
--- `wage_line::part` meets its contract: past the end, up to the end, or whole. Assumes nothing.
+-- `wage_places::part` meets its contract: past the end, up to the end, or whole. Assumes nothing.
 use native.Mathlib.Omega.{arith}
-use Rattle.wage_line.proofs.Laws.{part-none, part-short, part-whole}
+use Rattle.wage_places.proofs.Laws.{part-none, part-short, part-whole}
 use borrow.Author.Needs.{needs}
-use Rattle.wage_line.proofs.part.Statement.{statement}
-use Rattle.wage_line.proofs.part.Tie as tie
+use Rattle.wage_places.proofs.part.Statement.{statement}
+use Rattle.wage_places.proofs.part.Tie as tie
 
 pub part-spec : {M : Type 1} → statement M
 part-spec =

@@ -1,8 +1,8 @@
--- `wage_line::spot_at` meets its contract: the arm says the type, and its table is asked. Assumes nothing.
-use Rattle.wage_line.specs.Places.{spots}
+-- `wage_places::spot_at` meets its contract: the arm says the type, and its table is asked. Assumes nothing.
+use Rattle.wage_places.specs.Places.{spots}
 use borrow.Author.Needs.{needs}
-use Rattle.wage_line.proofs.spot_at.Statement.{statement}
-use Rattle.wage_line.proofs.spot_at.Tie as tie
+use Rattle.wage_places.proofs.spot_at.Statement.{statement}
+use Rattle.wage_places.proofs.spot_at.Tie as tie
 
 pub spot-at-spec : {M : Type 1} → statement M
 unfolding spots

@@ -1,12 +1,13 @@
--- Document 01, "The wage file", its lists for 300, 301 and 309: the places of a line, as 004's layout tables number them. "Places not named
+-- Document 01, "The wage file", its lists for 300, 301 and 309: the places of a line and their bytes, as 004's layout tables number them. "Places not named
 -- are not read; 35–174 (name, address, seat), one field 2, are not judged."
 use Prim.Native.Nat.{ℕ, _+_, _-_}
 use mathlib.Core.Bool.{cond}
 use mathlib.Core.List.{List, [], _∷_}
 use lib.Dec.{eqb}
-use Rattle.wage_line.specs.declared.LineType.{LineType}
-use Rattle.wage_line.specs.declared.LineType.the-variants.{Label, Group, Order, Closing}
-use Rattle.wage_line.specs.declared.Spot.{Spot}
+use lib.ListN.{take, drop}
+use Rattle.wage_places.specs.declared.LineType.{LineType}
+use Rattle.wage_places.specs.declared.LineType.the-variants.{Label, Group, Order, Closing}
+use Rattle.wage_places.specs.declared.Spot.{Spot}
 
 -- field n, from one position to another, "Positions count from 1"; the bytes count from 0
 abbrev pub spot : ℕ → ℕ → ℕ → Spot
@@ -48,3 +49,11 @@ spotIn n (p ∷ ps) = cond (eqb n (p .field)) p (spotIn n ps)
 -- the place of field n in a line of a type; an unknown number has none
 abbrev pub spotOf : LineType → ℕ → Spot
 spotOf t n = spotIn n (spots t)
+
+-- the bytes of a place
+abbrev pub partAt : Spot → List ℕ → List ℕ
+partAt p s = take (p .size) (drop (p .start) s)
+
+-- the bytes of field n in a line of a type
+abbrev pub partOf : LineType → ℕ → List ℕ → List ℕ
+partOf t n s = partAt (spotOf t n) s

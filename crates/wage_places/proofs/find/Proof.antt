@@ -1,12 +1,12 @@
--- `wage_line::find` meets its contract. The loop's invariant: the place is the one among what is left from `k` on. Assumes nothing.
+-- `wage_places::find` meets its contract. The loop's invariant: the place is the one among what is left from `k` on. Assumes nothing.
 use Prim.Native.Nat.{_≤_, _-_}
 use mathlib.Core.Path.{_≡_, refl, sym, _∙_}
 use native.Mathlib.Omega.{arith}
 use lib.ListN.{drop}
-use Rattle.wage_line.specs.Places.{spots, spotIn}
-use Rattle.wage_line.proofs.Laws.{find-on, find-stops, find-ends}
-use Rattle.wage_line.proofs.find.Statement.{statement}
-use Rattle.wage_line.proofs.find.Tie as tie
+use Rattle.wage_places.specs.Places.{spots, spotIn}
+use Rattle.wage_places.proofs.Laws.{find-on, find-stops, find-ends}
+use Rattle.wage_places.proofs.find.Statement.{statement}
+use Rattle.wage_places.proofs.find.Tie as tie
 
 abbrev Inv-loop : tie.InvT-loop
 Inv-loop t field n k₀ k = (k ≤ n) × (spotIn field (spots t) ≡ spotIn field (drop k (spots t)))

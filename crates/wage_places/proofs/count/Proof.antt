@@ -1,8 +1,8 @@
--- `wage_line::count` meets its contract: the arm says the type, and its number is the table's. Assumes nothing.
-use Rattle.wage_line.specs.Places.{spots}
+-- `wage_places::count` meets its contract: the arm says the type, and its number is the table's. Assumes nothing.
+use Rattle.wage_places.specs.Places.{spots}
 use borrow.Author.Needs.{needs}
-use Rattle.wage_line.proofs.count.Statement.{statement}
-use Rattle.wage_line.proofs.count.Tie as tie
+use Rattle.wage_places.proofs.count.Statement.{statement}
+use Rattle.wage_places.proofs.count.Tie as tie
 
 pub count-spec : {M : Type 1} → statement M
 unfolding spots
