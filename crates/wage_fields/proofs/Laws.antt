@@ -24,8 +24,9 @@ use Rattle.wage_places.specs.declared.LineType.the-variants.{Label, Group, Orde
 use Rattle.wage_places.specs.declared.Spot.{Spot}
 use Rattle.wage_places.specs.Places.{spots, noSpot, partAt, partOf}
 use Rattle.wage_places.proofs.Theorems.{placeAt, Small, sizes-small}
-use Rattle.wage_contents.specs.Contents.{heldIn, heldBlank}
-use Rattle.wage_contents.proofs.Within.{among-within, oib-within, employer-within, date-within, iban-place-within, currency-within, purpose-within, sign-within, held-within, reference-within, description-within, code-within}
+use Rattle.order_contents.specs.Contents.{heldIn, heldBlank}
+use Rattle.wage_contents.proofs.Within.{among-within, oib-within, employer-within, date-within, iban-place-within, currency-within}
+use Rattle.order_contents.proofs.Within.{purpose-within, sign-within, held-within, reference-within, description-within, code-within}
 use Rattle.wage_fields.specs.Rules.{ruleVerdict, placeVerdict, placeAnswer, placesFrom, placesAnswer, spotsFrom}
 
 -- ---------------------------------------------------------------------------

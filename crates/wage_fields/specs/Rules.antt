@@ -16,7 +16,8 @@ use Rattle.wage_places.specs.declared.LineType.{LineType}
 use Rattle.wage_places.specs.declared.LineType.the-variants.{Label, Group, Order, Closing}
 use Rattle.wage_places.specs.declared.Spot.{Spot}
 use Rattle.wage_places.specs.Places.{spots, noSpot, partAt, partOf}
-use Rattle.wage_contents.specs.Contents.{amongVerdict, oibPlaceVerdict, employerVerdict, dateVerdict, ibanPlaceVerdict, currencyVerdict, purposePlaceVerdict, signVerdict, heldIn, heldBlank, heldVerdict, referenceHeld, descriptionVerdict, codeVerdict}
+use Rattle.wage_contents.specs.Contents.{amongVerdict, oibPlaceVerdict, employerVerdict, dateVerdict, ibanPlaceVerdict, currencyVerdict}
+use Rattle.order_contents.specs.Contents.{purposePlaceVerdict, signVerdict, heldIn, heldBlank, heldVerdict, referenceHeld, descriptionVerdict, codeVerdict}
 
 -- ---------------------------------------------------------------------------
 -- The rule of each place

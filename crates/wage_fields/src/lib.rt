@@ -10,12 +10,12 @@ ghost use Prim.Native.Nat.{_+_, _-_, _<_, _^_};
 ghost use Rattle.refusal.specs.Verdict.{verdictByte, answerAt};
 ghost use Rattle.wage_places.specs.declared.LineType.the-variants.{Label, Group, Order};
 ghost use Rattle.wage_places.specs.Places.{partAt, spots, noSpot};
-ghost use Rattle.wage_contents.specs.Contents.{heldIn};
+ghost use Rattle.order_contents.specs.Contents.{heldIn};
 ghost use Rattle.wage_fields.specs.Rules.{labelRule, groupRule, orderRule, placeVerdict, placeAnswer, spotsFrom, placesFrom, placesAnswer};
+use order_contents::Held;
 use refusal::Answer;
 use refusal::Refusal;
 use text::Class;
-use wage_contents::Held;
 use wage_places::LineType;
 use wage_places::Spot;
 
@@ -70,7 +70,7 @@ fn group_rule(day: u64, k: usize, s: &[u8]) -> usize
 fn model_at(k: usize, s: &[u8]) -> Held
     ensures { λ r. ⌜ r ≡ heldIn (partAt (getD (spots Order) k noSpot) (now (s .entry))) ⌝ }
 {
-    wage_contents::model_in(part(LineType::Order, k, s))
+    order_contents::model_in(part(LineType::Order, k, s))
 }
 
 // A 309's rule for a place.
@@ -81,18 +81,18 @@ fn order_rule(kind: u64, k: usize, s: &[u8]) -> usize
         0 => wage_contents::judge_iban(false, part(LineType::Order, 0, s)),
         1 => 0,
         2 => wage_contents::judge_among(0, 191, 191, part(LineType::Order, 2, s)),
-        3 => wage_contents::judge_model(model_at(3, s)),
-        4 => wage_contents::judge_reference(model_at(3, s), part(LineType::Order, 4, s)),
-        5 => wage_contents::judge_purpose(part(LineType::Order, 5, s)),
-        6 => wage_contents::judge_description(part(LineType::Order, 6, s)),
+        3 => order_contents::judge_model(model_at(3, s)),
+        4 => order_contents::judge_reference(model_at(3, s), part(LineType::Order, 4, s)),
+        5 => order_contents::judge_purpose(part(LineType::Order, 5, s)),
+        6 => order_contents::judge_description(part(LineType::Order, 6, s)),
         7 => text::judge(Class::Digits, part(LineType::Order, 7, s)),
-        8 => wage_contents::judge_model(model_at(8, s)),
-        9 => wage_contents::judge_reference(model_at(8, s), part(LineType::Order, 9, s)),
+        8 => order_contents::judge_model(model_at(8, s)),
+        9 => order_contents::judge_reference(model_at(8, s), part(LineType::Order, 9, s)),
         10 => wage_contents::judge_among(0, 1, 2, part(LineType::Order, 10, s)),
         11 => wage_contents::judge_currency(true, part(LineType::Order, 11, s)),
-        12 => wage_contents::judge_sign(32, 48, 51, part(LineType::Order, 12, s)),
-        13 => wage_contents::judge_sign(32, 48, 48, part(LineType::Order, 13, s)),
-        14 => wage_contents::judge_code(kind, model_at(8, s), part(LineType::Order, 14, s)),
+        12 => order_contents::judge_sign(32, 48, 51, part(LineType::Order, 12, s)),
+        13 => order_contents::judge_sign(32, 48, 48, part(LineType::Order, 13, s)),
+        14 => order_contents::judge_code(kind, model_at(8, s), part(LineType::Order, 14, s)),
         15 => wage_contents::judge_oib(kind != 5, part(LineType::Order, 15, s)),
         _ => 0,
     }
