@@ -23,7 +23,9 @@ use Rattle.wage_places.specs.declared.Spot.{Spot}
 use Rattle.wage_places.specs.declared.LineType.the-variants.{Label, Group, Order, Closing}
 use Rattle.wage_places.specs.Places.{noSpot, spots, spotIn, spotOf, partAt, partOf}
 use Rattle.wage_places.proofs.Laws.{part-length}
-use Rattle.wage_fields.specs.Rules.{labelRule, orderRule, ruleVerdict, placeVerdict, placeAnswer, placesFrom}
+use Rattle.label_rules.specs.Rules.{labelRule}
+use Rattle.order_rules.specs.Rules.{orderRule}
+use Rattle.wage_fields.specs.Rules.{ruleVerdict, placeVerdict, placeAnswer, placesFrom}
 use Rattle.refusal.proofs.Verdicts.{first-both}
 use Rattle.wage_fields.proofs.Laws.{accept-both}
 use Rattle.wage_draft.specs.Fields.{fieldsOf, behind, FieldEnd}

@@ -150,3 +150,6 @@ find-only t n = defined-only (spotOf t n)
 
 pub part-only : (p : Spot) (s : List ℕ) → Only (λ (r : List ℕ). r ≡ partAt p s)
 part-only p s = defined-only (partAt p s)
+
+pub part-at-only : (t : LineType) (k : ℕ) (s : List ℕ) → Only (λ (r : List ℕ). r ≡ partAt (getD (spots t) k noSpot) s)
+part-at-only t k s = defined-only (partAt (getD (spots t) k noSpot) s)

@@ -140,3 +140,10 @@ pub fn part(p: Spot, s: &[u8]) -> &[u8]
     let end = start + size;
     &s[start..end]
 }
+
+// The bytes of a place, by its order.
+pub fn part_at(t: LineType, k: usize, s: &[u8]) -> &[u8]
+    ensures { λ r. ⌜ now r ≡ partAt (getD (spots t) k noSpot) (now (s .entry)) ⌝ }
+{
+    part(spot_at(t, k), s)
+}
