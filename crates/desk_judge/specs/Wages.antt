@@ -4,7 +4,7 @@ use Prim.Native.Nat.{ℕ}
 use Rattle.text.specs.declared.Part.{Part}
 use Rattle.wage_line.specs.declared.Typed.{Typed}
 use Rattle.wage_line.specs.declared.Typed.the-variants.{Line, Refused}
-use Rattle.wage_line.specs.Places.{spotOf}
+use Rattle.wage_places.specs.Places.{spotOf}
 use Rattle.wage_line.specs.Line.{typedOf}
 use Rattle.judge.specs.declared.Ending.{Ending}
 use Rattle.judge.specs.declared.Ending.the-variants as ending

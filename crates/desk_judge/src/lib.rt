@@ -49,7 +49,7 @@ fn place_part(line: &[u8], field: usize) -> Part
 {
     match wage_line::read_type(line) {
         Typed::Line(t) => {
-            let p = wage_line::find(t, field);
+            let p = wage_places::find(t, field);
             let start = p.start;
             let length = p.size;
             Part { start, length }

@@ -8,7 +8,7 @@ ghost use Rattle.wage_draft.specs.Draft.{bareLine};
 ghost use Rattle.wage_draft.specs.Fields.{fieldsOf};
 ghost use Rattle.desk_writers.specs.Writes.{WritesLine};
 use boundary::Told;
-use wage_line::LineType;
+use wage_places::LineType;
 
 // Writes a 300 for a day.
 #[no_mangle]

@@ -12,7 +12,8 @@ use Rattle.text.specs.declared.Found.{Found}
 use Rattle.text.specs.declared.Found.the-variants.{At, Nothing}
 use Rattle.account.specs.Answers.{isIban}
 use Rattle.models.specs.declared.Model as declared
-use Rattle.models.specs.Models.{modelNumber, modelOf}
+use Rattle.model_text.specs.Texts.{modelNumber}
+use Rattle.models.specs.Models.{modelOf}
 use Rattle.reference.specs.Answers.{obeys}
 use Rattle.fillings.specs.Fillings.{fillings}
 use Rattle.fillings.specs.Answers.{roomAnswer}

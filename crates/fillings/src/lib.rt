@@ -264,5 +264,5 @@ pub fn list_reference(model: &[u8], s: &[u8], out: &mut [u16]) -> Listed
     if 4 < text::count(63, s) {
         return Listed::Refused(Refusal::Marks(refusal::nowhere()));
     }
-    list_numbered(models::number(model), s, out)
+    list_numbered(model_text::number(model), s, out)
 }

@@ -11,11 +11,12 @@ use Rattle.refusal.specs.declared.Answer.the-variants as answer
 use Rattle.refusal.specs.declared.Refusal.{Refusal}
 use Rattle.dates.specs.Dates.{isDate}
 use Rattle.sums.specs.Sums.{noCents, sumOf, fits, added, sameSum, numberOf, numberIn}
-use Rattle.wage_line.specs.declared.LineType.{LineType}
-use Rattle.wage_line.specs.declared.LineType.the-variants.{Label, Group, Order, Closing}
+use Rattle.wage_places.specs.declared.LineType.{LineType}
+use Rattle.wage_places.specs.declared.LineType.the-variants.{Label, Group, Order, Closing}
 use Rattle.wage_line.specs.declared.Typed.{Typed}
 use Rattle.wage_line.specs.declared.Typed.the-variants as typed
-use Rattle.wage_line.specs.Line.{typedOf, partOf}
+use Rattle.wage_line.specs.Line.{typedOf}
+use Rattle.wage_places.specs.Places.{partOf}
 use Rattle.wage_fields.specs.Rules.{placesAnswer}
 use Rattle.judge.specs.declared.Condition.{Condition}
 use Rattle.judge.specs.declared.Condition.the-variants.{Fresh, Labelled, Grouped, Closed, Refused}

@@ -6,14 +6,14 @@ ghost use mathlib.Core.Path.{_≡_};
 ghost use mathlib.Core.Bool.{true};
 ghost use Prim.Native.Nat.{_≤_};
 ghost use Rattle.sums.specs.Sums.{numberIn};
-ghost use Rattle.wage_line.specs.Line.{partOf};
+ghost use Rattle.wage_places.specs.Places.{partOf};
 ghost use Rattle.judge.specs.Judge.{stageOf, isRefused, refusalIn, refusedWith, atLine, isSound, begun, opened, ordered, after as afterLine, wholeVerdict, standVerdict, typeStep, stepped, ended};
 use refusal::Answer;
 use refusal::Place;
 use refusal::Refusal;
 use sums::Sum;
-use wage_line::LineType;
 use wage_line::Typed;
+use wage_places::LineType;
 
 // Where the judge stands.
 pub enum Condition {
@@ -186,7 +186,7 @@ pub fn begin(day: u64) -> Judge
 fn number_at(t: LineType, field: usize, s: &[u8]) -> u64
     ensures { λ r. ⌜ r ≡ numberIn (partOf t field (now (s .entry))) ⌝ }
 {
-    sums::number(wage_line::part(wage_line::find(t, field), s))
+    sums::number(wage_places::part(wage_places::find(t, field), s))
 }
 
 // The group that a first line opens.
@@ -195,7 +195,10 @@ fn opening(s: &[u8]) -> Open
 {
     Open {
         declared: number_at(LineType::Group, 5, s),
-        promised: sums::written(wage_line::part(wage_line::find(LineType::Group, 6), s), 100),
+        promised: sums::written(
+            wage_places::part(wage_places::find(LineType::Group, 6), s),
+            100,
+        ),
         counted: 0,
         total: sums::nothing(),
     }

@@ -10,7 +10,7 @@ use lib.Dec.{leb}
 use lib.ListN.{length, take, length-take}
 use lib.Seq.{take-all}
 use borrow.Author.Tests.{ne-eqb, leb-true, leb-false, lt-leb}
-use Rattle.models.specs.Models.{modelNumber}
+use Rattle.model_text.specs.Texts.{modelNumber}
 use Rattle.fillings.specs.Wet.{ibanListing, referenceListing}
 
 -- a test decided, one way or the other

@@ -1,36 +1,13 @@
--- What is promised of models: one answer, and no byte told.
+-- What is promised of models: one answer.
 -- Assumes nothing.
 use mathlib.Core.Path.{_≡_}
-use mathlib.Core.List.{List}
 use Prim.Native.Nat.{ℕ}
 use Rattle.refusal.specs.Only.{Only, defined-only}
-use Rattle.refusal.specs.Verdict.{Within}
-use Rattle.refusal.proofs.Verdicts.{only-within}
-use native.Mathlib.Omega.{arith}
-use Rattle.text.specs.declared.Found.{Found}
-use Rattle.text.specs.declared.Found.the-variants.{At, Nothing}
 use Rattle.models.specs.declared.Model.{Model}
-use Rattle.models.specs.Models.{modelNumber, modelOf, modelFrom, modelVerdict}
+use Rattle.models.specs.Models.{modelOf}
 
 -- ---------------------------------------------------------------------------
 -- Any two answers that a contract allows are equal
 
-pub number-only : (s : List ℕ) → Only (λ (r : Found). r ≡ modelNumber s)
-number-only s = defined-only (modelNumber s)
-
 pub rules-only : (n : ℕ) → Only (λ (r : Model). r ≡ modelOf n)
 rules-only n = defined-only (modelOf n)
-
--- of a model's text
-pub judge-only : (s : List ℕ) → Only (λ (r : ℕ). r ≡ modelVerdict s)
-judge-only s = defined-only (modelVerdict s)
-
--- ---------------------------------------------------------------------------
--- A model's refusal tells no byte
-
-from-within : (n : ℕ) (f : Found) → Within n (modelFrom f)
-from-within n (At i) = only-within n (modelOf i .handled) 7 (omega arith)
-from-within n Nothing = omega arith
-
-pub model-within : (n : ℕ) (s : List ℕ) → Within n (modelVerdict s)
-model-within n s = from-within n (modelNumber s)

@@ -1,24 +1,12 @@
 -- Document 01, "Reference models": the sixteen models, each as one value.
 use Prim.Native.Nat.{ℕ, _+_, _-_}
-use mathlib.Core.Bool.{true, false, cond, _&&_}
+use mathlib.Core.Bool.{true, false, cond}
 use mathlib.Core.List.{List, [], _∷_}
 use lib.Dec.{eqb}
-use lib.ListN.{length, getD}
-use Rattle.refusal.specs.Verdict.{onlyIf}
-use Rattle.text.specs.Digits.{twoDigits}
-use Rattle.text.specs.declared.Found.{Found}
-use Rattle.text.specs.declared.Found.the-variants.{At, Nothing}
 use Rattle.check_digits.specs.declared.Rule.{Rule}
 use Rattle.check_digits.specs.declared.Rule.the-variants.{Ini, Mod1110}
 use Rattle.models.specs.declared.Group.{Group}
 use Rattle.models.specs.declared.Model.{Model}
-
--- "`HR` and two digits": the model's number; `H` is 72, `R` is 82
-abbrev pub modelNumber : List ℕ → Found
-modelNumber s =
-    cond (eqb (length s) 4 && (eqb (getD s 0 0) 72 && eqb (getD s 1 0) 82))
-    (twoDigits (getD s 2 0) (getD s 3 0))
-    Nothing
 
 -- ---------------------------------------------------------------------------
 -- Groups and lengths
@@ -82,14 +70,3 @@ modelOf n =
     (cond (eqb n 10) (plain (ini 1 1) (ini 2 3) noGroup)
     (cond (eqb n 11) (plain (ini 1 1) (ini 2 2) noGroup)
     (specialOf n)))))))))))
-
--- ---------------------------------------------------------------------------
--- What judging a model's text answers: "`HR` and two digits, else 5 (never 3 or 4); then 7"
-
--- of a model's number
-abbrev pub modelFrom : Found → ℕ
-modelFrom (At n) = onlyIf (modelOf n .handled) 7
-modelFrom Nothing = 5
-
-abbrev pub modelVerdict : List ℕ → ℕ
-modelVerdict s = modelFrom (modelNumber s)

@@ -4,9 +4,8 @@
 // whoever judges a reference goes by the value that it gives.
 ghost use mathlib.Core.Path.{_≡_};
 ghost use Prim.Native.Nat.{_≤_, _<_, _+_};
-ghost use Rattle.models.specs.Models.{model, plain, over, modelNumber, modelOf, specialOf, modelVerdict};
+ghost use Rattle.models.specs.Models.{model, plain, over, modelOf, specialOf};
 use check_digits::Rule;
-use text::Found;
 
 // A check group: how many parts stand before it, how many it joins, and the rule that its last digit obeys.
 pub struct Group {
@@ -22,22 +21,6 @@ pub struct Model {
     pub most: u8,
     pub lengths: [u8; 8],
     pub groups: [Group; 4],
-}
-
-// The number of a model's text, `HR` and two digits.
-pub fn number(s: &[u8]) -> Found
-    ensures { λ r. ⌜ r ≡ modelNumber (now (s .entry)) ⌝ }
-{
-    if s.len() != 4 {
-        return Found::Nothing;
-    }
-    if s[0] != 72 {
-        return Found::Nothing;
-    }
-    if s[1] != 82 {
-        return Found::Nothing;
-    }
-    text::two_digits(s[2], s[3])
 }
 
 // The group of the parts from `first` to `last`, counted from 1; `last` below `first` is no group.
@@ -125,21 +108,5 @@ fn special(n: usize) -> Model
             lengths: [1, 12, 1, 12, 1, 12, 1, 12],
             groups: [none, none, none, none],
         },
-    }
-}
-
-// A model's text: 5, then 7 where it is not handled.
-pub fn judge(s: &[u8]) -> usize
-    ensures { λ r. ⌜ r ≡ modelVerdict (now (s .entry)) ⌝ }
-{
-    match number(s) {
-        Found::At(n) => {
-            let m = rules(n);
-            if m.handled {
-                return 0;
-            }
-            7
-        }
-        Found::Nothing => 5,
     }
 }

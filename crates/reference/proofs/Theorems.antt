@@ -17,7 +17,8 @@ use Rattle.text.specs.declared.Found.{Found}
 use Rattle.text.specs.declared.Found.the-variants.{At, Nothing}
 use Rattle.text.proofs.Laws.{both-true, all-passes, bytes-within}
 use Rattle.models.specs.declared.Model.{Model}
-use Rattle.models.specs.Models.{modelNumber, modelOf}
+use Rattle.model_text.specs.Texts.{modelNumber}
+use Rattle.models.specs.Models.{modelOf}
 use Rattle.parts.specs.Parts.{partsOf, formed}
 use Rattle.parts.proofs.Pieces.{formed-bytes}
 use Rattle.groups.specs.Groups.{partsRight}

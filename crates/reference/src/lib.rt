@@ -63,7 +63,7 @@ pub fn numbered(n: usize, s: &[u8]) -> usize
 pub fn reference(model: &[u8], s: &[u8]) -> usize
     ensures { λ r. ⌜ r ≡ referenceVerdict (now (model .entry)) (now (s .entry)) ⌝ }
 {
-    match models::number(model) {
+    match model_text::number(model) {
         Found::At(n) => numbered(n, s),
         Found::Nothing => 5,
     }

@@ -20,7 +20,8 @@ use Rattle.text.proofs.Laws.{both-true, and-second, digit-bounds, isNothing, pa
 use Rattle.characters.specs.Answers.{charactersVerdict}
 use Rattle.characters.proofs.Theorems as texts
 use Rattle.account.specs.Answers.{ibanVerdict}
-use Rattle.models.specs.Models.{modelNumber, modelOf, modelFrom, modelVerdict}
+use Rattle.model_text.specs.Texts.{modelNumber, modelFrom, modelVerdict}
+use Rattle.models.specs.Models.{modelOf}
 use Rattle.reference.specs.Answers.{textVerdict, numberVerdict, referenceVerdict}
 use Rattle.slip_fields.specs.Fields.{wordVerdict, sizedVerdict}
 use Rattle.text.proofs.Same.{same-equal}

@@ -18,7 +18,7 @@ use Rattle.text.proofs.Laws.{bytes-within, found-within, all-passes}
 use Rattle.characters.specs.Characters.{firstWrong, characters}
 use Rattle.characters.proofs.Laws.{wrong-below}
 use Rattle.account.proofs.Theorems.{iban-within}
-use Rattle.models.proofs.Theorems.{model-within}
+use Rattle.model_text.proofs.Theorems.{model-within}
 use Rattle.reference.proofs.Theorems.{reference-within}
 use Rattle.slip_fields.specs.Fields.{hrvhub30, sizedVerdict, mostOf, fieldVerdict}
 use Rattle.slip_fields.specs.Sizes.{sizeOf}

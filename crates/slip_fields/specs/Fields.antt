@@ -10,7 +10,7 @@ use Rattle.text.specs.declared.Class.{Class}
 use Rattle.text.specs.declared.Class.the-variants.{Digits, Letters}
 use Rattle.characters.specs.Answers.{charactersVerdict}
 use Rattle.account.specs.Answers.{ibanVerdict}
-use Rattle.models.specs.Models.{modelVerdict}
+use Rattle.model_text.specs.Texts.{modelVerdict}
 use Rattle.reference.specs.Answers.{referenceVerdict}
 
 -- ---------------------------------------------------------------------------

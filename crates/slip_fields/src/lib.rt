@@ -57,7 +57,7 @@ pub fn judge_field(n: usize, before: &[u8], s: &[u8]) -> usize
         2 => judge_word(b"EUR", s),
         3 => judge_sized(Class::Digits, 15, 15, s),
         10 => account::iban(s),
-        11 => models::judge(s),
+        11 => model_text::judge(s),
         12 => reference::reference(before, s),
         13 => judge_sized(Class::Letters, 0, 4, s),
         _ => characters::judge(most_of(n), s),

@@ -6,23 +6,19 @@ use mathlib.Core.Bool.{Bool, true, false, cond, not, _&&_, _||_}
 use mathlib.Core.List.{List}
 use Prim.Native.Nat.{ℕ}
 use lib.Dec.{eqb, leb}
-use lib.ListN.{length, take, drop, getD}
-use borrow.Author.Tests.{eqb-true}
+use lib.ListN.{take, drop}
 use Rattle.refusal.specs.Verdict.{andThen, onlyIf}
 use Rattle.refusal.proofs.Verdicts.{both-pass, pass-both, test-holds}
-use Rattle.text.specs.Bytes.{bytesVerdict, firstBad, allOf, same, trimmed, eur}
+use Rattle.text.specs.Bytes.{bytesVerdict, allOf, same, eur}
 use Rattle.text.specs.declared.Class.{Class}
-use Rattle.text.specs.declared.Class.the-variants.{Digits, Reference, Letters, Blanks, Zeros, Place, Description}
+use Rattle.text.specs.declared.Class.the-variants.{Digits, Blanks, Zeros, Place}
 use Rattle.text.proofs.Laws.{both-true, all-passes, passes-all}
-use Rattle.text.proofs.Blanks.{trimmed-blanks, trimmed-some}
 use Rattle.account.specs.Account.{oibPasses}
 use Rattle.account.specs.Answers.{isIban}
 use Rattle.account.proofs.Theorems.{iban-accepted-exactly}
 use Rattle.dates.specs.Dates.{isDate}
-use Rattle.codes.specs.Codes.{codePlace}
 use Rattle.sums.specs.Sums.{numberIn}
-use Rattle.wage_contents.specs.declared.Held.the-variants.{Blank}
-use Rattle.wage_contents.specs.Contents.{tested, oneOf, twoOf, isFound, amongVerdict, oibPlaceVerdict, employerVerdict, dateVerdict, ibanPlaceVerdict, currencyVerdict, purposePlaceVerdict, signVerdict, referenceHeld, descriptionVerdict, codeVerdict}
+use Rattle.wage_contents.specs.Contents.{tested, oneOf, twoOf, amongVerdict, oibPlaceVerdict, employerVerdict, dateVerdict, ibanPlaceVerdict, currencyVerdict}
 
 -- refusing nothing exactly when a test holds
 abbrev pub Exactly : ℕ → Bool → Type 0
@@ -32,7 +28,7 @@ Exactly v b = (v ≡ 0) ↔ (b ≡ true)
 -- Verdicts joined
 
 -- a test and its refusal
-if-tested : (b : Bool) (n : ℕ) → eqb n 0 ≡ false → Exactly (onlyIf b n) b
+pub if-tested : (b : Bool) (n : ℕ) → eqb n 0 ≡ false → Exactly (onlyIf b n) b
 if-tested b n z = (test-holds b n z, (λ e. rw e))
 
 -- two, one after the other
@@ -60,7 +56,7 @@ pub bytes-accepted : (k : Class) (f : List ℕ) → Exactly (bytesVerdict k f) (
 bytes-accepted k f = (passes-all k f, all-passes k f)
 
 -- 3, then a test
-after-bytes : (k : Class) (f : List ℕ) (b : Bool) (n : ℕ) → eqb n 0 ≡ false → Exactly (tested k f b n) (allOf k f && b)
+pub after-bytes : (k : Class) (f : List ℕ) (b : Bool) (n : ℕ) → eqb n 0 ≡ false → Exactly (tested k f b n) (allOf k f && b)
 unfolding tested
 after-bytes k f b n z = both (bytesVerdict k f) (onlyIf b n) (allOf k f) b (bytes-accepted k f) (if-tested b n z)
 
@@ -100,35 +96,3 @@ iban-place-accepted blank f =
 pub currency-accepted : (blank : Bool) (f : List ℕ) → Exactly (currencyVerdict blank f) ((blank && allOf Blanks f) || same eur f)
 unfolding currencyVerdict
 currency-accepted blank f = if-tested ((blank && allOf Blanks f) || same eur f) 5 refl
-
--- blank or letters
-pub purpose-accepted : (f : List ℕ) → Exactly (purposePlaceVerdict f) (allOf Blanks f || allOf Letters f)
-unfolding purposePlaceVerdict
-purpose-accepted f = if-tested (allOf Blanks f || allOf Letters f) 5 refl
-
--- one of three bytes
-pub sign-accepted : (a b c : ℕ) (f : List ℕ) → Exactly (signVerdict a b c f) (oneOf a b c (getD f 0 0))
-unfolding signVerdict
-sign-accepted a b c f = if-tested (oneOf a b c (getD f 0 0)) 5 refl
-
--- "A blank model needs a blank reference"
-pub blank-model-accepted : (f : List ℕ) → Exactly (referenceHeld Blank f) (allOf Blanks f)
-unfolding referenceHeld tested bytesVerdict firstBad
-blank-model-accepted f = (
-  (λ e. blank (allOf Blanks f) refl (eqb-true (length (trimmed f)) 0 (test-holds _ 8 refl (both-pass (bytesVerdict Reference (trimmed f)) (onlyIf (eqb (length (trimmed f)) 0) 8) e .1)))),
-  (λ e. rw (trimmed-blanks f e)),
-)
-  where
-    blank : (t : Bool) → allOf Blanks f ≡ t → length (trimmed f) ≡ 0 → t ≡ true
-    blank true e z = refl
-    blank false e z = absurd (trimmed-some f e z)
-
--- "not all blank"
-pub description-accepted : (f : List ℕ) → Exactly (descriptionVerdict f) (allOf Description f && not (allOf Blanks f))
-unfolding descriptionVerdict
-description-accepted f = after-bytes Description f _ 5 refl
-
--- a code, and with it the model that code 500 needs
-pub code-accepted : (kind : ℕ) (blank : Bool) (f : List ℕ) → Exactly (codeVerdict kind blank f) (allOf Digits f && (isFound (codePlace (numberIn f)) && not (eqb kind 5 && (eqb (numberIn f) 500 && blank))))
-unfolding codeVerdict
-code-accepted kind blank f = after-bytes Digits f _ 5 refl

@@ -1,11 +1,10 @@
--- Laws that this crate's proofs share: of an IBAN's place, and of a place's first bytes.
+-- Laws that this crate's proofs share, of an IBAN's place.
 -- Assumes nothing.
 use mathlib.Core.Path.{_≡_, refl, sym, ap, _∙_}
 use mathlib.Core.Bool.{Bool, true, false, cond, _&&_}
-use mathlib.Core.List.{List, [], _∷_}
+use mathlib.Core.List.{List}
 use Prim.Native.Nat.{ℕ}
-use native.Mathlib.Omega.{arith}
-use lib.ListN.{length, take, drop, getD, take-append-drop}
+use lib.ListN.{take, drop, take-append-drop}
 use borrow.Author.Tests.{eqb-true}
 use Rattle.text.specs.Bytes.{bytesVerdict, allOf}
 use Rattle.text.specs.declared.Class.the-variants.{Account, Blanks, Place}
@@ -15,11 +14,6 @@ use Rattle.account.specs.Answers.{isIban}
 use Rattle.account.proofs.Laws.{formed-permitted}
 use Rattle.refusal.proofs.Verdicts.{pass-both}
 use Rattle.wage_contents.specs.Contents.{ibanPlaceVerdict}
-
--- the first byte of nothing
-pub first-of-none : (f : List ℕ) → length f ≡ 0 → 0 ≡ getD f 0 0
-first-of-none [] e = refl
-first-of-none (b ∷ f) e = absurd (omega arith)
 
 -- an IBAN with blanks behind it is bytes that its place permits
 account-placed : (f : List ℕ) → allOf Blanks (drop 21 f) ≡ true → ibanFormed (take 21 f) ≡ true → allOf Place f ≡ true

@@ -5,11 +5,18 @@ use mathlib.Core.Bool.{Bool}
 use mathlib.Core.List.{List}
 use Prim.Native.Nat.{ℕ}
 use Rattle.refusal.specs.Only.{Only, defined-only}
-use Rattle.wage_contents.specs.declared.Held.{Held}
-use Rattle.wage_contents.specs.Contents.{amongVerdict, oibPlaceVerdict, employerVerdict, dateVerdict, ibanPlaceVerdict, currencyVerdict, purposePlaceVerdict, signVerdict, heldIn, heldBlank, heldVerdict, referenceHeld, descriptionVerdict, codeVerdict}
+use Rattle.wage_contents.specs.Contents.{tested, amongVerdict, oibPlaceVerdict, employerVerdict, dateVerdict, ibanPlaceVerdict, currencyVerdict}
+use Rattle.refusal.specs.Verdict.{onlyIf}
+use Rattle.text.specs.declared.Class.{Class}
 
 -- ---------------------------------------------------------------------------
 -- Any two answers that a contract allows are equal
+
+pub only-if-only : (right : Bool) (n : ℕ) → Only (λ (r : ℕ). r ≡ onlyIf right n)
+only-if-only right n = defined-only (onlyIf right n)
+
+pub judge-tested-only : (k : Class) (f : List ℕ) (right : Bool) (n : ℕ) → Only (λ (r : ℕ). r ≡ tested k f right n)
+judge-tested-only k f right n = defined-only (tested k f right n)
 
 pub judge-among-only : (a b c : ℕ) (f : List ℕ) → Only (λ (r : ℕ). r ≡ amongVerdict a b c f)
 judge-among-only a b c f = defined-only (amongVerdict a b c f)
@@ -28,24 +35,3 @@ judge-iban-only blank f = defined-only (ibanPlaceVerdict blank f)
 
 pub judge-currency-only : (blank : Bool) (f : List ℕ) → Only (λ (r : ℕ). r ≡ currencyVerdict blank f)
 judge-currency-only blank f = defined-only (currencyVerdict blank f)
-
-pub judge-purpose-only : (f : List ℕ) → Only (λ (r : ℕ). r ≡ purposePlaceVerdict f)
-judge-purpose-only f = defined-only (purposePlaceVerdict f)
-
-pub judge-sign-only : (a b c : ℕ) (f : List ℕ) → Only (λ (r : ℕ). r ≡ signVerdict a b c f)
-judge-sign-only a b c f = defined-only (signVerdict a b c f)
-
-pub model-in-only : (m : List ℕ) → Only (λ (r : Held). r ≡ heldIn m)
-model-in-only m = defined-only (heldIn m)
-
-pub judge-model-only : (h : Held) → Only (λ (r : ℕ). r ≡ heldVerdict h)
-judge-model-only h = defined-only (heldVerdict h)
-
-pub judge-reference-only : (h : Held) (f : List ℕ) → Only (λ (r : ℕ). r ≡ referenceHeld h f)
-judge-reference-only h f = defined-only (referenceHeld h f)
-
-pub judge-description-only : (f : List ℕ) → Only (λ (r : ℕ). r ≡ descriptionVerdict f)
-judge-description-only f = defined-only (descriptionVerdict f)
-
-pub judge-code-only : (kind : ℕ) (h : Held) (f : List ℕ) → Only (λ (r : ℕ). r ≡ codeVerdict kind (heldBlank h) f)
-judge-code-only kind h f = defined-only (codeVerdict kind (heldBlank h) f)

@@ -4,24 +4,19 @@ use mathlib.Core.Bool.{Bool, _&&_, _||_}
 use mathlib.Core.List.{List}
 use Prim.Native.Nat.{ℕ, _<_}
 use native.Mathlib.Omega.{arith}
-use lib.ListN.{length, take, drop, getD}
+use lib.ListN.{length, take, drop}
 use Rattle.refusal.specs.Verdict.{onlyIf, Within}
 use Rattle.refusal.proofs.Verdicts.{choice-within, then-within, only-within}
-use Rattle.text.specs.Bytes.{bytesVerdict, allOf, trimmed, same, eur}
+use Rattle.text.specs.Bytes.{bytesVerdict, allOf, same, eur}
 use Rattle.text.specs.declared.Class.{Class}
-use Rattle.text.specs.declared.Class.the-variants.{Digits, Reference, Letters, Blanks, Zeros, Place, Description}
+use Rattle.text.specs.declared.Class.the-variants.{Digits, Blanks, Zeros, Place}
 use Rattle.text.proofs.Laws.{bytes-within}
-use Rattle.text.proofs.Blanks.{trimmed-shorter}
 use Rattle.account.specs.Account.{oibPasses}
 use Rattle.account.proofs.Theorems.{iban-check-within}
-use Rattle.models.specs.Models.{modelOf}
-use Rattle.reference.proofs.Theorems.{modelled-within}
-use Rattle.wage_contents.specs.declared.Held.{Held}
-use Rattle.wage_contents.specs.declared.Held.the-variants.{Blank, NoModel, Number}
-use Rattle.wage_contents.specs.Contents.{tested, oneOf, amongVerdict, oibPlaceVerdict, employerVerdict, dateVerdict, ibanPlaceVerdict, currencyVerdict, purposePlaceVerdict, signVerdict, heldVerdict, bareHeld, referenceHeld, descriptionVerdict, codeVerdict}
+use Rattle.wage_contents.specs.Contents.{tested, amongVerdict, oibPlaceVerdict, employerVerdict, dateVerdict, ibanPlaceVerdict, currencyVerdict}
 
 -- 3, then a test
-tested-within : (k : Class) (f : List ℕ) (b : Bool) (n : ℕ) → n < 32 → Within (length f) (tested k f b n)
+pub tested-within : (k : Class) (f : List ℕ) (b : Bool) (n : ℕ) → n < 32 → Within (length f) (tested k f b n)
 unfolding tested
 tested-within k f b n h = then-within (length f) (bytesVerdict k f) (onlyIf b n) (bytes-within k f) (only-within (length f) b n h)
 
@@ -54,34 +49,3 @@ iban-place-within blank f =
 pub currency-within : (blank : Bool) (f : List ℕ) → Within (length f) (currencyVerdict blank f)
 unfolding currencyVerdict
 currency-within blank f = only-within (length f) ((blank && allOf Blanks f) || same eur f) 5 (omega arith)
-
-pub purpose-within : (f : List ℕ) → Within (length f) (purposePlaceVerdict f)
-unfolding purposePlaceVerdict
-purpose-within f = only-within (length f) (allOf Blanks f || allOf Letters f) 5 (omega arith)
-
-pub sign-within : (a b c : ℕ) (f : List ℕ) → Within (length f) (signVerdict a b c f)
-unfolding signVerdict
-sign-within a b c f = only-within (length f) (oneOf a b c (getD f 0 0)) 5 (omega arith)
-
-pub held-within : (h : Held) (n : ℕ) → Within n (heldVerdict h)
-unfolding heldVerdict
-held-within Blank n = omega arith
-held-within NoModel n = omega arith
-held-within (Number k) n = only-within n (modelOf k .handled) 7 (omega arith)
-
-pub reference-within : (h : Held) (f : List ℕ) → Within (length f) (referenceHeld h f)
-unfolding referenceHeld
-reference-within h f = omega (arith, bare h (trimmed f), trimmed-shorter f)
-  where
-    bare : (k : Held) (g : List ℕ) → Within (length g) (bareHeld k g)
-    bare Blank g = tested-within Reference g _ 8 (omega arith)
-    bare NoModel g = omega arith
-    bare (Number n) g = modelled-within (modelOf n) g
-
-pub description-within : (f : List ℕ) → Within (length f) (descriptionVerdict f)
-unfolding descriptionVerdict
-description-within f = tested-within Description f _ 5 (omega arith)
-
-pub code-within : (kind : ℕ) (blank : Bool) (f : List ℕ) → Within (length f) (codeVerdict kind blank f)
-unfolding codeVerdict
-code-within kind blank f = tested-within Digits f _ 5 (omega arith)

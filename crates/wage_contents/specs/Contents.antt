@@ -1,27 +1,20 @@
 -- Document 01, "The wage file": what a place of a line may hold, each kind of content once, as a verdict (refusal/specs/Verdict.antt). Within
--- a field 3 with its byte, 5, 6, 7, 8, 9, 11.
+-- a field 3 with its byte, 5, 6, 11.
 -- "Numeric fields are digits only (else 3), zeros for absent, unless stated. 3 is also given in an IBAN place for a byte not A to Z, digit or
--- blank; in a reference for one not digit, hyphen or trailing blank; in a description. Every other wrong byte or content is 5."
+-- blank .. Every other wrong byte or content is 5."
 use Prim.Native.Nat.{ℕ}
-use mathlib.Core.Bool.{Bool, true, false, cond, not, _&&_, _||_}
+use mathlib.Core.Bool.{Bool, cond, not, _&&_, _||_}
 use mathlib.Core.List.{List}
 use lib.Dec.{eqb, leb}
-use lib.ListN.{length, take, drop, getD}
+use lib.ListN.{take, drop}
 use Rattle.refusal.specs.Verdict.{andThen, onlyIf}
-use Rattle.text.specs.Bytes.{bytesVerdict, allOf, trimmed, same, eur}
+use Rattle.text.specs.Bytes.{bytesVerdict, allOf, same, eur}
 use Rattle.text.specs.declared.Class.{Class}
-use Rattle.text.specs.declared.Class.the-variants.{Digits, Reference, Letters, Blanks, Zeros, Place, Description}
-use Rattle.text.specs.declared.Found.{Found}
-use Rattle.text.specs.declared.Found.the-variants.{At, Nothing}
+use Rattle.text.specs.declared.Class.the-variants.{Digits, Blanks, Zeros, Place}
 use Rattle.account.specs.Account.{oibPasses}
 use Rattle.account.specs.Answers.{ibanCheckVerdict}
-use Rattle.models.specs.Models.{modelNumber, modelFrom}
-use Rattle.reference.specs.Answers.{numberVerdict}
 use Rattle.dates.specs.Dates.{isDate}
-use Rattle.codes.specs.Codes.{codePlace}
 use Rattle.sums.specs.Sums.{numberIn}
-use Rattle.wage_contents.specs.declared.Held.{Held}
-use Rattle.wage_contents.specs.declared.Held.the-variants.{Blank, NoModel, Number}
 
 -- "digits only (else 3)", and of other classes: 3 with its byte, then the refusal n unless a test holds
 unfoldable pub tested : Class → List ℕ → Bool → ℕ → ℕ
@@ -55,7 +48,7 @@ unfoldable pub dateVerdict : ℕ → ℕ → List ℕ → ℕ
 dateVerdict first last f = tested Digits f (isDate (numberIn f) && (leb first (numberIn f) && leb (numberIn f) last)) 11
 
 -- ---------------------------------------------------------------------------
--- IBAN, currency, purpose, sign
+-- IBAN, currency
 
 -- "IBAN and thirteen blanks", "blank or IBAN"
 unfoldable pub ibanPlaceVerdict : Bool → List ℕ → ℕ
@@ -66,61 +59,3 @@ ibanPlaceVerdict blank f =
 -- "`EUR`", "blank or `EUR`"
 unfoldable pub currencyVerdict : Bool → List ℕ → ℕ
 currencyVerdict blank f = onlyIf ((blank && allOf Blanks f) || same eur f) 5
-
--- "blank or four letters A to Z"
-unfoldable pub purposePlaceVerdict : List ℕ → ℕ
-purposePlaceVerdict f = onlyIf (allOf Blanks f || allOf Letters f) 5
-
--- "547 blank, 0 or 3 and 548 blank or 0, all else 5": one of three bytes
-unfoldable pub signVerdict : ℕ → ℕ → ℕ → List ℕ → ℕ
-signVerdict a b c f = onlyIf (oneOf a b c (getD f 0 0)) 5
-
--- ---------------------------------------------------------------------------
--- Model and reference
-
--- a model's number, or none
-abbrev pub heldFrom : Found → Held
-heldFrom (At n) = Number n
-heldFrom Nothing = NoModel
-
--- what a model's place holds
-unfoldable pub heldIn : List ℕ → Held
-heldIn m = cond (allOf Blanks m) Blank (heldFrom (modelNumber m))
-
--- whether that is nothing
-abbrev pub heldBlank : Held → Bool
-heldBlank Blank = true
-heldBlank NoModel = false
-heldBlank (Number n) = false
-
--- "model": a model's place by what it holds
-unfoldable pub heldVerdict : Held → ℕ
-heldVerdict Blank = 0
-heldVerdict NoModel = modelFrom Nothing
-heldVerdict (Number n) = modelFrom (At n)
-
--- "A blank model needs a blank reference, else 8": a reference without its last blanks, by what its model's place holds
-abbrev pub bareHeld : Held → List ℕ → ℕ
-bareHeld Blank g = tested Reference g (eqb (length g) 0) 8
-bareHeld NoModel g = numberVerdict g Nothing
-bareHeld (Number n) g = numberVerdict g (At n)
-
--- "Trailing blanks end a reference"
-unfoldable pub referenceHeld : Held → List ℕ → ℕ
-referenceHeld h f = bareHeld h (trimmed f)
-
--- ---------------------------------------------------------------------------
--- Description, code
-
--- "description", "not all blank"
-unfoldable pub descriptionVerdict : List ℕ → ℕ
-descriptionVerdict f = tested Description f (not (allOf Blanks f)) 5
-
--- whether something was found
-abbrev pub isFound : Found → Bool
-isFound (At i) = true
-isFound Nothing = false
-
--- "a code of 004's list"; "For kind 5, code 500 with a blank recipient's model is 5"
-unfoldable pub codeVerdict : ℕ → Bool → List ℕ → ℕ
-codeVerdict kind blank f = tested Digits f (isFound (codePlace (numberIn f)) && not (eqb kind 5 && (eqb (numberIn f) 500 && blank))) 5

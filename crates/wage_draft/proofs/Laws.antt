@@ -18,13 +18,14 @@ use Rattle.room.proofs.Places.{sets-length, take-sets, drop-sets, place-filled,
 use Rattle.refusal.specs.declared.Answer.{Answer}
 use Rattle.refusal.specs.declared.Answer.the-variants.{Accepted, Refused}
 use Rattle.refusal.specs.declared.Refusal.{Refusal}
-use Rattle.wage_line.specs.declared.LineType.{LineType}
-use Rattle.wage_line.specs.declared.Spot.{Spot}
-use Rattle.wage_line.specs.declared.LineType.the-variants.{Label, Group, Order, Closing}
-use Rattle.wage_line.specs.Places.{noSpot, spots, spotIn, spotOf}
-use Rattle.wage_line.specs.Line.{partAt, partOf}
-use Rattle.wage_line.proofs.Laws.{part-length}
-use Rattle.wage_fields.specs.Rules.{labelRule, orderRule, ruleVerdict, placeVerdict, placeAnswer, placesFrom}
+use Rattle.wage_places.specs.declared.LineType.{LineType}
+use Rattle.wage_places.specs.declared.Spot.{Spot}
+use Rattle.wage_places.specs.declared.LineType.the-variants.{Label, Group, Order, Closing}
+use Rattle.wage_places.specs.Places.{noSpot, spots, spotIn, spotOf, partAt, partOf}
+use Rattle.wage_places.proofs.Laws.{part-length}
+use Rattle.label_rules.specs.Rules.{labelRule}
+use Rattle.order_rules.specs.Rules.{orderRule}
+use Rattle.wage_fields.specs.Rules.{ruleVerdict, placeVerdict, placeAnswer, placesFrom}
 use Rattle.refusal.proofs.Verdicts.{first-both}
 use Rattle.wage_fields.proofs.Laws.{accept-both}
 use Rattle.wage_draft.specs.Fields.{fieldsOf, behind, FieldEnd}

@@ -11,13 +11,14 @@ use Rattle.refusal.specs.Only.{Only, defined-only}
 use Rattle.text.specs.Split.{joined}
 use Rattle.refusal.specs.declared.Answer.{Answer}
 use Rattle.refusal.specs.declared.Answer.the-variants.{Accepted}
-use Rattle.wage_line.specs.declared.LineType.{LineType}
-use Rattle.wage_line.specs.declared.LineType.the-variants.{Label, Group, Order, Closing}
-use Rattle.wage_line.specs.declared.Spot.{Spot}
+use Rattle.wage_places.specs.declared.LineType.{LineType}
+use Rattle.wage_places.specs.declared.LineType.the-variants.{Label, Group, Order, Closing}
+use Rattle.wage_places.specs.declared.Spot.{Spot}
 use Rattle.wage_line.specs.declared.Typed.the-variants.{Line}
-use Rattle.wage_line.specs.Places.{spots, noSpot}
-use Rattle.wage_line.specs.Line.{typeFrom, typeText, typedOf, partAt}
-use Rattle.wage_line.proofs.Theorems.{placeAt, typed-exactly}
+use Rattle.wage_places.specs.Places.{spots, noSpot, partAt}
+use Rattle.wage_line.specs.Line.{typeFrom, typeText, typedOf}
+use Rattle.wage_places.proofs.Theorems.{placeAt}
+use Rattle.wage_line.proofs.Theorems.{typed-exactly}
 use Rattle.wage_fields.specs.Rules.{placesAnswer}
 use Rattle.wage_draft.specs.Fields.{fieldsOf, behind}
 use Rattle.wage_draft.specs.Draft.{Draft, dressed, bareLine, placed, goingOn, drafted, partsOf, sizesOf, blanked, plainElsewhere, Drafts}

@@ -10,11 +10,11 @@ use lib.Seq.{sets}
 use Rattle.refusal.specs.declared.Answer.{Answer}
 use Rattle.refusal.specs.declared.Answer.the-variants.{Accepted, Refused}
 use Rattle.refusal.specs.declared.Refusal.the-variants.{Length}
-use Rattle.wage_line.specs.declared.LineType.{LineType}
-use Rattle.wage_line.specs.declared.LineType.the-variants.{Label, Group, Order, Closing}
-use Rattle.wage_line.specs.declared.Spot.{Spot}
-use Rattle.wage_line.specs.Places.{spots}
-use Rattle.wage_line.specs.Line.{typeText, partAt}
+use Rattle.wage_places.specs.declared.LineType.{LineType}
+use Rattle.wage_places.specs.declared.LineType.the-variants.{Label, Group, Order, Closing}
+use Rattle.wage_places.specs.declared.Spot.{Spot}
+use Rattle.wage_places.specs.Places.{spots, partAt}
+use Rattle.wage_line.specs.Line.{typeText}
 use Rattle.wage_fields.specs.Rules.{placeAnswer}
 
 -- ---------------------------------------------------------------------------

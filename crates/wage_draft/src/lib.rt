@@ -5,7 +5,7 @@
 ghost use mathlib.Core.Path.{_≡_};
 ghost use Prim.Native.Nat.{_-_, _≤_};
 ghost use lib.ListN.{getD, take, drop, length};
-ghost use Rattle.wage_line.specs.Places.{spots, noSpot};
+ghost use Rattle.wage_places.specs.Places.{spots, noSpot};
 ghost use Rattle.wage_draft.specs.Fields.{fieldsOf, behind, FieldEnd};
 ghost use Rattle.wage_draft.specs.Draft.{bankZeros, dressed, placed, drafted, Drafts};
 ghost use Rattle.wage_line.specs.Line.{typeText};
@@ -13,7 +13,7 @@ ghost use lib.Seq.{sets};
 use refusal::Answer;
 use refusal::Place;
 use refusal::Refusal;
-use wage_line::LineType;
+use wage_places::LineType;
 
 // ---------------------------------------------------------------------------
 // A line without fields
@@ -68,7 +68,7 @@ pub fn dress(t: LineType, line: &mut [u8])
 fn place(day: u64, kind: u64, t: LineType, k: usize, f: &[u8], line: &mut [u8]) -> Answer
     ensures { λ r. ⌜ Drafts (placed day kind t (getD (spots t) k noSpot) (now (f .entry)) (now (line .entry))) r (now (line .exit)) ⌝ }
 {
-    let p = wage_line::spot_at(t, k);
+    let p = wage_places::spot_at(t, k);
     let field = p.field;
     let start = p.start;
     let size = p.size;
@@ -117,7 +117,7 @@ pub fn draft(
 ) -> Answer
     ensures { λ r. ⌜ Drafts (drafted day kind t (take (last - first) (drop first (spots t))) (fieldsOf (now (sizes .entry)) (now (text .entry))) (now (line .entry))) r (now (line .exit)) ⌝ }
 {
-    let count = wage_line::count(t);
+    let count = wage_places::count(t);
     let mut k = first;
     let mut i: usize = 0;
     let mut at: usize = 0;

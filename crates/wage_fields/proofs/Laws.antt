@@ -1,7 +1,7 @@
 -- Laws of a line's places: the byte that a verdict tells, answers joined, the places from one up to another, and the first that is refused.
 -- Assumes nothing.
 use mathlib.Core.Path.{_≡_, refl, ap, _∙_}
-use mathlib.Core.Bool.{Bool, true, false, cond, not}
+use mathlib.Core.Bool.{Bool, true, false, cond}
 use mathlib.Core.List.{List, [], _∷_}
 use Prim.Native.Nat.{ℕ, zero, suc, _+_, _-_, _≤_, _<_, _^_}
 use native.Mathlib.Numerals.{add-one}
@@ -16,17 +16,15 @@ use Rattle.refusal.specs.declared.Answer.the-variants.{Accepted, Refused}
 use Rattle.refusal.specs.declared.Place.{Place}
 use Rattle.refusal.specs.declared.Refusal.{Refusal}
 use Rattle.refusal.specs.declared.Refusal.the-variants.{Size, Ends, Byte, Length, Form, Check, Model, Parts, Digit, Misplaced, Date, Orders, Sum, Unfinished, Room, Marks, Beyond}
-use Rattle.refusal.proofs.Verdicts.{choice-within, byte-within}
-use Rattle.text.specs.declared.Class.the-variants.{Digits}
-use Rattle.text.proofs.Laws.{bytes-within}
-use Rattle.wage_line.specs.declared.LineType.{LineType}
-use Rattle.wage_line.specs.declared.LineType.the-variants.{Label, Group, Order, Closing}
-use Rattle.wage_line.specs.declared.Spot.{Spot}
-use Rattle.wage_line.specs.Places.{spots, noSpot}
-use Rattle.wage_line.specs.Line.{partAt, partOf}
-use Rattle.wage_line.proofs.Theorems.{placeAt, Small, sizes-small}
-use Rattle.wage_contents.specs.Contents.{heldIn, heldBlank}
-use Rattle.wage_contents.proofs.Within.{among-within, oib-within, employer-within, date-within, iban-place-within, currency-within, purpose-within, sign-within, held-within, reference-within, description-within, code-within}
+use Rattle.refusal.proofs.Verdicts.{byte-within}
+use Rattle.wage_places.specs.declared.LineType.{LineType}
+use Rattle.wage_places.specs.declared.LineType.the-variants.{Label, Group, Order, Closing}
+use Rattle.wage_places.specs.declared.Spot.{Spot}
+use Rattle.wage_places.specs.Places.{spots, noSpot, partAt}
+use Rattle.wage_places.proofs.Theorems.{placeAt, Small, sizes-small}
+use Rattle.label_rules.proofs.Theorems.{label-within}
+use Rattle.group_rules.proofs.Theorems.{group-within}
+use Rattle.order_rules.proofs.Theorems.{order-within}
 use Rattle.wage_fields.specs.Rules.{ruleVerdict, placeVerdict, placeAnswer, placesFrom, placesAnswer, spotsFrom}
 
 -- ---------------------------------------------------------------------------
@@ -34,42 +32,9 @@ use Rattle.wage_fields.specs.Rules.{ruleVerdict, placeVerdict, placeAnsw
 
 -- a rule tells a byte of the bytes that it was given
 rule-within : (day kind : ℕ) (t : LineType) (n : ℕ) (f s : List ℕ) → Within (length f) (ruleVerdict day kind t n f s)
-rule-within day kind Label n f s =
-    let or = choice-within (length f) in
-    or (eqb n 1) _ _ (date-within day day f)
-    (or (eqb n 2) _ _ (among-within 4 5 5 f)
-    (or (eqb n 3) _ _ (among-within 0 0 0 f)
-    (or (eqb n 4) _ _ (among-within 1 2 2 f)
-    (or (eqb n 5) _ _ (oib-within true f)
-    (or (eqb n 6) _ _ (bytes-within Digits f)
-    (or (eqb n 7) _ _ (employer-within (partOf Label 5 s) (partOf Label 6 s) f)
-    (or (eqb n 8) _ _ (oib-within false f) (omega arith))))))))
-rule-within day kind Group n f s =
-    let or = choice-within (length f) in
-    or (eqb n 1) _ _ (iban-place-within false f)
-    (or (eqb n 2) _ _ (currency-within false f)
-    (or (eqb n 3) _ _ (iban-place-within true f)
-    (or (eqb n 4) _ _ (currency-within true f)
-    (or (eqb n 5) _ _ (bytes-within Digits f)
-    (or (eqb n 6) _ _ (bytes-within Digits f)
-    (or (eqb n 7) _ _ (date-within day 99991231 f) (omega arith)))))))
-rule-within day kind Order n f s =
-    let or = choice-within (length f) in
-    or (eqb n 1) _ _ (iban-place-within false f)
-    (or (eqb n 5) _ _ (among-within 0 191 191 f)
-    (or (eqb n 6) _ _ (held-within (heldIn f) (length f))
-    (or (eqb n 7) _ _ (reference-within (heldIn (partOf Order 6 s)) f)
-    (or (eqb n 8) _ _ (purpose-within f)
-    (or (eqb n 9) _ _ (description-within f)
-    (or (eqb n 10) _ _ (bytes-within Digits f)
-    (or (eqb n 11) _ _ (held-within (heldIn f) (length f))
-    (or (eqb n 12) _ _ (reference-within (heldIn (partOf Order 11 s)) f)
-    (or (eqb n 18) _ _ (among-within 0 1 2 f)
-    (or (eqb n 19) _ _ (currency-within true f)
-    (or (eqb n 20) _ _ (sign-within 32 48 51 f)
-    (or (eqb n 21) _ _ (sign-within 32 48 48 f)
-    (or (eqb n 22) _ _ (code-within kind (heldBlank (heldIn (partOf Order 11 s))) f)
-    (or (eqb n 23) _ _ (oib-within (not (eqb kind 5)) f) (omega arith)))))))))))))))
+rule-within day kind Label n f s = label-within day n f s
+rule-within day kind Group n f s = group-within day n f
+rule-within day kind Order n f s = order-within kind n f s
 rule-within day kind Closing n f s = omega arith
 
 -- so of a place, or the one behind it

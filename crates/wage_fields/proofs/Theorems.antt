@@ -12,20 +12,19 @@ use borrow.Author.Tests.{ltb-true}
 use Rattle.refusal.specs.Only.{Only, defined-only}
 use Rattle.refusal.specs.Refusal.{placeOf}
 use Rattle.refusal.specs.Verdict.{verdictByte}
-use Rattle.refusal.proofs.Verdicts.{answer-accepted, accepted-answer, first-both}
 use Rattle.refusal.specs.declared.Answer.{Answer}
 use Rattle.refusal.specs.declared.Answer.the-variants.{Accepted, Refused}
 use Rattle.refusal.specs.declared.Place.{Place}
 use Rattle.refusal.specs.declared.Refusal.{Refusal}
+use Rattle.refusal.proofs.Verdicts.{answer-accepted, accepted-answer, first-both}
 use Rattle.text.specs.Bytes.{bytesVerdict}
 use Rattle.text.specs.declared.Class.the-variants.{Digits}
-use Rattle.wage_line.specs.declared.LineType.{LineType}
-use Rattle.wage_line.specs.declared.LineType.the-variants.{Label, Group, Order, Closing}
-use Rattle.wage_line.specs.declared.Spot.{Spot}
-use Rattle.wage_line.specs.Places.{spots, noSpot}
-use Rattle.wage_line.specs.Line.{partAt, partOf}
-use Rattle.wage_line.proofs.Laws.{each, each-at}
-use Rattle.wage_line.proofs.Theorems.{placeAt, found-spot, sizes-small}
+use Rattle.wage_places.specs.declared.LineType.{LineType}
+use Rattle.wage_places.specs.declared.LineType.the-variants.{Label, Group, Order, Closing}
+use Rattle.wage_places.specs.declared.Spot.{Spot}
+use Rattle.wage_places.specs.Places.{spots, noSpot, partAt, partOf}
+use Rattle.wage_places.proofs.Laws.{each, each-at}
+use Rattle.wage_places.proofs.Theorems.{placeAt, found-spot, sizes-small}
 use Rattle.wage_contents.specs.Contents.{amongVerdict}
 use Rattle.wage_fields.specs.Rules.{ruleVerdict, placeVerdict, placeAnswer, placesFrom, placesAnswer}
 use Rattle.wage_fields.proofs.Laws.{size-right, accept-both, told-place, place-within, Stops, stops}

@@ -18,12 +18,12 @@ use Rattle.refusal.proofs.Verdicts.{both-pass, test-holds}
 use Rattle.sums.specs.Sums.{limb, sumOf, fits, sameSum, numberOf, numberIn}
 use Rattle.sums.proofs.Laws.{added-on}
 use Rattle.sums.proofs.Theorems.{sum-fits, sums-told-apart, text-small}
-use Rattle.wage_line.specs.declared.LineType.{LineType}
-use Rattle.wage_line.specs.declared.LineType.the-variants.{Label, Group, Order, Closing}
+use Rattle.wage_places.specs.declared.LineType.{LineType}
+use Rattle.wage_places.specs.declared.LineType.the-variants.{Label, Group, Order, Closing}
 use Rattle.wage_line.specs.declared.Typed.{Typed}
 use Rattle.wage_line.specs.declared.Typed.the-variants as typed
-use Rattle.wage_line.specs.Places.{spots, spotIn}
-use Rattle.wage_line.specs.Line.{typedOf, partOf}
+use Rattle.wage_places.specs.Places.{spots, spotIn, partOf}
+use Rattle.wage_line.specs.Line.{typedOf}
 use Rattle.wage_fields.specs.Rules.{placesAnswer}
 use Rattle.wage_fields.proofs.Theorems.{closing-has-none}
 use Rattle.judge.specs.declared.Condition.the-variants.{Grouped}

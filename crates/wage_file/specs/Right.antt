@@ -8,10 +8,11 @@ use lib.ListN.{length, getD}
 use Rattle.refusal.specs.declared.Answer.the-variants.{Accepted}
 use Rattle.dates.specs.Dates.{isDate}
 use Rattle.sums.specs.Sums.{numberOf, numberIn}
-use Rattle.wage_line.specs.declared.LineType.{LineType}
-use Rattle.wage_line.specs.declared.LineType.the-variants.{Label, Group, Order, Closing}
+use Rattle.wage_places.specs.declared.LineType.{LineType}
+use Rattle.wage_places.specs.declared.LineType.the-variants.{Label, Group, Order, Closing}
 use Rattle.wage_line.specs.declared.Typed.the-variants.{Line}
-use Rattle.wage_line.specs.Line.{typedOf, partOf}
+use Rattle.wage_line.specs.Line.{typedOf}
+use Rattle.wage_places.specs.Places.{partOf}
 use Rattle.wage_fields.specs.Rules.{placesAnswer}
 use Rattle.judge.specs.declared.Counts.{Counts}
 

@@ -3,15 +3,14 @@ use Prim.Native.Nat.{ℕ}
 use mathlib.Core.Bool.{Bool, cond, _&&_}
 use mathlib.Core.List.{List, [], _∷_}
 use lib.Dec.{eqb}
-use lib.ListN.{length, take, drop, getD}
+use lib.ListN.{length, getD}
 use Rattle.refusal.specs.Refusal.{none}
 use Rattle.refusal.specs.declared.Refusal.the-variants.{Size, Ends, Form}
-use Rattle.wage_line.specs.declared.LineType.{LineType}
-use Rattle.wage_line.specs.declared.LineType.the-variants.{Label, Group, Order, Closing}
-use Rattle.wage_line.specs.declared.Spot.{Spot}
+use Rattle.wage_places.specs.declared.LineType.{LineType}
+use Rattle.wage_places.specs.declared.LineType.the-variants.{Label, Group, Order, Closing}
 use Rattle.wage_line.specs.declared.Typed.{Typed}
 use Rattle.wage_line.specs.declared.Typed.the-variants.{Line, Refused}
-use Rattle.wage_line.specs.Places.{spotOf}
+use Rattle.wage_places.specs.Places.{partOf}
 
 -- ---------------------------------------------------------------------------
 -- Size, ends, type
@@ -52,15 +51,7 @@ typedOf s =
     (Refused (Size none))
 
 -- ---------------------------------------------------------------------------
--- A line's parts
-
--- the bytes of a place
-abbrev pub partAt : Spot → List ℕ → List ℕ
-partAt p s = take (p .size) (drop (p .start) s)
-
--- the bytes of field n in a line of a type
-abbrev pub partOf : LineType → ℕ → List ℕ → List ℕ
-partOf t n s = partAt (spotOf t n) s
+-- A place of a line
 
 abbrev pub queried : ℕ → List ℕ → Typed → List ℕ
 queried n s (Line t) = partOf t n s

@@ -10,8 +10,8 @@ use Rattle.refusal.specs.declared.Refusal.{Refusal}
 use Rattle.sums.specs.Sums.{centsOf, noCents, sumOf, added, numberIn}
 use Rattle.sums.specs.declared.Sum.{Sum}
 use Rattle.sums.proofs.Laws.{added-on}
-use Rattle.wage_line.specs.declared.LineType.the-variants.{Order}
-use Rattle.wage_line.specs.Line.{partOf}
+use Rattle.wage_places.specs.declared.LineType.the-variants.{Order}
+use Rattle.wage_places.specs.Places.{partOf}
 use Rattle.wage_line.specs.Pieces.{pieces, nextPiece}
 use Rattle.wage_line.proofs.PieceLaws.{pieces-more, pieces-end}
 use Rattle.wage_file.specs.Right.{amounts}

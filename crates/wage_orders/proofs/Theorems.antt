@@ -18,11 +18,11 @@ use Rattle.refusal.specs.declared.Refusal.the-variants.{Size, Misplaced, Orders
 use Rattle.sums.specs.declared.Sum.{Sum}
 use Rattle.sums.specs.Sums.{sumOf, numberIn}
 use Rattle.sums.proofs.Theorems.{text-small}
-use Rattle.wage_line.specs.declared.LineType.the-variants.{Label, Group, Order, Closing}
+use Rattle.wage_places.specs.declared.LineType.the-variants.{Label, Group, Order, Closing}
 use Rattle.wage_line.specs.declared.Typed.{Typed}
 use Rattle.wage_line.specs.declared.Typed.the-variants as typed
-use Rattle.wage_line.specs.Line.{typedOf, partOf}
-use Rattle.wage_line.specs.Places.{spots, spotIn}
+use Rattle.wage_line.specs.Line.{typedOf}
+use Rattle.wage_places.specs.Places.{partOf, spots, spotIn}
 use Rattle.wage_line.specs.Pieces.{pieces}
 use Rattle.wage_line.proofs.PieceLaws.{whole-pieces}
 use Rattle.wage_fields.specs.Rules.{placesAnswer}

@@ -14,8 +14,8 @@ use refusal::Answer;
 use refusal::Place;
 use refusal::Refusal;
 use sums::Sum;
-use wage_line::LineType;
 use wage_line::Typed;
+use wage_places::LineType;
 
 // A line that is no order: 10.
 fn no_order(n: usize) -> Answer
@@ -103,13 +103,13 @@ pub fn judge(day: u64, kind: u64, s: &[u8]) -> Answer
 pub fn total(s: &[u8]) -> Sum
     ensures { λ r. ⌜ r ≡ sumOf 100 (amounts (pieces (now (s .entry)))) ⌝ }
 {
-    let amount = wage_line::find(LineType::Order, 10);
+    let amount = wage_places::find(LineType::Order, 10);
     let mut sum = sums::nothing();
     let mut at = 0;
     while at < s.len() {
         sum = sums::add(
             sum,
-            sums::number(wage_line::part(amount, wage_line::piece(s, at))),
+            sums::number(wage_places::part(amount, wage_line::piece(s, at))),
             100,
         );
         at = wage_line::next_piece(s, at);

@@ -21,11 +21,11 @@ use Rattle.dates.specs.Dates.{isDate}
 use Rattle.sums.specs.Sums.{numberOf, numberIn}
 use Rattle.sums.proofs.Theorems.{text-small, number-of-all}
 use Rattle.room.proofs.Digits.{digits-length, number-back, digits-again}
-use Rattle.wage_line.specs.declared.LineType.the-variants.{Label, Group, Order}
+use Rattle.wage_places.specs.declared.LineType.the-variants.{Label, Group, Order}
 use Rattle.wage_line.specs.Pieces.{pieces}
-use Rattle.wage_line.specs.Places.{spots, spotIn}
-use Rattle.wage_line.specs.Line.{partOf}
-use Rattle.wage_line.proofs.Theorems.{field-size, typed-exactly}
+use Rattle.wage_places.specs.Places.{spots, spotIn, partOf}
+use Rattle.wage_places.proofs.Theorems.{field-size}
+use Rattle.wage_line.proofs.Theorems.{typed-exactly}
 use Rattle.wage_line.proofs.PieceLaws.{AllWhole}
 use Rattle.wage_contents.proofs.Accepted.{among-accepted}
 use Rattle.wage_fields.specs.Rules.{placesAnswer}

@@ -12,14 +12,15 @@ use Rattle.text.specs.Digits.{digitsText}
 use Rattle.text.specs.Split.{joined}
 use Rattle.dates.specs.Dates.{isDate}
 use Rattle.room.proofs.Digits.{number-back}
-use Rattle.wage_line.specs.declared.LineType.{LineType}
-use Rattle.wage_line.specs.declared.LineType.the-variants.{Label, Group, Order, Closing}
+use Rattle.wage_places.specs.declared.LineType.{LineType}
+use Rattle.wage_places.specs.declared.LineType.the-variants.{Label, Group, Order, Closing}
 use Rattle.wage_line.specs.declared.Typed.the-variants.{Line}
-use Rattle.wage_line.specs.Places.{spots, spotIn}
-use Rattle.wage_line.specs.Line.{typedOf, partOf, placeOf}
+use Rattle.wage_places.specs.Places.{spots, spotIn, partOf}
+use Rattle.wage_line.specs.Line.{typedOf, placeOf}
 use Rattle.wage_line.specs.Pieces.{pieces}
 use Rattle.wage_line.proofs.PieceLaws.{AllWhole, whole-pieces, pieces-of-lines, pieces-joined}
-use Rattle.wage_line.proofs.Theorems.{placeAt, found-spot, place-typed, typed-exactly}
+use Rattle.wage_places.proofs.Theorems.{placeAt, found-spot}
+use Rattle.wage_line.proofs.Theorems.{place-typed, typed-exactly}
 use Rattle.judge.specs.declared.Counts.{Counts}
 use Rattle.judge.specs.declared.Ending.the-variants as ending
 use Rattle.wage_file.specs.Right.{Payments, File, groupLines, linesOf, tally, RightLine, kindOf, amounts, RightGroup, RightFile}

@@ -6,9 +6,9 @@ use mathlib.Core.List.{List, [], _∷_, map}
 use lib.ListN.{length, getD}
 use Rattle.refusal.specs.declared.Answer.the-variants.{Accepted}
 use Rattle.text.specs.Split.{joined}
-use Rattle.wage_line.specs.declared.LineType.{LineType}
-use Rattle.wage_line.specs.declared.LineType.the-variants.{Label, Group, Order, Closing}
-use Rattle.wage_line.specs.Line.{partOf}
+use Rattle.wage_places.specs.declared.LineType.{LineType}
+use Rattle.wage_places.specs.declared.LineType.the-variants.{Label, Group, Order, Closing}
+use Rattle.wage_places.specs.Places.{partOf}
 use Rattle.wage_line.specs.Pieces.{pieces}
 use Rattle.wage_file.specs.Right.{Payments, File, linesOf, kindOf}
 use Rattle.wage_draft.specs.Fields.{fieldsOf}

@@ -22,9 +22,9 @@ use Rattle.sums.specs.Sums.{sumOf, limb}
 use Rattle.sums.proofs.Laws.{sum-small, in-limbs, low-small}
 use Rattle.room.proofs.Places.{front}
 use Rattle.room.proofs.Digits.{digits-length, digits-two-limbs}
-use Rattle.wage_line.specs.declared.LineType.{LineType}
-use Rattle.wage_line.specs.declared.LineType.the-variants.{Group}
-use Rattle.wage_line.specs.Places.{spots}
+use Rattle.wage_places.specs.declared.LineType.{LineType}
+use Rattle.wage_places.specs.declared.LineType.the-variants.{Group}
+use Rattle.wage_places.specs.Places.{spots}
 use Rattle.wage_draft.specs.Fields.{fieldsOf, behind}
 use Rattle.wage_draft.specs.Draft.{Draft, dressed, bareLine, drafted, goingOn, Drafts}
 use Rattle.wage_draft.proofs.Theorems.{drafted-append, drafted-by-fields}

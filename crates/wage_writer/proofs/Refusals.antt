@@ -16,13 +16,13 @@ use Rattle.refusal.specs.declared.Answer.the-variants.{Accepted, Refused}
 use Rattle.refusal.specs.declared.Refusal.{Refusal}
 use Rattle.refusal.specs.declared.Refusal.the-variants.{Size, Ends, Byte, Length, Form, Check, Model, Parts, Digit, Misplaced, Date, Orders, Sum, Unfinished, Room, Marks, Beyond}
 use Rattle.dates.specs.Dates.{isDate}
-use Rattle.wage_line.specs.declared.LineType.{LineType}
-use Rattle.wage_line.specs.declared.LineType.the-variants.{Label, Group, Order, Closing}
-use Rattle.wage_line.specs.declared.Spot.{Spot}
+use Rattle.wage_places.specs.declared.LineType.{LineType}
+use Rattle.wage_places.specs.declared.LineType.the-variants.{Label, Group, Order, Closing}
+use Rattle.wage_places.specs.declared.Spot.{Spot}
 use Rattle.wage_line.specs.declared.Typed.{Typed}
 use Rattle.wage_line.specs.declared.Typed.the-variants as typed
 use Rattle.wage_line.specs.Line.{typedOf}
-use Rattle.wage_line.specs.Places.{spots}
+use Rattle.wage_places.specs.Places.{spots}
 use Rattle.wage_line.specs.Pieces.{pieces}
 use Rattle.wage_fields.specs.Rules.{placeVerdict, placeAnswer, placesAnswer}
 use Rattle.wage_fields.proofs.Laws.{told-place}

@@ -13,7 +13,7 @@ use Rattle.refusal.specs.declared.Answer.{Answer}
 use Rattle.refusal.specs.declared.Answer.the-variants.{Accepted, Refused}
 use Rattle.refusal.specs.declared.Refusal.{Refusal}
 use Rattle.dates.specs.Dates.{isDate}
-use Rattle.wage_line.specs.declared.LineType.the-variants.{Label, Group, Order, Closing}
+use Rattle.wage_places.specs.declared.LineType.the-variants.{Label, Group, Order, Closing}
 use Rattle.wage_draft.specs.Draft.{bareLine}
 use Rattle.wage_orders.specs.Orders.{groupOrders}
 use Rattle.wage_writer.specs.Writer.{labelDraft, orderDraft, groupDraft, forRoom, labelAnswer, orderAnswer, groupAnswer, closingAnswer, leftBy, Writes}

@@ -12,8 +12,8 @@ use Rattle.refusal.specs.declared.Answer.the-variants.{Accepted, Refused}
 use Rattle.refusal.specs.declared.Refusal.the-variants.{Form, Date, Room}
 use Rattle.text.specs.Digits.{digitsText}
 use Rattle.dates.specs.Dates.{isDate}
-use Rattle.wage_line.specs.declared.LineType.the-variants.{Label, Group, Order}
-use Rattle.wage_line.specs.Places.{spots}
+use Rattle.wage_places.specs.declared.LineType.the-variants.{Label, Group, Order}
+use Rattle.wage_places.specs.Places.{spots}
 use Rattle.wage_line.specs.Pieces.{pieces}
 use Rattle.wage_file.specs.Right.{amounts}
 use Rattle.wage_draft.specs.Draft.{Draft, bareLine, drafted}

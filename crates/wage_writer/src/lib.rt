@@ -12,13 +12,13 @@ ghost use Rattle.refusal.specs.Refusal.{firstOf};
 ghost use Rattle.text.specs.Digits.{digitsText};
 ghost use Rattle.wage_line.specs.Pieces.{pieces};
 ghost use Rattle.wage_file.specs.Right.{amounts};
-ghost use Rattle.wage_line.specs.Places.{spots};
+ghost use Rattle.wage_places.specs.Places.{spots};
 ghost use Rattle.wage_draft.specs.Fields.{fieldsOf};
 ghost use Rattle.wage_draft.specs.Draft.{bareLine, drafted, Drafts};
 ghost use Rattle.wage_writer.specs.Writer.{labelDraft, orderDraft, groupDraft, forRoom, labelAnswer, orderAnswer, groupAnswer, closingAnswer, Writes};
 use refusal::Answer;
 use refusal::Refusal;
-use wage_line::LineType;
+use wage_places::LineType;
 
 // Puts a whole line at the front of the lent room, if there is enough.
 fn put_line(line: &[u8], out: &mut [u8]) -> Answer
@@ -45,7 +45,7 @@ fn draft_line(
     ensures { λ r. ⌜ Drafts (drafted day kind t (spots t) (fieldsOf (now (sizes .entry)) (now (text .entry))) (bareLine t)) r (now (line .exit)) ⌝ }
 {
     wage_draft::dress(t, line);
-    let count = wage_line::count(t);
+    let count = wage_places::count(t);
     wage_draft::draft(day, kind, t, 0, count, text, sizes, line)
 }
 

@@ -4,7 +4,7 @@ use mathlib.Core.Path.{_≡_, refl, _∙_}
 use native.Mathlib.Omega.{arith}
 use borrow.Author.Needs.{needs}
 use lib.ListN.{length, take, drop}
-use Rattle.wage_line.specs.Places.{spots}
+use Rattle.wage_places.specs.Places.{spots}
 use Rattle.wage_draft.specs.Fields.{fieldsOf}
 use Rattle.wage_draft.specs.Draft.{drafted}
 use Rattle.wage_draft.proofs.Laws.{Left, draft-last, draft-past, draft-on, draft-stops}

@@ -1,8 +1,8 @@
 -- `wage_fields::judge_places` meets its contract: the range of all places. Assumes nothing.
 use mathlib.Core.Path.{_∙_}
 use native.Mathlib.Omega.{arith}
-use Rattle.wage_fields.proofs.Laws.{range-end, range-all}
 use borrow.Author.Needs.{needs}
+use Rattle.wage_fields.proofs.Laws.{range-end, range-all}
 use Rattle.wage_fields.proofs.judge_places.Statement.{statement}
 use Rattle.wage_fields.proofs.judge_places.Tie as tie
 

@@ -1,6 +1,6 @@
 -- `wage_fields::judge_range` meets its contract. The loop's invariant: the answer is that of the places from `k` on. Assumes nothing.
-use Prim.Native.Nat.{_-_}
 use mathlib.Core.Path.{_≡_, refl, sym, _∙_}
+use Prim.Native.Nat.{_-_}
 use native.Mathlib.Omega.{arith}
 use Rattle.wage_fields.proofs.Laws.{fits, Rest, range-end, range-size, range-on, range-stop}
 use Rattle.wage_fields.proofs.judge_range.Statement.{statement}

@@ -5,8 +5,8 @@ use native.Mathlib.Omega.{arith}
 use lib.ListN.{length, take, drop}
 use Rattle.sums.specs.Sums.{centsOf, sumOf, added, numberIn}
 use Rattle.sums.proofs.Laws.{no-cents}
-use Rattle.wage_line.specs.declared.LineType.the-variants.{Order}
-use Rattle.wage_line.specs.Line.{partOf}
+use Rattle.wage_places.specs.declared.LineType.the-variants.{Order}
+use Rattle.wage_places.specs.Places.{partOf}
 use Rattle.wage_line.specs.Pieces.{pieces}
 use Rattle.wage_line.proofs.PieceLaws.{piece-advances}
 use Rattle.wage_file.specs.Right.{amounts}

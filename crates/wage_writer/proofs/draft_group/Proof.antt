@@ -1,5 +1,5 @@
 -- `wage_writer::draft_group` meets its contract: a 301 is drafted in three runs of fields. Assumes nothing.
-use Rattle.wage_line.specs.declared.LineType.the-variants.{Group}
+use Rattle.wage_places.specs.declared.LineType.the-variants.{Group}
 use Rattle.wage_writer.proofs.Laws.{bare, group-first, group-worked, group-last}
 use borrow.Author.Needs.{needs}
 use Rattle.wage_writer.proofs.draft_group.Statement.{statement}

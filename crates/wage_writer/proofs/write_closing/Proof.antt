@@ -1,7 +1,7 @@
 -- `wage_writer::write_closing` meets its contract: the day, then the line, which has no fields. Assumes nothing.
 use mathlib.Core.Path.{refl, sym, _∙_}
 use borrow.Author.Tests.{not-true, not-false}
-use Rattle.wage_line.specs.declared.LineType.the-variants.{Closing}
+use Rattle.wage_places.specs.declared.LineType.the-variants.{Closing}
 use Rattle.wage_writer.specs.Writer.{closingAnswer}
 use Rattle.wage_writer.proofs.Laws.{bare, day-wrong, day-right}
 use borrow.Author.Needs.{needs}

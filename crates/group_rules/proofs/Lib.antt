@@ -1,0 +1,2 @@
+-- The laws of the crate `group_rules`.
+pub mod Theorems

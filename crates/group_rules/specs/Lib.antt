@@ -1,0 +1,2 @@
+-- The definitions of the crate `group_rules`.
+pub mod Rules

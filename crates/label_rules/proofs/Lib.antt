@@ -1,0 +1,2 @@
+-- The laws of the crate `label_rules`.
+pub mod Theorems

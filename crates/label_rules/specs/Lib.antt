@@ -1,0 +1,2 @@
+-- The definitions of the crate `label_rules`.
+pub mod Rules

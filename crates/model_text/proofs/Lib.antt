@@ -1,0 +1,2 @@
+-- The laws of the crate `model_text`.
+pub mod Theorems

@@ -1,0 +1,2 @@
+-- The definitions of the crate `model_text`.
+pub mod Texts

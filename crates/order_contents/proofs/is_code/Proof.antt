@@ -1,0 +1,14 @@
+-- `order_contents::is_code` meets its contract. Assumes nothing.
+use mathlib.Core.Path.{sym, _∙_}
+use borrow.Author.Needs.{needs}
+use Rattle.order_contents.proofs.is_code.Statement.{statement}
+use Rattle.order_contents.proofs.is_code.Tie as tie
+
+returns : tie.Need-returns
+returns c = rw (sym (c .before .before .place .ensures) ∙ c .enum-told .given .1)
+
+returns-2 : tie.Need-returns-2
+returns-2 c = rw (sym (c .before .before .place .ensures) ∙ c .enum-told2 .given .1)
+
+pub is-code-spec : {M : Type 1} → statement M
+is-code-spec = tie.close (tie.spec (λ c κs. search needs) (λ c. search needs) (λ c. search needs) returns returns-2)

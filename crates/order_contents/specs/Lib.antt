@@ -1,0 +1,2 @@
+-- The definitions of the crate `order_contents`.
+pub mod Contents

@@ -1,0 +1,2 @@
+-- The laws of the crate `order_rules`.
+pub mod Theorems

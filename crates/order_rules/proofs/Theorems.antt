@@ -1,0 +1,44 @@
+-- What is promised of the rules of a 309: the byte that a verdict tells lies within its place, and one answer.
+-- Assumes nothing.
+use mathlib.Core.Path.{_≡_}
+use mathlib.Core.Bool.{true, false, not}
+use mathlib.Core.List.{List}
+use Prim.Native.Nat.{ℕ}
+use native.Mathlib.Omega.{arith}
+use lib.Dec.{eqb}
+use lib.ListN.{length, getD}
+use Rattle.refusal.specs.Verdict.{Within}
+use Rattle.refusal.specs.Only.{Only, defined-only}
+use Rattle.refusal.proofs.Verdicts.{choice-within}
+use Rattle.text.specs.declared.Class.the-variants.{Digits}
+use Rattle.text.proofs.Laws.{bytes-within}
+use Rattle.wage_places.specs.declared.LineType.the-variants.{Order}
+use Rattle.wage_places.specs.Places.{spots, noSpot, partAt, partOf}
+use Rattle.wage_contents.proofs.Within.{among-within, oib-within, iban-place-within, currency-within}
+use Rattle.order_contents.specs.Contents.{heldIn, heldBlank}
+use Rattle.order_contents.proofs.Within.{purpose-within, sign-within, held-within, reference-within, description-within, code-within}
+use Rattle.order_rules.specs.Rules.{orderRule}
+
+-- a rule tells a byte of the bytes that it was given
+pub order-within : (kind n : ℕ) (f s : List ℕ) → Within (length f) (orderRule kind n f s)
+order-within kind n f s =
+    let or = choice-within (length f) in
+    or (eqb n 1) _ _ (iban-place-within false f)
+    (or (eqb n 5) _ _ (among-within 0 191 191 f)
+    (or (eqb n 6) _ _ (held-within (heldIn f) (length f))
+    (or (eqb n 7) _ _ (reference-within (heldIn (partOf Order 6 s)) f)
+    (or (eqb n 8) _ _ (purpose-within f)
+    (or (eqb n 9) _ _ (description-within f)
+    (or (eqb n 10) _ _ (bytes-within Digits f)
+    (or (eqb n 11) _ _ (held-within (heldIn f) (length f))
+    (or (eqb n 12) _ _ (reference-within (heldIn (partOf Order 11 s)) f)
+    (or (eqb n 18) _ _ (among-within 0 1 2 f)
+    (or (eqb n 19) _ _ (currency-within true f)
+    (or (eqb n 20) _ _ (sign-within 32 48 51 f)
+    (or (eqb n 21) _ _ (sign-within 32 48 48 f)
+    (or (eqb n 22) _ _ (code-within kind (heldBlank (heldIn (partOf Order 11 s))) f)
+    (or (eqb n 23) _ _ (oib-within (not (eqb kind 5)) f) (omega arith)))))))))))))))
+
+-- any two answers that the contract allows are equal
+pub order-rule-only : (kind k : ℕ) (s : List ℕ) → Only (λ (r : ℕ). r ≡ orderRule kind (getD (spots Order) k noSpot .field) (partAt (getD (spots Order) k noSpot) s) s)
+order-rule-only kind k s = defined-only (orderRule kind (getD (spots Order) k noSpot .field) (partAt (getD (spots Order) k noSpot) s) s)

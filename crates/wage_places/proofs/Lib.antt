@@ -1,0 +1,3 @@
+-- The laws of the crate `wage_places`.
+pub mod Laws
+pub mod Theorems
