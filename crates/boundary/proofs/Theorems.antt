@@ -16,10 +16,10 @@ use Rattle.slip.proofs.Laws.{field-stands}
 use Rattle.wage_line.specs.declared.Typed.{Typed}
 use Rattle.wage_line.specs.declared.Typed.the-variants as typed
 use Rattle.wage_line.specs.Line.{typedOf, queried, placeOf}
-use Rattle.judge.specs.declared.Condition.{Condition}
-use Rattle.judge.specs.declared.Condition.the-variants as condition
-use Rattle.judge.specs.declared.Judge.{Judge}
-use Rattle.judge.specs.Judge.{stageOf}
+use Rattle.condition.specs.declared.Condition.{Condition}
+use Rattle.condition.specs.declared.Condition.the-variants as condition
+use Rattle.condition.specs.declared.Judge.{Judge}
+use Rattle.condition.specs.Record.{stageOf}
 use Rattle.boundary.specs.declared.Told.{Told}
 use Rattle.text.specs.declared.Part.{Part}
 use Rattle.boundary.specs.Told.{refusal, toldOf}

@@ -4,10 +4,10 @@ use mathlib.Core.Bool.{cond}
 use lib.Dec.{eqb}
 use Rattle.refusal.specs.Refusal.{refusalOf}
 use Rattle.refusal.specs.declared.Place.{Place}
-use Rattle.judge.specs.Judge.{stageOf, isRefused, refusalIn, beyond}
-use Rattle.judge.specs.declared.Condition.{Condition}
-use Rattle.judge.specs.declared.Condition.the-variants.{Fresh, Labelled, Grouped, Closed, Refused}
-use Rattle.judge.specs.declared.Judge.{Judge}
+use Rattle.condition.specs.Record.{stageOf, isRefused, refusalIn, beyond}
+use Rattle.condition.specs.declared.Condition.{Condition}
+use Rattle.condition.specs.declared.Condition.the-variants.{Fresh, Labelled, Grouped, Closed, Refused}
+use Rattle.condition.specs.declared.Judge.{Judge}
 use Rattle.boundary.specs.Told.{accepted, refusal}
 use Rattle.boundary.specs.declared.Told.{Told}
 use Rattle.boundary.specs.declared.Record.{Record}

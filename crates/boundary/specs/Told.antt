@@ -15,8 +15,8 @@ use Rattle.slip.specs.declared.Amount.{Amount}
 use Rattle.slip.specs.declared.Amount.the-variants as amount
 use Rattle.slip_writer.specs.declared.Written.{Written}
 use Rattle.slip_writer.specs.declared.Written.the-variants as written
-use Rattle.judge.specs.declared.Ending.{Ending}
-use Rattle.judge.specs.declared.Ending.the-variants as ending
+use Rattle.condition.specs.declared.Ending.{Ending}
+use Rattle.condition.specs.declared.Ending.the-variants as ending
 use Rattle.boundary.specs.declared.Told.{Told}
 use Rattle.boundary.specs.declared.Valued.{Valued}
 use Rattle.boundary.specs.declared.Ended.{Ended}

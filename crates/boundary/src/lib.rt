@@ -9,12 +9,12 @@ ghost use Rattle.boundary.specs.Told.{accepted, refusal, toldOf, verdict
 ghost use Rattle.boundary.specs.Record.{conditionOf, judgeOf, recordOf, conditionTold};
 ghost use Rattle.boundary.specs.Parts.{placePart, givenOf};
 use check_digits::Made;
+use condition::Condition;
+use condition::Counts;
+use condition::Ending;
+use condition::Judge;
+use condition::Open;
 use fillings::Listed;
-use judge::Condition;
-use judge::Counts;
-use judge::Ending;
-use judge::Judge;
-use judge::Open;
 use refusal::Answer;
 use refusal::Place;
 use refusal::Refusal;
@@ -279,8 +279,8 @@ pub fn judge_from(r: Record) -> Judge
 fn condition_told(c: Condition) -> Told
     ensures { λ r. ⌜ r ≡ conditionTold c ⌝ }
 {
-    if judge::is_refused(c) {
-        return refuse(judge::refusal_in(c));
+    if condition::is_refused(c) {
+        return refuse(condition::refusal_in(c));
     }
     accept()
 }
@@ -303,7 +303,7 @@ pub fn record_from(j: Judge) -> Record
         low: b.low,
     };
     Record {
-        condition: judge::stage(c),
+        condition: condition::stage(c),
         told: condition_told(c),
         day: j.day,
         kind: j.kind,

@@ -3,8 +3,9 @@ use Prim.Native.Nat.{ℕ}
 use mathlib.Core.Path.{_≡_, refl, sym, ap, _∙_}
 use mathlib.Core.List.{List}
 use Rattle.refusal.specs.declared.Answer.{Answer}
-use Rattle.judge.specs.declared.Judge.{Judge}
-use Rattle.judge.specs.Judge.{begun, steps, ended}
+use Rattle.condition.specs.declared.Judge.{Judge}
+use Rattle.condition.specs.Record.{begun, ended}
+use Rattle.judge.specs.Judge.{steps}
 use Rattle.wage_line.specs.Pieces.{pieces}
 use Rattle.wage_file.specs.File.{fileAnswer}
 use Rattle.boundary.specs.Told.{endedOf}

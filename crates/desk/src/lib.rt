@@ -17,7 +17,8 @@ ghost use Rattle.slip.specs.Slip.{slipAnswer, fieldPart, centsOf};
 ghost use Rattle.wage_writer.specs.Writer.{labelAnswer, labelDraft, orderAnswer, orderDraft, groupAnswer, groupDraft, closingAnswer};
 ghost use Rattle.wage_draft.specs.Draft.{bareLine};
 ghost use Rattle.wage_draft.specs.Fields.{fieldsOf};
-ghost use Rattle.judge.specs.Judge.{begun, stepped, steps, ended};
+ghost use Rattle.condition.specs.Record.{begun, ended};
+ghost use Rattle.judge.specs.Judge.{stepped, steps};
 ghost use Rattle.wage_line.specs.Pieces.{pieces};
 ghost use Rattle.wage_file.specs.File.{fileAnswer};
 ghost use Rattle.boundary.specs.Told.{toldOf, verdictTold, madeOf, listedOf, centsTold, endedOf, noRule, valued};
@@ -178,7 +179,7 @@ pub extern "C" fn lanecockle_slip_write(
 pub extern "C" fn lanecockle_judge_begin(day: u64) -> Record
     ensures { λ r. ⌜ r ≡ recordOf (begun day) ⌝ }
 {
-    boundary::record_from(judge::begin(day))
+    boundary::record_from(condition::begin(day))
 }
 
 // One line: the record after it.
@@ -202,7 +203,7 @@ pub extern "C" fn lanecockle_judge_lines(record: Record, bytes: &[u8]) -> Record
 pub extern "C" fn lanecockle_judge_end(record: Record) -> Ended
     ensures { λ r. ⌜ r ≡ endedOf (ended (judgeOf «record»)) ⌝ }
 {
-    boundary::tell_ending(judge::end(boundary::judge_from(record)))
+    boundary::tell_ending(condition::end(boundary::judge_from(record)))
 }
 
 // A whole wage file.

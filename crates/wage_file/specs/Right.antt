@@ -13,7 +13,7 @@ use Rattle.wage_line.specs.declared.LineType.the-variants.{Label, Group, Order,
 use Rattle.wage_line.specs.declared.Typed.the-variants.{Line}
 use Rattle.wage_line.specs.Line.{typedOf, partOf}
 use Rattle.wage_fields.specs.Rules.{placesAnswer}
-use Rattle.judge.specs.declared.Counts.{Counts}
+use Rattle.condition.specs.declared.Counts.{Counts}
 
 -- ---------------------------------------------------------------------------
 -- The parts of a file

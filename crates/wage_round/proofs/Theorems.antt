@@ -20,8 +20,8 @@ use Rattle.wage_line.specs.Line.{typedOf, partOf, placeOf}
 use Rattle.wage_line.specs.Pieces.{pieces}
 use Rattle.wage_line.proofs.PieceLaws.{AllWhole, whole-pieces, pieces-of-lines, pieces-joined}
 use Rattle.wage_line.proofs.Theorems.{placeAt, found-spot, place-typed, typed-exactly}
-use Rattle.judge.specs.declared.Counts.{Counts}
-use Rattle.judge.specs.declared.Ending.the-variants as ending
+use Rattle.condition.specs.declared.Counts.{Counts}
+use Rattle.condition.specs.declared.Ending.the-variants as ending
 use Rattle.wage_file.specs.Right.{Payments, File, groupLines, linesOf, tally, RightLine, kindOf, amounts, RightGroup, RightFile}
 use Rattle.wage_file.specs.File.{fileAnswer}
 use Rattle.wage_file.proofs.RunLaws.{Each, noGroup}

@@ -1,7 +1,7 @@
 -- `boundary::condition_from` meets its contract: each arm says the number. Assumes nothing.
 use mathlib.Core.Path.{ap}
 use borrow.Author.Tests.{ne-eqb}
-use Rattle.judge.specs.declared.Condition.the-variants.{Refused}
+use Rattle.condition.specs.declared.Condition.the-variants.{Refused}
 use borrow.Author.Needs.{needs}
 use Rattle.boundary.proofs.condition_from.Statement.{statement}
 use Rattle.boundary.proofs.condition_from.Tie as tie
