@@ -7,7 +7,7 @@ use lib.ListN.{take, drop, getD}
 use Rattle.refusal.specs.Refusal.{numberOf, placeOf, neededOf}
 use Rattle.refusal.specs.declared.Place.{Place}
 use Rattle.refusal.specs.declared.Refusal.{Refusal}
-use Rattle.wage_draft.specs.Fields.{fieldsOf, behind}
+use Rattle.lent_fields.specs.Fields.{fieldsOf, behind}
 use Rattle.boundary.specs.declared.Told.{Told}
 use Rattle.boundary.specs.Told.{refusal}
 use Rattle.boundary.specs.Parts.{givenOf}

@@ -7,7 +7,7 @@ use Rattle.wage_line.specs.declared.Typed.{Typed}
 use Rattle.wage_line.specs.declared.Typed.the-variants.{Line, Refused}
 use Rattle.wage_line.specs.Places.{spotOf}
 use Rattle.wage_line.specs.Line.{typedOf}
-use Rattle.wage_draft.specs.Fields.{fieldsOf}
+use Rattle.lent_fields.specs.Fields.{fieldsOf}
 
 -- no part
 abbrev pub noPart : Part

@@ -12,7 +12,7 @@ use Rattle.refusal.specs.declared.Answer.{Answer}
 use Rattle.slip_writer.specs.Steps.{WritesSlip}
 use Rattle.slip_writer.specs.declared.Written.{Written}
 use Rattle.slip_writer.specs.Writer as slip
-use Rattle.wage_writer.specs.Writer.{Writes}
+use Rattle.line_room.specs.LineRoom.{Writes}
 use Rattle.boundary.specs.Told.{toldOf, writtenOf}
 use Rattle.boundary.specs.declared.Told.{Told}
 use Rattle.boundary.specs.declared.Valued.{Valued}

@@ -14,9 +14,12 @@ ghost use Rattle.fillings.specs.Wet.{ibanListing, referenceListing, referenceFi
 ghost use Rattle.fillings.specs.Answers as fillings;
 ghost use Rattle.fillings.specs.Answers.{filledAnswer, filledBy};
 ghost use Rattle.slip.specs.Slip.{slipAnswer, fieldPart, centsOf};
-ghost use Rattle.wage_writer.specs.Writer.{labelAnswer, labelDraft, orderAnswer, orderDraft, groupAnswer, groupDraft, closingAnswer};
-ghost use Rattle.wage_draft.specs.Draft.{bareLine};
-ghost use Rattle.wage_draft.specs.Fields.{fieldsOf};
+ghost use Rattle.wage_writer.specs.Writer.{labelAnswer, labelDraft, orderAnswer, orderDraft};
+ghost use Rattle.group_writer.specs.GroupWriter.{groupAnswer};
+ghost use Rattle.group_draft.specs.GroupDraft.{groupDraft};
+ghost use Rattle.line_room.specs.LineRoom.{closingAnswer};
+ghost use Rattle.bare_line.specs.Bare.{bareLine};
+ghost use Rattle.lent_fields.specs.Fields.{fieldsOf};
 ghost use Rattle.condition.specs.Record.{begun, ended};
 ghost use Rattle.judge.specs.Judge.{stepped, steps};
 ghost use Rattle.wage_line.specs.Pieces.{pieces};
@@ -264,7 +267,7 @@ pub extern "C" fn lanecockle_write_group(
 ) -> Told
     ensures { λ r. ⌜ WritesLine (groupAnswer day kind (fieldsOf (now (sizes .entry)) (now (text .entry))) (now (orders .entry)) (length (now (out .entry)))) (groupDraft day kind (fieldsOf (now (sizes .entry)) (now (text .entry))) (now (orders .entry)) .line) (now (out .entry)) r (now (out .exit)) ⌝ }
 {
-    boundary::tell(wage_writer::write_group(day, kind, text, sizes, orders, out))
+    boundary::tell(group_writer::write_group(day, kind, text, sizes, orders, out))
 }
 
 // Writes a 399, for a day.
@@ -272,5 +275,5 @@ pub extern "C" fn lanecockle_write_group(
 pub extern "C" fn lanecockle_write_closing(day: u64, out: &mut [u8]) -> Told
     ensures { λ r. ⌜ WritesLine (closingAnswer day (length (now (out .entry)))) (bareLine LineType.Closing) (now (out .entry)) r (now (out .exit)) ⌝ }
 {
-    boundary::tell(wage_writer::write_closing(day, out))
+    boundary::tell(line_room::write_closing(day, out))
 }
