@@ -9,8 +9,9 @@ use Rattle.wage_line.specs.declared.Typed.{Typed}
 use Rattle.wage_line.specs.declared.Typed.the-variants as typed
 use Rattle.wage_line.specs.Line.{typedOf, queried, placeOf}
 use Rattle.wage_line.specs.Pieces.{pieces}
-use Rattle.judge.specs.declared.Judge.{Judge}
-use Rattle.judge.specs.Judge.{begun, steps, ended}
+use Rattle.condition.specs.declared.Judge.{Judge}
+use Rattle.condition.specs.Record.{begun, ended}
+use Rattle.judge.specs.Judge.{steps}
 use Rattle.wage_file.specs.File.{fileAnswer}
 use Rattle.desk_record.specs.Record.{judgeOf, recordOf}
 use Rattle.desk_record.proofs.Theorems.{record-told-back}

@@ -6,8 +6,8 @@ use Rattle.wage_line.specs.declared.Typed.{Typed}
 use Rattle.wage_line.specs.declared.Typed.the-variants.{Line, Refused}
 use Rattle.wage_places.specs.Places.{spotOf}
 use Rattle.wage_line.specs.Line.{typedOf}
-use Rattle.judge.specs.declared.Ending.{Ending}
-use Rattle.judge.specs.declared.Ending.the-variants as ending
+use Rattle.condition.specs.declared.Ending.{Ending}
+use Rattle.condition.specs.declared.Ending.the-variants as ending
 use Rattle.boundary.specs.Told.{accepted, refusal}
 use Rattle.desk_judge.specs.declared.Ended.{Ended}
 

@@ -3,14 +3,15 @@
 // Each call is thin: it calls the proved one and tells its answer by the crate boundary. include/lanecockle.h declares it
 // for C. No call has a `requires`: whatever numbers and bytes arrive get an answer.
 ghost use mathlib.Core.Path.{_≡_};
-ghost use Rattle.judge.specs.Judge.{begun, stepped, steps, ended};
+ghost use Rattle.condition.specs.Record.{begun, ended};
+ghost use Rattle.judge.specs.Judge.{stepped, steps};
 ghost use Rattle.wage_line.specs.Pieces.{pieces};
 ghost use Rattle.wage_file.specs.File.{fileAnswer};
 ghost use Rattle.desk_record.specs.Record.{judgeOf, recordOf};
 ghost use Rattle.desk_judge.specs.Wages.{endedOf, placePart};
 use boundary::Told;
 use desk_record::Record;
-use judge::Ending;
+use condition::Ending;
 use text::Part;
 use wage_line::Typed;
 
@@ -66,7 +67,7 @@ fn place_part(line: &[u8], field: usize) -> Part
 pub extern "C" fn lanecockle_judge_begin(day: u64) -> Record
     ensures { λ r. ⌜ r ≡ recordOf (begun day) ⌝ }
 {
-    desk_record::record_from(judge::begin(day))
+    desk_record::record_from(condition::begin(day))
 }
 
 // One line: the record after it.
@@ -90,7 +91,7 @@ pub extern "C" fn lanecockle_judge_lines(record: Record, bytes: &[u8]) -> Record
 pub extern "C" fn lanecockle_judge_end(record: Record) -> Ended
     ensures { λ r. ⌜ r ≡ endedOf (ended (judgeOf «record»)) ⌝ }
 {
-    tell_ending(judge::end(desk_record::judge_from(record)))
+    tell_ending(condition::end(desk_record::judge_from(record)))
 }
 
 // A whole wage file.

@@ -1,10 +1,10 @@
 -- What is promised of the judge's record: nothing is lost on the way through numbers. Assumes nothing.
 use mathlib.Core.Path.{_≡_, refl, ap}
 use Rattle.refusal.specs.declared.Answer.the-variants.{Refused}
-use Rattle.judge.specs.declared.Condition.{Condition}
-use Rattle.judge.specs.declared.Condition.the-variants as condition
-use Rattle.judge.specs.declared.Judge.{Judge}
-use Rattle.judge.specs.Judge.{stageOf}
+use Rattle.condition.specs.declared.Condition.{Condition}
+use Rattle.condition.specs.declared.Condition.the-variants as condition
+use Rattle.condition.specs.declared.Judge.{Judge}
+use Rattle.condition.specs.Record.{stageOf}
 use Rattle.boundary.proofs.Theorems.{refusal-told-back}
 use Rattle.desk_record.specs.Record.{conditionOf, conditionTold, judgeOf, recordOf}
 

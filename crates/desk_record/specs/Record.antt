@@ -3,10 +3,10 @@ use mathlib.Core.Bool.{cond}
 use Prim.Native.Nat.{ℕ}
 use lib.Dec.{eqb}
 use Rattle.refusal.specs.Refusal.{refusalOf}
-use Rattle.judge.specs.Judge.{stageOf, isRefused, refusalIn, beyond}
-use Rattle.judge.specs.declared.Condition.{Condition}
-use Rattle.judge.specs.declared.Condition.the-variants.{Fresh, Labelled, Grouped, Closed, Refused}
-use Rattle.judge.specs.declared.Judge.{Judge}
+use Rattle.condition.specs.Record.{stageOf, isRefused, refusalIn, beyond}
+use Rattle.condition.specs.declared.Condition.{Condition}
+use Rattle.condition.specs.declared.Condition.the-variants.{Fresh, Labelled, Grouped, Closed, Refused}
+use Rattle.condition.specs.declared.Judge.{Judge}
 use Rattle.boundary.specs.Told.{accepted, refusal, placeIn}
 use Rattle.boundary.specs.declared.Told.{Told}
 use Rattle.desk_record.specs.declared.Record.{Record}

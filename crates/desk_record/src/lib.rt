@@ -5,10 +5,10 @@ ghost use mathlib.Core.Path.{_≡_};
 ghost use Rattle.refusal.specs.Refusal.{refusalOf};
 ghost use Rattle.desk_record.specs.Record.{conditionOf, judgeOf, recordOf, conditionTold};
 use boundary::Told;
-use judge::Condition;
-use judge::Counts;
-use judge::Judge;
-use judge::Open;
+use condition::Condition;
+use condition::Counts;
+use condition::Judge;
+use condition::Open;
 use refusal::Place;
 use refusal::Refusal;
 use sums::Sum;
@@ -108,8 +108,8 @@ pub fn judge_from(r: Record) -> Judge
 fn condition_told(c: Condition) -> Told
     ensures { λ r. ⌜ r ≡ conditionTold c ⌝ }
 {
-    if judge::is_refused(c) {
-        return boundary::refuse(judge::refusal_in(c));
+    if condition::is_refused(c) {
+        return boundary::refuse(condition::refusal_in(c));
     }
     boundary::accept()
 }
@@ -132,7 +132,7 @@ pub fn record_from(j: Judge) -> Record
         low: b.low,
     };
     Record {
-        condition: judge::stage(c),
+        condition: condition::stage(c),
         told: condition_told(c),
         day: j.day,
         kind: j.kind,

@@ -7,7 +7,7 @@ use lib.ListN.{take, drop, getD, length}
 use Rattle.slip_writer.specs.Steps.{WritesSlip}
 use Rattle.slip_writer.specs.declared.Written.{Written}
 use Rattle.slip_writer.specs.Writer as slip
-use Rattle.wage_draft.specs.Fields.{fieldsOf, behind}
+use Rattle.lent_fields.specs.Fields.{fieldsOf, behind}
 use Rattle.boundary.specs.declared.Valued.{Valued}
 use Rattle.boundary.proofs.Laws.{told-and-left}
 use Rattle.desk_slips.specs.Slips.{givenOf, writtenOf, WritesSlipGiven}

@@ -9,7 +9,7 @@ use Rattle.slip_writer.specs.declared.Written.{Written}
 use Rattle.slip_writer.specs.declared.Written.the-variants as written
 use Rattle.slip_given.specs.Given.{eleven}
 use Rattle.slip_writer.specs.Writer as slip
-use Rattle.wage_draft.specs.Fields.{fieldsOf}
+use Rattle.lent_fields.specs.Fields.{fieldsOf}
 use Rattle.boundary.specs.declared.Valued.{Valued}
 use Rattle.boundary.specs.Told.{accepted, refusal, valued}
 

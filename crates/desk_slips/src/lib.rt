@@ -49,8 +49,8 @@ fn given<'a>(text: &'a [u8], sizes: &[usize], k: usize) -> &'a [u8]
     ensures { λ r. ⌜ now r ≡ givenOf (now (sizes .entry)) (now (text .entry)) k ⌝ }
 {
     front(
-        wage_draft::text_behind(text, sizes, k),
-        wage_draft::size_at(sizes, k),
+        lent_fields::text_behind(text, sizes, k),
+        lent_fields::size_at(sizes, k),
     )
 }
 

@@ -4,7 +4,7 @@ use mathlib.Core.Path.{_≡_, ap, _∙_}
 use mathlib.Core.List.{List}
 use Prim.Native.Nat.{ℕ}
 use Rattle.refusal.specs.declared.Answer.{Answer}
-use Rattle.wage_writer.specs.Writer.{Writes}
+use Rattle.line_room.specs.LineRoom.{Writes}
 use Rattle.boundary.specs.Told.{toldOf}
 use Rattle.boundary.specs.declared.Told.{Told}
 use Rattle.desk_writers.specs.Writes.{WritesLine}

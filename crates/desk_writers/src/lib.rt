@@ -3,9 +3,12 @@
 // Each call is thin: it calls the proved one and tells its answer by the crate boundary. include/lanecockle.h declares it
 // for C. No call has a `requires`: whatever numbers and bytes arrive get an answer.
 ghost use lib.ListN.{length};
-ghost use Rattle.wage_writer.specs.Writer.{labelAnswer, labelDraft, orderAnswer, orderDraft, groupAnswer, groupDraft, closingAnswer};
-ghost use Rattle.wage_draft.specs.Draft.{bareLine};
-ghost use Rattle.wage_draft.specs.Fields.{fieldsOf};
+ghost use Rattle.wage_writer.specs.Writer.{labelAnswer, labelDraft, orderAnswer, orderDraft};
+ghost use Rattle.group_writer.specs.GroupWriter.{groupAnswer};
+ghost use Rattle.group_draft.specs.GroupDraft.{groupDraft};
+ghost use Rattle.line_room.specs.LineRoom.{closingAnswer};
+ghost use Rattle.bare_line.specs.Bare.{bareLine};
+ghost use Rattle.lent_fields.specs.Fields.{fieldsOf};
 ghost use Rattle.desk_writers.specs.Writes.{WritesLine};
 use boundary::Told;
 use wage_places::LineType;
@@ -49,7 +52,7 @@ pub extern "C" fn lanecockle_write_group(
 ) -> Told
     ensures { λ r. ⌜ WritesLine (groupAnswer day kind (fieldsOf (now (sizes .entry)) (now (text .entry))) (now (orders .entry)) (length (now (out .entry)))) (groupDraft day kind (fieldsOf (now (sizes .entry)) (now (text .entry))) (now (orders .entry)) .line) (now (out .entry)) r (now (out .exit)) ⌝ }
 {
-    boundary::tell(wage_writer::write_group(day, kind, text, sizes, orders, out))
+    boundary::tell(group_writer::write_group(day, kind, text, sizes, orders, out))
 }
 
 // Writes a 399, for a day.
@@ -57,5 +60,5 @@ pub extern "C" fn lanecockle_write_group(
 pub extern "C" fn lanecockle_write_closing(day: u64, out: &mut [u8]) -> Told
     ensures { λ r. ⌜ WritesLine (closingAnswer day (length (now (out .entry)))) (bareLine LineType.Closing) (now (out .entry)) r (now (out .exit)) ⌝ }
 {
-    boundary::tell(wage_writer::write_closing(day, out))
+    boundary::tell(line_room::write_closing(day, out))
 }

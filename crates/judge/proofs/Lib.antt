@@ -1,3 +1,2 @@
 -- What is promised of `judge`.
-pub mod Laws
 pub mod Theorems

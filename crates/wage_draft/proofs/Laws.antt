@@ -1,5 +1,5 @@
--- Laws of a line being drafted: the fields that are lent, one behind the other; the fields put at their places; what a rule looks at besides
--- its own field; and what a draft changes and leaves. Assumes nothing.
+-- Laws of a line being drafted: the fields put at their places; what a rule looks at besides its own field; and what a draft changes and leaves.
+-- Assumes nothing.
 use mathlib.Core.Path.{_≡_, refl, sym, ap, _∙_}
 use mathlib.Core.Bool.{Bool, true, false, _&&_}
 use mathlib.Core.Logic.{inr}
@@ -7,17 +7,16 @@ use mathlib.Core.List.{List, [], _∷_, _++_, map}
 use Prim.Native.Nat.{ℕ, zero, suc, _+_, _-_, _≤_, _<_}
 use native.Mathlib.Numerals.{add-one}
 use native.Mathlib.Omega.{arith}
-use native.Mathlib.Nat.{add-zero}
-use lib.ListN.{length, length-replicate, replicate, take, drop, getD, length-drop, drop-of-length-le}
+use lib.ListN.{length, length-replicate, replicate, take, drop, getD, drop-of-length-le}
 use lib.Dec.{eqb, leb, ltb}
+use lib.Seq.{sets, drop-cons, take-nil, take-take}
 use borrow.Author.Tests.{eq-eqb, ne-eqb, eqb-true, eqb-false, leb-true, ltb-true, ltb-false}
-use lib.Seq.{sets, drop-cons, drop-drop, drop-length, take-all, take-nil, take-take, take-append-seam, drop-append-seam, getD-drop}
-use Rattle.text.proofs.Laws.{both-true}
-use Rattle.text.specs.Split.{joined}
-use Rattle.room.proofs.Places.{sets-length, take-sets, drop-sets, place-filled, set-own, sets-over, sets-apart}
 use Rattle.refusal.specs.declared.Answer.{Answer}
 use Rattle.refusal.specs.declared.Answer.the-variants.{Accepted, Refused}
 use Rattle.refusal.specs.declared.Refusal.{Refusal}
+use Rattle.refusal.proofs.Verdicts.{first-both}
+use Rattle.text.proofs.Laws.{both-true}
+use Rattle.room.proofs.Places.{sets-length, take-sets, drop-sets, place-filled, set-own, sets-over, sets-apart}
 use Rattle.wage_places.specs.declared.LineType.{LineType}
 use Rattle.wage_places.specs.declared.Spot.{Spot}
 use Rattle.wage_places.specs.declared.LineType.the-variants.{Label, Group, Order, Closing}
@@ -26,92 +25,10 @@ use Rattle.wage_places.proofs.Laws.{part-length}
 use Rattle.label_rules.specs.Rules.{labelRule}
 use Rattle.order_rules.specs.Rules.{orderRule}
 use Rattle.wage_fields.specs.Rules.{ruleVerdict, placeVerdict, placeAnswer, placesFrom}
-use Rattle.refusal.proofs.Verdicts.{first-both}
 use Rattle.wage_fields.proofs.Laws.{accept-both}
-use Rattle.wage_draft.specs.Fields.{fieldsOf, behind, FieldEnd}
+use Rattle.lent_fields.specs.Fields.{fieldsOf, FieldEnd}
+use Rattle.lent_fields.proofs.Laws.{field-from, fields-on}
 use Rattle.wage_draft.specs.Draft.{Draft, wrongLength, placed, goingOn, drafted, blanked, Drafts}
-
--- ---------------------------------------------------------------------------
--- Where a field ends
-
-module _ (text : List ℕ) (at size : ℕ) where
-  -- at the text's end, if there is not enough
-  pub ends-short : at ≤ length text → length text - at < size → FieldEnd text at size (length text)
-  ends-short h g =
-      let l = length-drop at text in
-      let e : length (drop at text) ≤ size = omega arith in
-      record {
-        begins = h;
-        within = omega arith;
-        field = take-all (length text - at) (drop at text) (omega arith) ∙ sym (take-all size (drop at text) e);
-        rest = drop-length text ∙ sym (drop-of-length-le (drop at text) e);
-      }
-
-  -- else behind as many bytes
-  pub ends-whole : at ≤ length text → size ≤ length text - at → FieldEnd text at size (at + size)
-  ends-whole h g =
-      let e : at + size - at ≡ size = omega arith in
-      record {
-        begins = omega arith;
-        within = omega arith;
-        field = rw e;
-        rest = sym (drop-drop size at text);
-      }
-
--- ---------------------------------------------------------------------------
--- The fields from one on
-
-module _ (sizes : List ℕ) (i : ℕ) (text : List ℕ) where
-  -- the first of all
-  first-field : (ns : List ℕ) → getD (fieldsOf ns text) 0 [] ≡ take (getD ns 0 0) text
-  unfolding fieldsOf
-  first-field [] = refl
-  first-field (n ∷ ns) = refl
-
-  -- those behind it
-  later-fields : (ns : List ℕ) → drop 1 (fieldsOf ns text) ≡ fieldsOf (drop 1 ns) (drop (getD ns 0 0) text)
-  unfolding fieldsOf
-  later-fields [] = refl
-  later-fields (n ∷ ns) = refl
-
-  -- the size of the first from i on
-  size-from : getD (drop i sizes) 0 0 ≡ getD sizes i 0
-  size-from = getD-drop i sizes 0 0 ∙ rw add-zero
-
-  -- the first from i on
-  pub field-from : getD (fieldsOf (drop i sizes) text) 0 [] ≡ take (getD sizes i 0) text
-  field-from = first-field (drop i sizes) ∙ rw size-from
-
-  -- those from i + 1 on
-  pub fields-on : drop 1 (fieldsOf (drop i sizes) text) ≡ fieldsOf (drop (i + 1) sizes) (drop (getD sizes i 0) text)
-  fields-on = later-fields (drop i sizes) ∙ rw (size-from, drop-drop)
-
--- ---------------------------------------------------------------------------
--- The text behind the fields from one on, up to some number of fields
-
-module _ (sizes : List ℕ) (fields i : ℕ) (text : List ℕ) (at : ℕ) where
-  -- the text behind what is left
-  abbrev pub Behind : List ℕ
-  Behind = behind (take (fields - i) (drop i sizes)) (drop at text)
-
-  -- enough fields were counted
-  pub behind-last : fields ≤ i → drop at text ≡ Behind
-  unfolding behind
-  behind-last h = let e : fields - i ≡ 0 = omega arith in rw e
-
-  -- there are no more fields
-  pub behind-past : length sizes ≤ i → drop at text ≡ Behind
-  unfolding behind
-  behind-past h = rw (drop-of-length-le sizes h, take-nil (fields - i))
-
--- one field further on
-pub behind-on :
-    (sizes : List ℕ) (fields i : ℕ) (text : List ℕ) (at end : ℕ) → FieldEnd text at (getD sizes i 0) end → i < fields → i < length sizes
-    → Behind sizes fields i text at ≡ Behind sizes fields (i + 1) text end
-unfolding behind
-behind-on sizes fields i text at end ended more known =
-    let e : fields - i ≡ suc (fields - (i + 1)) = omega arith in
-    rw (drop-cons sizes i 0 known, e, ended .rest, ← (add-one i))
 
 -- ---------------------------------------------------------------------------
 -- One place
@@ -532,12 +449,6 @@ module _ (day kind : ℕ) (t : LineType) where
 
 -- ---------------------------------------------------------------------------
 -- Fields from parts
-
--- texts one behind the other, with their lengths, are lent as themselves
-pub fields-joined : (fs : List (List ℕ)) → fieldsOf (map (λ (f : List ℕ). length f) fs) (joined fs) ≡ fs
-unfolding fieldsOf joined
-fields-joined [] = refl
-fields-joined (f ∷ fs) = rw (take-append-seam f (joined fs), drop-append-seam f (joined fs), fields-joined fs)
 
 -- the parts of a line have their places' sizes
 pub parts-sized : (t : LineType) (n : ℕ) (ps : List Spot) → Rising t n ps → (s : List ℕ) → length s ≡ 1002 → map (λ (f : List ℕ). length f) (map (λ (p : Spot). partAt p s) ps) ≡ map (λ (p : Spot). p .size) ps

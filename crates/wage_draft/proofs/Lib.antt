@@ -1,3 +1,3 @@
--- What the proofs here and in the crates above share, and what is promised of `wage_draft`.
+-- What is promised of `wage_draft`, and the laws that its proofs share.
 pub mod Laws
 pub mod Theorems

@@ -1,4 +1,4 @@
--- What is promised of a wage line drafted from its fields: the line without fields, drafts joined, what an accepted draft is, a line drafted
+-- What is promised of a wage line drafted from its fields: drafts joined, what an accepted draft is, a line drafted
 -- from its own parts, and one answer. Assumes nothing.
 use mathlib.Core.Path.{_≡_, refl, sym, ap, _∙_}
 use mathlib.Core.Logic.{_↔_}
@@ -7,37 +7,28 @@ use Prim.Native.Nat.{ℕ, suc, _-_, _<_}
 use native.Mathlib.Omega.{arith}
 use lib.ListN.{length, take, drop, getD, replicate, List·getD-map}
 use lib.Seq.{drop-drop}
-use Rattle.refusal.specs.Only.{Only, defined-only}
-use Rattle.text.specs.Split.{joined}
+use Rattle.refusal.specs.Only.{Only}
 use Rattle.refusal.specs.declared.Answer.{Answer}
 use Rattle.refusal.specs.declared.Answer.the-variants.{Accepted}
+use Rattle.text.specs.Split.{joined}
 use Rattle.wage_places.specs.declared.LineType.{LineType}
 use Rattle.wage_places.specs.declared.LineType.the-variants.{Label, Group, Order, Closing}
 use Rattle.wage_places.specs.declared.Spot.{Spot}
 use Rattle.wage_line.specs.declared.Typed.the-variants.{Line}
 use Rattle.wage_places.specs.Places.{spots, noSpot, partAt}
-use Rattle.wage_line.specs.Line.{typeFrom, typeText, typedOf}
+use Rattle.wage_line.specs.Line.{typeText, typedOf}
 use Rattle.wage_places.proofs.Theorems.{placeAt}
 use Rattle.wage_line.proofs.Theorems.{typed-exactly}
 use Rattle.wage_fields.specs.Rules.{placesAnswer}
-use Rattle.wage_draft.specs.Fields.{fieldsOf, behind}
-use Rattle.wage_draft.specs.Draft.{Draft, dressed, bareLine, placed, goingOn, drafted, partsOf, sizesOf, blanked, plainElsewhere, Drafts}
-use Rattle.wage_draft.proofs.Laws.{drafted-first, going-twice, no-places, later-field, empty-fields, places-rising, drafted-kept, drafted-accepted, drafted-plain, parts-drafted, fields-joined, parts-sized}
+use Rattle.bare_line.specs.Bare.{bareLine}
+use Rattle.bare_line.proofs.Theorems.{bare-line}
+use Rattle.lent_fields.specs.Fields.{fieldsOf}
+use Rattle.lent_fields.proofs.Laws.{fields-joined}
+use Rattle.wage_draft.specs.Draft.{Draft, placed, goingOn, drafted, partsOf, sizesOf, blanked, plainElsewhere, Drafts}
+use Rattle.wage_draft.proofs.Laws.{drafted-first, going-twice, no-places, later-field, empty-fields, places-rising, drafted-kept, drafted-accepted, drafted-plain, parts-drafted, parts-sized}
 
 -- ---------------------------------------------------------------------------
 -- A line without fields
-
--- it has its type
-pub bare-line : (t : LineType) → typedOf (bareLine t) ≡ Line t
-unfolding bareLine typedOf typeFrom typeText
-bare-line Label = refl
-bare-line Group = refl
-bare-line Order = refl
-bare-line Closing = refl
-
--- and so 1,002 bytes
-pub bare-length : (t : LineType) → length (bareLine t) ≡ 1002
-bare-length t = typed-exactly t (bareLine t) .0 (bare-line t) .whole
 
 -- its places hold blanks
 pub bare-plain : (t : LineType) → plainElsewhere t (bareLine t)
@@ -152,9 +143,6 @@ module _ (t : LineType) (s : List ℕ) where
 -- ---------------------------------------------------------------------------
 -- Any two answers that a contract allows, with what is in the lent slice at exit, are equal
 
-pub dress-only : (t : LineType) (line : List ℕ) → Only (λ (after : List ℕ). after ≡ dressed t line)
-dress-only t line = defined-only (dressed t line)
-
 pub draft-only :
     (day kind : ℕ) (t : LineType) (first last : ℕ) (text sizes line : List ℕ)
     → Only (λ (x : Draft). Drafts (drafted day kind t (take (last - first) (drop first (spots t))) (fieldsOf sizes text) line) (x .answer) (x .line))
@@ -164,9 +152,3 @@ draft-only day kind t first last text sizes line a b p q = same (p .answers ∙ 
     same e f =
         ap (λ (x : Answer). let d : Draft = record { answer = x; line = a .line } in d) e ∙
         ap (λ (s : List ℕ). let d : Draft = record { answer = b .answer; line = s } in d) f
-
-pub size-at-only : (sizes : List ℕ) (i : ℕ) → Only (λ (r : ℕ). r ≡ getD sizes i 0)
-size-at-only sizes i = defined-only (getD sizes i 0)
-
-pub text-behind-only : (text sizes : List ℕ) (fields : ℕ) → Only (λ (r : List ℕ). r ≡ behind (take fields sizes) text)
-text-behind-only text sizes fields = defined-only (behind (take fields sizes) text)

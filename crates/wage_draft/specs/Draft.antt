@@ -1,9 +1,8 @@
--- Document 01, "The wage file", the writer: "the judge's for the fields, 4 (another length) first in each"; "It puts blanks in places not read
--- (zeros in 540–542)".
-use Prim.Native.Nat.{ℕ}
+-- Document 01, "The wage file", the writer: "the judge's for the fields, 4 (another length) first in each".
 use mathlib.Core.Path.{_≡_}
 use mathlib.Core.Bool.{cond}
 use mathlib.Core.List.{List, [], _∷_, map}
+use Prim.Native.Nat.{ℕ}
 use lib.Dec.{eqb}
 use lib.ListN.{length, replicate}
 use lib.Seq.{sets}
@@ -11,29 +10,10 @@ use Rattle.refusal.specs.declared.Answer.{Answer}
 use Rattle.refusal.specs.declared.Answer.the-variants.{Accepted, Refused}
 use Rattle.refusal.specs.declared.Refusal.the-variants.{Length}
 use Rattle.wage_places.specs.declared.LineType.{LineType}
-use Rattle.wage_places.specs.declared.LineType.the-variants.{Label, Group, Order, Closing}
 use Rattle.wage_places.specs.declared.Spot.{Spot}
 use Rattle.wage_places.specs.Places.{spots, partAt}
-use Rattle.wage_line.specs.Line.{typeText}
 use Rattle.wage_fields.specs.Rules.{placeAnswer}
-
--- ---------------------------------------------------------------------------
--- A line without fields
-
--- what stands at 540 to 542: zeros in a 309
-abbrev pub bankZeros : LineType → List ℕ
-bankZeros Label = []
-bankZeros Group = []
-bankZeros Order = 48 ∷ (48 ∷ (48 ∷ []))
-bankZeros Closing = []
-
--- a line with its type, its CR LF, and what the writer puts in places not read
-abbrev pub dressed : LineType → List ℕ → List ℕ
-dressed t s = sets (sets (sets s 539 (bankZeros t)) 997 (typeText t)) 1000 (13 ∷ (10 ∷ []))
-
--- 1,002 bytes, blanks but for that
-unfoldable pub bareLine : LineType → List ℕ
-bareLine t = dressed t (replicate 1002 32)
+use Rattle.bare_line.specs.Bare.{bareLine}
 
 -- ---------------------------------------------------------------------------
 -- Fields put at their places

@@ -7,7 +7,7 @@ use lib.ListN.{length, take, drop, length-append, length-drop}
 use lib.Seq.{take-append-le, drop-append-le}
 use Rattle.wage_line.specs.Pieces.{piecesOf, pieces, nextPiece}
 use Rattle.wage_line.proofs.PieceLaws.{pieces-first, pieces-more, pieces-end}
-use Rattle.judge.specs.declared.Judge.{Judge}
+use Rattle.condition.specs.declared.Judge.{Judge}
 use Rattle.judge.specs.Judge.{stepped, steps}
 
 module _ (j : Judge) (s : List ℕ) (at : ℕ) where

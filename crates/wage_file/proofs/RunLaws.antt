@@ -26,13 +26,16 @@ use Rattle.wage_places.specs.Places.{spots, spotIn, partOf}
 use Rattle.wage_line.specs.Line.{typedOf}
 use Rattle.wage_fields.specs.Rules.{placesAnswer}
 use Rattle.wage_fields.proofs.Theorems.{closing-has-none}
-use Rattle.judge.specs.declared.Condition.the-variants.{Grouped}
-use Rattle.judge.specs.declared.Counts.{Counts}
-use Rattle.judge.specs.declared.Ending.the-variants as ending
-use Rattle.judge.specs.declared.Judge.{Judge}
-use Rattle.judge.specs.Judge.{stageOf, isRefused, refusalIn, refusedWith, atLine, nextLine, beyond, isSound, oneMore, after, wholeVerdict, standVerdict, afterPlaces, typeStep, typedStep, stepped, steps, ended}
-use Rattle.judge.proofs.Laws.{sound-within}
-use Rattle.judge.proofs.Theorems.{refusal-stays-on, refusal-ends, closed-accepts}
+use Rattle.condition.specs.declared.Condition.the-variants.{Grouped}
+use Rattle.condition.specs.declared.Counts.{Counts}
+use Rattle.condition.specs.declared.Ending.the-variants as ending
+use Rattle.condition.specs.declared.Judge.{Judge}
+use Rattle.condition.specs.Record.{stageOf, isRefused, refusalIn, refusedWith, atLine, nextLine, beyond, isSound, ended}
+use Rattle.standing.specs.Standing.{oneMore, after, wholeVerdict, standVerdict}
+use Rattle.judge.specs.Judge.{afterPlaces, typeStep, typedStep, stepped, steps}
+use Rattle.condition.proofs.Laws.{sound-within}
+use Rattle.judge.proofs.Theorems.{refusal-stays-on}
+use Rattle.condition.proofs.Theorems.{refusal-ends, closed-accepts}
 use Rattle.wage_file.specs.Right.{Payments, groupLines, ordersIn, RightLine, RightGroup, amounts}
 
 -- ---------------------------------------------------------------------------

@@ -14,11 +14,12 @@ use Rattle.dates.specs.Dates.{isDate}
 use Rattle.sums.specs.Sums.{sumOf}
 use Rattle.wage_line.specs.Pieces.{piecesOf, pieces}
 use Rattle.wage_line.proofs.PieceLaws.{pieces-of-lines}
-use Rattle.judge.specs.declared.Counts.{Counts}
-use Rattle.judge.specs.declared.Ending.{Ending}
-use Rattle.judge.specs.declared.Ending.the-variants.{Accepted, Refused}
-use Rattle.judge.specs.declared.Judge.{Judge}
-use Rattle.judge.specs.Judge.{isSound, begun, steps, ended}
+use Rattle.condition.specs.declared.Counts.{Counts}
+use Rattle.condition.specs.declared.Ending.{Ending}
+use Rattle.condition.specs.declared.Ending.the-variants.{Accepted, Refused}
+use Rattle.condition.specs.declared.Judge.{Judge}
+use Rattle.condition.specs.Record.{isSound, begun, ended}
+use Rattle.judge.specs.Judge.{steps}
 use Rattle.judge.proofs.Theorems.{steps-append}
 use Rattle.wage_file.proofs.Exactly.{RightLines, accepted-exactly}
 use Rattle.wage_file.specs.File.{fileAnswer}

@@ -2,8 +2,9 @@
 use Prim.Native.Nat.{ℕ}
 use mathlib.Core.List.{List}
 use Rattle.wage_line.specs.Pieces.{pieces}
-use Rattle.judge.specs.Judge.{begun, steps, ended}
-use Rattle.judge.specs.declared.Ending.{Ending}
+use Rattle.condition.specs.Record.{begun, ended}
+use Rattle.judge.specs.Judge.{steps}
+use Rattle.condition.specs.declared.Ending.{Ending}
 
 -- "the answer of its 1,002-byte pieces, one by one"
 unfoldable pub fileAnswer : ℕ → List ℕ → Ending

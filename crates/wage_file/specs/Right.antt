@@ -14,7 +14,7 @@ use Rattle.wage_line.specs.declared.Typed.the-variants.{Line}
 use Rattle.wage_line.specs.Line.{typedOf}
 use Rattle.wage_places.specs.Places.{partOf}
 use Rattle.wage_fields.specs.Rules.{placesAnswer}
-use Rattle.judge.specs.declared.Counts.{Counts}
+use Rattle.condition.specs.declared.Counts.{Counts}
 
 -- ---------------------------------------------------------------------------
 -- The parts of a file

@@ -6,8 +6,8 @@ ghost use mathlib.Core.Path.{_≡_};
 ghost use Rattle.wage_line.specs.Pieces.{pieces};
 ghost use Rattle.judge.specs.Judge.{steps};
 ghost use Rattle.wage_file.specs.File.{fileAnswer};
-use judge::Ending;
-use judge::Judge;
+use condition::Ending;
+use condition::Judge;
 
 // The lines of a part of a file, from a record on.
 pub fn lines(from: Judge, s: &[u8]) -> Judge
@@ -17,7 +17,7 @@ pub fn lines(from: Judge, s: &[u8]) -> Judge
     let mut at: usize = 0;
     'lines: loop {
         let condition = j.condition;
-        if judge::is_refused(condition) {
+        if condition::is_refused(condition) {
             break 'lines j;
         }
         let left = s.len() - at;
@@ -33,5 +33,5 @@ pub fn lines(from: Judge, s: &[u8]) -> Judge
 pub fn whole(day: u64, s: &[u8]) -> Ending
     ensures { λ r. ⌜ r ≡ fileAnswer day (now (s .entry)) ⌝ }
 {
-    judge::end(lines(judge::begin(day), s))
+    condition::end(lines(condition::begin(day), s))
 }

@@ -1,21 +1,14 @@
--- Laws of a group's orders: their answer and their sum from a place on. Assumes nothing.
-use mathlib.Core.Path.{_≡_, sym, ap, _∙_}
+-- Laws of a group's orders: their answer from a place on. Assumes nothing.
+use mathlib.Core.Path.{_≡_}
 use mathlib.Core.List.{List}
 use Prim.Native.Nat.{ℕ, _+_, _≤_, _<_}
-use native.Mathlib.Nat.{add-zero, zero-add}
-use native.Mathlib.Omega.{arith}
 use lib.ListN.{length, take, drop}
 use Rattle.refusal.specs.declared.Answer.the-variants.{Accepted, Refused}
 use Rattle.refusal.specs.declared.Refusal.{Refusal}
-use Rattle.sums.specs.Sums.{centsOf, noCents, sumOf, added, numberIn}
-use Rattle.sums.specs.declared.Sum.{Sum}
-use Rattle.sums.proofs.Laws.{added-on}
-use Rattle.wage_places.specs.declared.LineType.the-variants.{Order}
-use Rattle.wage_places.specs.Places.{partOf}
 use Rattle.wage_line.specs.Pieces.{pieces, nextPiece}
 use Rattle.wage_line.proofs.PieceLaws.{pieces-more, pieces-end}
-use Rattle.wage_file.specs.Right.{amounts}
-use Rattle.wage_orders.specs.Orders.{orderAnswer, ordersFrom}
+use Rattle.lent_order.specs.Order.{orderAnswer}
+use Rattle.wage_orders.specs.Orders.{ordersFrom}
 
 -- ---------------------------------------------------------------------------
 -- The orders from a place on, the line there being n
@@ -39,32 +32,3 @@ module _ (day kind n : ℕ) (s : List ℕ) (at : ℕ) where
   pub orders-end : length s ≤ at → ordersFrom day kind n (pieces (drop at s)) ≡ Accepted
   unfolding ordersFrom
   orders-end h = rw (pieces-end s at h)
-
--- ---------------------------------------------------------------------------
--- The sum from a place on
-
--- the sum of a number is the sum of the number that it stands for
-pub kept : (m : ℕ) → sumOf 100 (centsOf (sumOf 100 m)) ≡ sumOf 100 m
-kept m = rw (add-zero, add-zero) at (added-on 100 m 0)
-
--- before the first place: all amounts
-pub amounts-first : (n : ℕ) → sumOf 100 n ≡ added 100 noCents n
-amounts-first n = rw zero-add
-
-module _ (sum : Sum) (s : List ℕ) (at : ℕ) where
-  -- the amount there, and those from the next place on
-  pub amounts-on :
-      at < length s →
-      added 100 sum (amounts (pieces (drop at s))) ≡
-      added 100 (added 100 sum (numberIn (partOf Order 10 (take 1002 (drop at s))))) (amounts (pieces (drop (nextPiece (length s) at) s)))
-  unfolding amounts
-  amounts-on h =
-      let x = numberIn (partOf Order 10 (take 1002 (drop at s))) in
-      let rest = amounts (pieces (drop (nextPiece (length s) at) s)) in
-      let e : centsOf sum + (x + rest) ≡ centsOf sum + x + rest = omega arith in
-      rw (pieces-more s at h) (ap (sumOf 100) e ∙ sym (added-on 100 (centsOf sum + x) rest))
-
-  -- at the end there is nothing more
-  pub amounts-end : length s ≤ at → added 100 sum (amounts (pieces (drop at s))) ≡ sumOf 100 (centsOf sum)
-  unfolding amounts
-  amounts-end h = rw (pieces-end s at h) (ap (sumOf 100) (add-zero (centsOf sum)))

@@ -1,3 +1,3 @@
--- What the proofs here share, and what is promised of a group's orders.
+-- What is promised of `wage_orders`, and the laws that its proofs share.
 pub mod Laws
 pub mod Theorems

@@ -1,34 +1,30 @@
--- What is promised of a group's lent orders: accepted exactly when they are whole, some, not too many and each right, their sum below 10^20 whatever
--- their bytes are, and one answer.
--- Assumes nothing.
+-- What is promised of a group's lent orders: accepted exactly when they are whole, some, not too many and each right,
+-- and one answer. Assumes nothing.
 use mathlib.Core.Path.{_≡_, refl}
 use mathlib.Core.Logic.{_↔_}
 use mathlib.Core.Bool.{Bool, true, false, cond}
 use mathlib.Core.List.{List, [], _∷_}
-use Prim.Native.Nat.{ℕ, suc, _+_, _*_, _/_, _%_, _≤_, _<_}
+use Prim.Native.Nat.{ℕ, suc, _+_, _/_, _%_, _≤_, _<_}
 use native.Mathlib.Omega.{arith}
 use lib.Dec.{eqb, leb}
-use lib.ListN.{length, take, getD, length-take}
+use lib.ListN.{length, getD}
 use borrow.Author.Tests.{leb-true, eqb-true, eqb-false, le-leb, eq-eqb, ne-eqb}
 use Rattle.refusal.specs.Only.{Only, defined-only}
 use Rattle.refusal.specs.Refusal.{none, firstOf}
 use Rattle.refusal.specs.declared.Answer.{Answer}
 use Rattle.refusal.specs.declared.Answer.the-variants as answer
 use Rattle.refusal.specs.declared.Refusal.the-variants.{Size, Misplaced, Orders}
-use Rattle.sums.specs.declared.Sum.{Sum}
-use Rattle.sums.specs.Sums.{sumOf, numberIn}
-use Rattle.sums.proofs.Theorems.{text-small}
 use Rattle.wage_places.specs.declared.LineType.the-variants.{Label, Group, Order, Closing}
 use Rattle.wage_line.specs.declared.Typed.{Typed}
 use Rattle.wage_line.specs.declared.Typed.the-variants as typed
 use Rattle.wage_line.specs.Line.{typedOf}
-use Rattle.wage_places.specs.Places.{partOf, spots, spotIn}
 use Rattle.wage_line.specs.Pieces.{pieces}
-use Rattle.wage_line.proofs.PieceLaws.{whole-pieces}
 use Rattle.wage_fields.specs.Rules.{placesAnswer}
 use Rattle.wage_file.specs.Right.{RightLine, amounts}
 use Rattle.wage_file.proofs.RunLaws.{Each, each-more}
-use Rattle.wage_orders.specs.Orders.{answerIn, orderFrom, orderAnswer, ordersFrom, groupOrders}
+use Rattle.worked_out.proofs.Theorems.{amounts-small}
+use Rattle.lent_order.specs.Order.{answerIn, orderFrom, orderAnswer}
+use Rattle.wage_orders.specs.Orders.{ordersFrom, groupOrders}
 
 -- ---------------------------------------------------------------------------
 -- Accepted exactly when
@@ -112,23 +108,6 @@ module _ (day kind : ℕ) where
         ↔ ((length s % 1002 ≡ 0) × (0 < length s) × (length s / 1002 ≤ 99999) × ((k : ℕ) → k < length (pieces s) → RightLine day kind Order (getD (pieces s) k [])))
     orders-right = (group-told, group-made)
 
--- ---------------------------------------------------------------------------
--- The sum of at most 99,999 orders, whatever their bytes are
-
--- fifteen bytes write less than 10^15
-amount-small : (s : List ℕ) → numberIn (partOf Order 10 s) < 1000000000000000
-unfolding spots spotIn
-amount-small s = text-small 15 (take 18 (partOf Order 10 s)) (simp length-take (omega arith))
-
-amounts-at-most : (ss : List (List ℕ)) → amounts ss ≤ length ss * 1000000000000000
-unfolding amounts
-amounts-at-most [] = omega arith
-amounts-at-most (s ∷ ss) = omega (arith, amount-small s, amounts-at-most ss)
-
--- twenty digits write it
-pub amounts-small : (s : List ℕ) → length s / 1002 ≤ 99999 → length s % 1002 ≡ 0 → amounts (pieces s) < 100000000000000000000
-amounts-small s h e = omega (arith, amounts-at-most (pieces s), whole-pieces s e .0)
-
 -- so the sum of accepted orders has at most twenty digits
 pub accepted-small : (day kind : ℕ) (s : List ℕ) → groupOrders day kind s ≡ answer.Accepted → amounts (pieces s) < 100000000000000000000
 accepted-small day kind s e = let h = orders-right day kind s .0 e in amounts-small s (h .2) (h .0)
@@ -136,12 +115,5 @@ accepted-small day kind s e = let h = orders-right day kind s .0 e in amounts-sm
 -- ---------------------------------------------------------------------------
 -- Any two answers that a contract allows are equal
 
-module _ (s : List ℕ) where
-  pub judge-only : (day kind : ℕ) → Only (λ (r : Answer). r ≡ groupOrders day kind s)
-  judge-only day kind = defined-only (groupOrders day kind s)
-
-  pub number-only : Only (λ (r : ℕ). r ≡ length s / 1002)
-  number-only = defined-only (length s / 1002)
-
-  pub total-only : Only (λ (r : Sum). r ≡ sumOf 100 (amounts (pieces s)))
-  total-only = defined-only (sumOf 100 (amounts (pieces s)))
+pub judge-only : (day kind : ℕ) (s : List ℕ) → Only (λ (r : Answer). r ≡ groupOrders day kind s)
+judge-only day kind s = defined-only (groupOrders day kind s)

@@ -33,10 +33,13 @@ use Rattle.refusal.proofs.Verdicts.{first-both}
 use Rattle.wage_fields.proofs.Theorems.{label-kind, group-number-digits, group-sum-digits}
 use Rattle.wage_file.specs.Right.{Payments, RightLine, kindOf, amounts, RightGroup}
 use Rattle.wage_draft.specs.Draft.{partsOf}
-use Rattle.wage_draft.proofs.Laws.{fields-joined}
+use Rattle.lent_fields.proofs.Laws.{fields-joined}
 use Rattle.wage_draft.proofs.Theorems.{DraftedRight, drafted-right}
 use Rattle.wage_orders.specs.Orders.{groupOrders}
-use Rattle.wage_writer.specs.Writer.{labelDraft, orderDraft, groupFields, groupDraft, forDay, forKind, forRoom, labelAnswer, orderAnswer, groupAnswer, closingAnswer}
+use Rattle.wage_writer.specs.Writer.{labelDraft, orderDraft, labelAnswer, orderAnswer}
+use Rattle.group_draft.specs.GroupDraft.{groupFields, groupDraft}
+use Rattle.line_room.specs.LineRoom.{forDay, forKind, forRoom, closingAnswer}
+use Rattle.group_writer.specs.GroupWriter.{groupAnswer}
 use Rattle.wage_round.specs.Round.{fiveParts, fiveSizes, readFive}
 
 -- ---------------------------------------------------------------------------

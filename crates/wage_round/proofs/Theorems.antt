@@ -21,18 +21,24 @@ use Rattle.wage_line.specs.Pieces.{pieces}
 use Rattle.wage_line.proofs.PieceLaws.{AllWhole, whole-pieces, pieces-of-lines, pieces-joined}
 use Rattle.wage_places.proofs.Theorems.{placeAt, found-spot}
 use Rattle.wage_line.proofs.Theorems.{place-typed, typed-exactly}
-use Rattle.judge.specs.declared.Counts.{Counts}
-use Rattle.judge.specs.declared.Ending.the-variants as ending
+use Rattle.condition.specs.declared.Counts.{Counts}
+use Rattle.condition.specs.declared.Ending.the-variants as ending
 use Rattle.wage_file.specs.Right.{Payments, File, groupLines, linesOf, tally, RightLine, kindOf, amounts, RightGroup, RightFile}
 use Rattle.wage_file.specs.File.{fileAnswer}
 use Rattle.wage_file.proofs.RunLaws.{Each, noGroup}
 use Rattle.wage_file.proofs.Exactly.{accepted-exactly}
 use Rattle.wage_file.proofs.Theorems.{of-lines, file-accepted-exactly}
-use Rattle.wage_draft.specs.Draft.{Draft, bareLine, drafted, blanked, plainElsewhere}
-use Rattle.wage_draft.proofs.Theorems.{DraftedRight, bare-line, bare-plain, right-drafted, fields-of-parts}
+use Rattle.wage_draft.specs.Draft.{Draft, drafted, blanked, plainElsewhere}
+use Rattle.bare_line.specs.Bare.{bareLine}
+use Rattle.wage_draft.proofs.Theorems.{DraftedRight, bare-plain, right-drafted, fields-of-parts}
+use Rattle.bare_line.proofs.Theorems.{bare-line}
 use Rattle.wage_orders.specs.Orders.{groupOrders}
-use Rattle.wage_orders.proofs.Theorems.{orders-right, amounts-small}
-use Rattle.wage_writer.specs.Writer.{labelDraft, orderDraft, groupFields, groupDraft, labelAnswer, orderAnswer, groupAnswer, closingAnswer}
+use Rattle.wage_orders.proofs.Theorems.{orders-right}
+use Rattle.worked_out.proofs.Theorems.{amounts-small}
+use Rattle.wage_writer.specs.Writer.{labelDraft, orderDraft, labelAnswer, orderAnswer}
+use Rattle.group_draft.specs.GroupDraft.{groupFields, groupDraft}
+use Rattle.group_writer.specs.GroupWriter.{groupAnswer}
+use Rattle.line_room.specs.LineRoom.{closingAnswer}
 use Rattle.wage_round.specs.Round.{GivenGroup, Given, noGiven, kindGiven, writtenGroup, writtenFile, AllWritten, writtenOrders, readFields, readFive, readGroup, readFile, PlainGroup, PlainFile}
 use Rattle.wage_round.proofs.Laws.{label-passed, closing-passed, order-passed, group-passed, label-passes, closing-passes, order-passes, group-passes, read-number, label-known, five-read, seven-parts, declared, whole-append, whole-length}
 

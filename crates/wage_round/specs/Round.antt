@@ -11,9 +11,13 @@ use Rattle.wage_places.specs.declared.LineType.the-variants.{Label, Group, Orde
 use Rattle.wage_places.specs.Places.{partOf}
 use Rattle.wage_line.specs.Pieces.{pieces}
 use Rattle.wage_file.specs.Right.{Payments, File, linesOf, kindOf}
-use Rattle.wage_draft.specs.Fields.{fieldsOf}
-use Rattle.wage_draft.specs.Draft.{bareLine, partsOf, sizesOf, plainElsewhere}
-use Rattle.wage_writer.specs.Writer.{labelDraft, orderDraft, groupDraft, labelAnswer, groupAnswer, closingAnswer}
+use Rattle.lent_fields.specs.Fields.{fieldsOf}
+use Rattle.bare_line.specs.Bare.{bareLine}
+use Rattle.wage_draft.specs.Draft.{partsOf, sizesOf, plainElsewhere}
+use Rattle.wage_writer.specs.Writer.{labelDraft, orderDraft, labelAnswer}
+use Rattle.group_draft.specs.GroupDraft.{groupDraft}
+use Rattle.group_writer.specs.GroupWriter.{groupAnswer}
+use Rattle.line_room.specs.LineRoom.{closingAnswer}
 
 -- ---------------------------------------------------------------------------
 -- A file written line by line

@@ -1,78 +1,20 @@
--- Laws of the writer: what each refusal and the line itself leave, the digits that a 301 works out, and a 301's three runs of fields.
--- Assumes nothing.
-use mathlib.Core.Path.{_≡_, refl, sym, ap, _∙_}
-use mathlib.Core.Bool.{true, false, _||_}
-use mathlib.Core.List.{List, [], _∷_, _++_, append-assoc}
-use Prim.Native.Nat.{ℕ, zero, suc, _+_, _-_, _*_, _/_, _%_, _≤_, _<_}
+-- Laws of the writer: a draft, and its line put into the room. Assumes nothing.
+use mathlib.Core.Path.{_≡_, sym, _∙_}
+use mathlib.Core.List.{List}
+use Prim.Native.Nat.{ℕ, _-_}
 use native.Mathlib.Omega.{arith}
-use lib.Dec.{eqb}
-use lib.ListN.{length, take, drop, getD, replicate, length-append}
-use lib.Seq.{sets, length-sets, sets-eq, take-at, drop-at, take-all, length-take-le, getD-drop}
-use borrow.Author.Tests.{lt-leb, le-leb}
-use Rattle.refusal.specs.Refusal.{none, firstOf}
-use Rattle.refusal.specs.declared.Place.{Place}
+use lib.ListN.{length, take, drop}
+use lib.Seq.{take-all}
+use Rattle.refusal.specs.Refusal.{firstOf}
 use Rattle.refusal.specs.declared.Answer.{Answer}
 use Rattle.refusal.specs.declared.Answer.the-variants.{Accepted, Refused}
 use Rattle.refusal.specs.declared.Refusal.{Refusal}
-use Rattle.refusal.specs.declared.Refusal.the-variants.{Form, Date, Room}
-use Rattle.text.specs.Digits.{digitsText}
-use Rattle.dates.specs.Dates.{isDate}
-use Rattle.sums.specs.declared.Sum.{Sum}
-use Rattle.sums.specs.Sums.{sumOf, limb}
-use Rattle.sums.proofs.Laws.{sum-small, in-limbs, low-small}
-use Rattle.room.proofs.Places.{front}
-use Rattle.room.proofs.Digits.{digits-length, digits-two-limbs}
 use Rattle.wage_places.specs.declared.LineType.{LineType}
-use Rattle.wage_places.specs.declared.LineType.the-variants.{Group}
 use Rattle.wage_places.specs.Places.{spots}
-use Rattle.wage_draft.specs.Fields.{fieldsOf, behind}
-use Rattle.wage_draft.specs.Draft.{Draft, dressed, bareLine, drafted, goingOn, Drafts}
-use Rattle.wage_draft.proofs.Theorems.{drafted-append, drafted-by-fields}
-use Rattle.wage_writer.specs.Writer.{forDay, forKind, forRoom, Writes}
-
--- ---------------------------------------------------------------------------
--- Refusals in their order
-
-module _ (line out : List ℕ) where
-  -- a refusal of the first answer is that of both, and leaves the room as it was
-  pub refused-first : (a rest : Answer) (q : Refusal) → a ≡ Refused q → Writes (firstOf a rest) line out (Refused q) out
-  refused-first a rest q e = rw e (record { answers = refl; leaves = refl })
-
-  -- where the first answer accepts, the second counts
-  pub accepted-first : (a rest r : Answer) (after : List ℕ) → a ≡ Accepted → Writes rest line out r after → Writes (firstOf a rest) line out r after
-  accepted-first a rest r after e w = rw e w
-
-  -- the day is no date
-  pub day-wrong : (day : ℕ) (rest : Answer) (p : Place) → isDate day ≡ false → p ≡ none → Writes (forDay day rest) line out (Refused (Date p)) out
-  day-wrong day rest p e n = rw (e, n) (record { answers = refl; leaves = refl })
-
-  -- the day is a date
-  pub day-right : (day : ℕ) (rest r : Answer) (after : List ℕ) → isDate day ≡ true → Writes rest line out r after → Writes (forDay day rest) line out r after
-  day-right day rest r after e w = rw e w
-
-  -- the kind is neither 4 nor 5
-  pub kind-wrong :
-      (kind : ℕ) (rest : Answer) (p : Place) → (eqb kind 4 || eqb kind 5) ≡ false → p ≡ none → Writes (forKind kind rest) line out (Refused (Form p)) out
-  kind-wrong kind rest p e n = rw (e, n) (record { answers = refl; leaves = refl })
-
-  -- the kind is one of them
-  pub kind-right :
-      (kind : ℕ) (rest r : Answer) (after : List ℕ) → (eqb kind 4 || eqb kind 5) ≡ true → Writes rest line out r after
-      → Writes (forKind kind rest) line out r after
-  kind-right kind rest r after e w = rw e w
-
-  -- there is too little room
-  pub room-short : (p : Place) → length out < 1002 → p ≡ none → Writes (forRoom (length out)) line out (Refused (Room p 1002)) out
-  room-short p h n = rw (lt-leb 1002 (length out) h, n) (record { answers = refl; leaves = refl })
-
-  -- there is room for the line
-  pub room-enough : (after : List ℕ) → length line ≡ 1002 → 1002 ≤ length out → after ≡ sets out 0 line → Writes (forRoom (length out)) line out Accepted after
-  room-enough after e h w =
-      let f : after ≡ line ++ drop 1002 out = w ∙ front out line (omega arith) ∙ ap (λ (n : ℕ). line ++ drop n out) e in
-      rw (le-leb 1002 (length out) h) (record { answers = refl; leaves = f })
-
--- ---------------------------------------------------------------------------
--- A draft, and its line put into the room
+use Rattle.bare_line.specs.Bare.{bareLine}
+use Rattle.wage_draft.specs.Draft.{Draft, drafted, Drafts}
+use Rattle.line_room.specs.LineRoom.{Writes}
+use Rattle.line_room.proofs.Laws.{accepted-first, refused-first}
 
 module _ (d : Draft) (r : Answer) (line : List ℕ) (w : Drafts d r line) (rest : Answer) (out : List ℕ) where
   -- a refused draft leaves the room as it was
@@ -83,11 +25,6 @@ module _ (d : Draft) (r : Answer) (line : List ℕ) (w : Drafts d r line) (rest 
   pub draft-written : r ≡ Accepted → (s : Answer) (after : List ℕ) → Writes rest line out s after → Writes (firstOf (d .answer) rest) (d .line) out s after
   draft-written e s after p = accepted-first (d .line) out (d .answer) rest s after (sym (w .answers) ∙ e) (rw (w .leaves) at p)
 
--- blanks, dressed
-pub bare : (t : LineType) (before after : List ℕ) → before ≡ replicate 1002 32 → after ≡ dressed t before → after ≡ bareLine t
-unfolding bareLine
-bare t before after e w = w ∙ ap (dressed t) e
-
 -- all places of a type, on a line without fields
 pub all-places :
     (day kind : ℕ) (t : LineType) (fs : List (List ℕ)) (line : List ℕ) (n : ℕ) (r : Answer) (after : List ℕ) → n ≡ length (spots t) → line ≡ bareLine t
@@ -95,154 +32,3 @@ pub all-places :
 all-places day kind t fs line n r after e b w =
     let f : take (n - 0) (spots t) ≡ spots t = take-all (n - 0) (spots t) (omega arith) in
     rw (f, b) at w
-
--- ---------------------------------------------------------------------------
--- What a 301 works out
-
--- what stands up to the end of what was just written
-written-up-to : (s : List ℕ) (at : ℕ) (f : List ℕ) (end : ℕ) → at + length f ≡ end → end ≤ length s → take end (sets s at f) ≡ take at s ++ f
-written-up-to s at f end e h =
-    let l : length (take at s ++ f) ≡ end = omega (arith, length-append (take at s) f, length-take-le at s (omega arith)) in
-    rw (sets-eq f s at (omega arith)) (take-at (take at s ++ f) (drop (at + length f) s) end l)
-
--- five digits, two and eighteen, one behind the other
-pub three-written :
-    (s a b c : List ℕ) → length s ≡ 25 → length a ≡ 5 → length b ≡ 2 → length c ≡ 18 → sets (sets (sets s 0 a) 5 b) 7 c ≡ a ++ (b ++ c)
-three-written s a b c l e f g =
-    let s1 = sets s 0 a in
-    let s2 = sets s1 5 b in
-    let l1 : length s1 ≡ 25 = length-sets s 0 a ∙ l in
-    let l2 : length s2 ≡ 25 = length-sets s1 5 b ∙ l1 in
-    let e1 : take 5 s1 ≡ a = written-up-to s 0 a 5 (omega arith) (omega arith) in
-    let e2 : take 7 s2 ≡ a ++ b = written-up-to s1 5 b 7 (omega arith) (omega arith) ∙ ap (λ (x : List ℕ). x ++ b) e1 in
-    let e3 : take 25 (sets s2 7 c) ≡ (a ++ b) ++ c = written-up-to s2 7 c 25 (omega arith) (omega arith) ∙ ap (λ (x : List ℕ). x ++ c) e2 in
-    sym (take-all 25 (sets s2 7 c) (omega (arith, length-sets s2 7 c))) ∙ e3 ∙ append-assoc a b c
-
--- a sum of at most twenty digits, its two parts one behind the other
-pub sum-digits : (n : ℕ) (s : Sum) → n < 100 * limb → s ≡ sumOf 100 n → digitsText 2 (s .high) ++ digitsText 18 (s .low) ≡ digitsText 20 n
-sum-digits n s h e =
-    rw (e, ← (sum-small 100 n h)) (sym (digits-two-limbs (n / limb) (n % limb) (low-small n)) ∙ ap (digitsText 20) (in-limbs n))
-
--- the number and the sum of a group's orders, one behind the other
-pub worked-digits :
-    (digits : List ℕ) (m n : ℕ) (s : Sum) (k : ℕ) (first second third : List ℕ) → length digits ≡ 25 → n < 100 * limb → k ≡ m → s ≡ sumOf 100 n
-    → first ≡ sets digits 0 (digitsText 5 k) → second ≡ sets first 5 (digitsText 2 (s .high)) → third ≡ sets second 7 (digitsText 18 (s .low))
-    → third ≡ digitsText 5 m ++ digitsText 20 n
-worked-digits digits m n s k first second third l h i e w1 w2 w3 =
-    w3 ∙ rw (w2, w1, i)
-    (three-written digits (digitsText 5 m) (digitsText 2 (s .high)) (digitsText 18 (s .low)) l (digits-length 5 m) (digits-length 2 (s .high)) (digits-length 18 (s .low)) ∙
-    ap (λ (x : List ℕ). digitsText 5 m ++ x) (sum-digits n s h e))
-
--- two texts, one behind the other, are two fields
-pub two-fields : (a b : List ℕ) → length a ≡ 5 → length b ≡ 20 → fieldsOf (5 ∷ (20 ∷ [])) (a ++ b) ≡ a ∷ (b ∷ [])
-unfolding fieldsOf
-two-fields a b e f = rw (take-at a b 5 e, drop-at a b 5 e, take-all 20 b (omega arith))
-
--- ---------------------------------------------------------------------------
--- A 301 in three runs of fields
-
--- one run was refused
-run-stops : (d next : Draft) (r : Answer) (line : List ℕ) → Drafts d r line → (q : Refusal) → r ≡ Refused q → Drafts (goingOn (d .answer) d next) (Refused q) line
-run-stops d next r line w q e =
-    let f : d .answer ≡ Refused q = sym (w .answers) ∙ e in
-    rw f (record { answers = refl; leaves = w .leaves })
-
--- one run was accepted, and the next goes on from its line
-run-goes-on :
-    (d : Draft) (next : List ℕ → Draft) (r : Answer) (line : List ℕ) → Drafts d r line → r ≡ Accepted
-    → (s : Answer) (after : List ℕ) → Drafts (next line) s after → Drafts (goingOn (d .answer) d (next (d .line))) s after
-run-goes-on d next r line w e s after p =
-    let f : d .answer ≡ Accepted = sym (w .answers) ∙ e in
-    rw (f, ← (w .leaves)) p
-
--- the first four fields
-abbrev firstRun : ℕ → ℕ → List (List ℕ) → List ℕ → Draft
-firstRun day kind fs line = drafted day kind Group (take (4 - 0) (drop 0 (spots Group))) fs line
-
--- the number and the sum
-abbrev workedRun : ℕ → ℕ → List ℕ → List ℕ → List ℕ → Draft
-workedRun day kind a b line = drafted day kind Group (take 2 (drop 4 (spots Group))) (a ∷ (b ∷ [])) line
-
--- the last field
-abbrev lastRun : ℕ → ℕ → List (List ℕ) → List ℕ → Draft
-lastRun day kind fs line = drafted day kind Group (take (7 - 6) (drop 6 (spots Group))) fs line
-
--- the two runs behind the first
-abbrev laterRuns : ℕ → ℕ → List (List ℕ) → List ℕ → List ℕ → List ℕ → Draft
-laterRuns day kind fs a b line =
-    goingOn (workedRun day kind a b line .answer) (workedRun day kind a b line) (lastRun day kind (drop 4 fs) (workedRun day kind a b line .line))
-
--- all fields of a 301: five given, two worked out
-abbrev pub sevenFields : List (List ℕ) → List ℕ → List ℕ → List (List ℕ)
-sevenFields fs a b = getD fs 0 [] ∷ (getD fs 1 [] ∷ (getD fs 2 [] ∷ (getD fs 3 [] ∷ (a ∷ (b ∷ (getD fs 4 [] ∷ []))))))
-
--- the first four of them, by their order
-first-four : (fs : List (List ℕ)) (k : ℕ) → k < 4 → getD (getD fs 0 [] ∷ (getD fs 1 [] ∷ (getD fs 2 [] ∷ (getD fs 3 [] ∷ [])))) k [] ≡ getD fs k []
-first-four fs zero h = refl
-first-four fs (suc zero) h = refl
-first-four fs (suc (suc zero)) h = refl
-first-four fs (suc (suc (suc zero))) h = refl
-first-four fs (suc (suc (suc (suc k)))) h = absurd (omega arith)
-
--- the last of them
-last-one : (fs : List (List ℕ)) (k : ℕ) → k < 1 → getD (getD fs 4 [] ∷ []) k [] ≡ getD (drop 4 fs) k []
-last-one fs zero h = sym (getD-drop 4 fs 0 [])
-last-one fs (suc k) h = absurd (omega arith)
-
--- the fields behind the first k are those of the text behind
-fields-behind : (k : ℕ) (ns text : List ℕ) → drop k (fieldsOf ns text) ≡ fieldsOf (drop k ns) (behind (take k ns) text)
-unfolding fieldsOf behind
-fields-behind zero ns text = refl
-fields-behind (suc k) [] text = refl
-fields-behind (suc k) (n ∷ ns) text = fields-behind k ns (drop n text)
-
--- the whole is the three runs
-group-runs :
-    (day kind : ℕ) (fs : List (List ℕ)) (a b line : List ℕ)
-    → drafted day kind Group (spots Group) (sevenFields fs a b) line
-    ≡ goingOn (firstRun day kind fs line .answer) (firstRun day kind fs line) (laterRuns day kind fs a b (firstRun day kind fs line .line))
-unfolding spots
-group-runs day kind fs a b line =
-    let ps = take 4 (spots Group) in
-    let qs = take 2 (drop 4 (spots Group)) in
-    let os = drop 6 (spots Group) in
-    let four = getD fs 0 [] ∷ (getD fs 1 [] ∷ (getD fs 2 [] ∷ (getD fs 3 [] ∷ []))) in
-    let later = a ∷ (b ∷ (getD fs 4 [] ∷ [])) in
-    let f = firstRun day kind fs line in
-    let w = workedRun day kind a b (f .line) in
-    drafted-append day kind Group ps (drop 4 (spots Group)) four later line refl ∙
-    ap (λ (d : Draft). goingOn (d .answer) d (drafted day kind Group (drop 4 (spots Group)) later (d .line))) (drafted-by-fields day kind Group ps four fs line (first-four fs)) ∙
-    ap (goingOn (f .answer) f)
-    (drafted-append day kind Group qs os (a ∷ (b ∷ [])) (getD fs 4 [] ∷ []) (f .line) refl ∙
-    ap (goingOn (w .answer) w) (drafted-by-fields day kind Group os (getD fs 4 [] ∷ []) (drop 4 fs) (w .line) (last-one fs)))
-
-module _
-    (day kind : ℕ) (sizes text a b start line₁ : List ℕ) (r₁ : Answer) (bared : start ≡ bareLine Group)
-    (first : Drafts (firstRun day kind (fieldsOf sizes text) start) r₁ line₁)
-  where
-    -- the first four were refused
-    pub group-first : (q : Refusal) → r₁ ≡ Refused q → Drafts (drafted day kind Group (spots Group) (sevenFields (fieldsOf sizes text) a b) (bareLine Group)) (Refused q) line₁
-    group-first q e =
-        let fs = fieldsOf sizes text in
-        rw (← bared, group-runs day kind fs a b start) (run-stops (firstRun day kind fs start) (laterRuns day kind fs a b (firstRun day kind fs start .line)) r₁ line₁ first q e)
-
-    module _ (taken₁ : r₁ ≡ Accepted) (line₂ : List ℕ) (r₂ : Answer) (worked : Drafts (workedRun day kind a b line₁) r₂ line₂) where
-      -- the number or the sum was refused
-      pub group-worked : (q : Refusal) → r₂ ≡ Refused q → Drafts (drafted day kind Group (spots Group) (sevenFields (fieldsOf sizes text) a b) (bareLine Group)) (Refused q) line₂
-      group-worked q e =
-          let fs = fieldsOf sizes text in
-          rw (← bared, group-runs day kind fs a b start)
-          (run-goes-on (firstRun day kind fs start) (laterRuns day kind fs a b) r₁ line₁ first taken₁ (Refused q) line₂
-          (run-stops (workedRun day kind a b line₁) (lastRun day kind (drop 4 fs) (workedRun day kind a b line₁ .line)) r₂ line₂ worked q e))
-
-      -- the last field says what the whole says
-      pub group-last :
-          r₂ ≡ Accepted → (ns rest : List ℕ) → ns ≡ drop 4 sizes → rest ≡ behind (take 4 sizes) text
-          → (r₃ : Answer) (line₃ : List ℕ) → Drafts (lastRun day kind (fieldsOf ns rest) line₂) r₃ line₃
-          → Drafts (drafted day kind Group (spots Group) (sevenFields (fieldsOf sizes text) a b) (bareLine Group)) r₃ line₃
-      group-last taken₂ ns rest n e r₃ line₃ last =
-          let fs = fieldsOf sizes text in
-          let g : fieldsOf ns rest ≡ drop 4 fs = rw (n, e) (sym (fields-behind 4 sizes text)) in
-          rw (← bared, group-runs day kind fs a b start)
-          (run-goes-on (firstRun day kind fs start) (laterRuns day kind fs a b) r₁ line₁ first taken₁ r₃ line₃
-          (run-goes-on (workedRun day kind a b line₁) (lastRun day kind (drop 4 fs)) r₂ line₂ worked taken₂ r₃ line₃ (rw g at last)))

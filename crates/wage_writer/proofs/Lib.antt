@@ -1,4 +1,4 @@
--- What the proofs here and in the crates above share, and what is promised of `wage_writer`.
+-- What is promised of `wage_writer`, and the laws that its proofs share.
 pub mod Laws
 pub mod Refusals
 pub mod Theorems

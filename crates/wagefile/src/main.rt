@@ -3,8 +3,8 @@
 //
 // A file of any size is read 64 lines at a time into one buffer; wage_file/proofs/Theorems.antt says that this gives the
 // answer of the whole file.
-use judge::Ending;
-use judge::Judge;
+use condition::Ending;
+use condition::Judge;
 use refusal::Refusal;
 use text::Class;
 use words::say;
@@ -20,8 +20,8 @@ fn main() {
     let mut head = [0u8; 9];
     let n = io::read_full(0, &mut head);
     let mut buffer = [0u8; 64128];
-    let j = read_lines(judge::begin(day(&head[..n])), &mut buffer);
-    respond(judge::end(j));
+    let j = read_lines(condition::begin(day(&head[..n])), &mut buffer);
+    respond(condition::end(j));
 }
 
 // The day that the first line tells; 0, which is no date, if it is not eight digits and a line feed.
@@ -43,7 +43,7 @@ fn read_some(j: Judge, buffer: &mut [u8]) -> Progress {
     let n = io::read_full(0, buffer);
     let next = wage_file::lines(j, &buffer[..n]);
     let condition = next.condition;
-    if judge::is_refused(condition) {
+    if condition::is_refused(condition) {
         return Progress {
             judge: next,
             more: false,

@@ -2,7 +2,7 @@
 use mathlib.Core.Path.{ap}
 use borrow.Author.Tests.{ne-eqb}
 use borrow.Author.Needs.{needs}
-use Rattle.judge.specs.declared.Condition.the-variants.{Refused}
+use Rattle.condition.specs.declared.Condition.the-variants.{Refused}
 use Rattle.desk_record.proofs.condition_from.Statement.{statement}
 use Rattle.desk_record.proofs.condition_from.Tie as tie
 

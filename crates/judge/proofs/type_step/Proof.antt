@@ -1,9 +1,10 @@
 -- `judge::type_step` meets its contract: 10, 12 and 13 first, then the arm says the answer of the places. Assumes nothing.
 use native.Mathlib.Omega.{arith}
 use borrow.Author.Tests.{eq-eqb, ne-eqb}
-use Rattle.judge.specs.Judge.{typeStep}
-use Rattle.judge.proofs.Laws.{sound-within}
 use borrow.Author.Needs.{needs}
+use Rattle.condition.proofs.Laws.{sound-within}
+use Rattle.standing.specs.Standing.{after}
+use Rattle.judge.specs.Judge.{typeStep}
 use Rattle.judge.proofs.type_step.Statement.{statement}
 use Rattle.judge.proofs.type_step.Tie as tie
 

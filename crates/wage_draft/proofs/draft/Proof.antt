@@ -1,11 +1,11 @@
 -- `wage_draft::draft` meets its contract. The loop's invariant: what is left to be drafted is the whole draft. Assumes nothing.
-use Prim.Native.Nat.{_≤_, _-_}
 use mathlib.Core.Path.{_≡_, refl, _∙_}
+use Prim.Native.Nat.{_≤_, _-_}
 use native.Mathlib.Omega.{arith}
-use borrow.Author.Needs.{needs}
 use lib.ListN.{length, take, drop}
+use borrow.Author.Needs.{needs}
 use Rattle.wage_places.specs.Places.{spots}
-use Rattle.wage_draft.specs.Fields.{fieldsOf}
+use Rattle.lent_fields.specs.Fields.{fieldsOf}
 use Rattle.wage_draft.specs.Draft.{drafted}
 use Rattle.wage_draft.proofs.Laws.{Left, draft-last, draft-past, draft-on, draft-stops}
 use Rattle.wage_draft.proofs.draft.Statement.{statement}

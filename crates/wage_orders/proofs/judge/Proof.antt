@@ -1,9 +1,9 @@
 -- `wage_orders::judge` meets its contract. Assumes nothing.
 use mathlib.Core.Path.{refl}
 use borrow.Author.Tests.{le-leb, lt-leb, eq-eqb, ne-eqb}
+use borrow.Author.Needs.{needs}
 use Rattle.text.proofs.Laws.{taken, left, entered}
 use Rattle.wage_orders.specs.Orders.{groupOrders}
-use borrow.Author.Needs.{needs}
 use Rattle.wage_orders.proofs.judge.Statement.{statement}
 use Rattle.wage_orders.proofs.judge.Tie as tie
 

@@ -1,10 +1,10 @@
 -- `wage_orders::judge_lines` meets its contract. The loop's invariant: the answer is that of the lines from `at` on, the line there being `n`.
 -- Assumes nothing.
-use Prim.Native.Nat.{_+_, _-_, _≤_}
 use mathlib.Core.Path.{_≡_, refl, sym, _∙_}
+use Prim.Native.Nat.{_+_, _-_, _≤_}
 use native.Mathlib.Omega.{arith}
-use borrow.Author.Needs.{needs}
 use lib.ListN.{length, drop}
+use borrow.Author.Needs.{needs}
 use Rattle.wage_line.specs.Pieces.{pieces}
 use Rattle.wage_line.proofs.PieceLaws.{piece-advances}
 use Rattle.wage_orders.specs.Orders.{ordersFrom}

@@ -1,6 +1,7 @@
 -- `wage_writer::draft_line` meets its contract: the blanks are dressed, and all places drafted. Assumes nothing.
-use Rattle.wage_writer.proofs.Laws.{bare, all-places}
 use borrow.Author.Needs.{needs}
+use Rattle.bare_line.proofs.Theorems.{bare}
+use Rattle.wage_writer.proofs.Laws.{all-places}
 use Rattle.wage_writer.proofs.draft_line.Statement.{statement}
 use Rattle.wage_writer.proofs.draft_line.Tie as tie
 

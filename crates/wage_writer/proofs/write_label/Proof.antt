@@ -1,9 +1,9 @@
 -- `wage_writer::write_label` meets its contract: the day, then the line. Assumes nothing.
 use mathlib.Core.Path.{sym, _∙_}
 use borrow.Author.Tests.{not-true, not-false}
-use Rattle.wage_writer.specs.Writer.{labelAnswer}
-use Rattle.wage_writer.proofs.Laws.{day-wrong, day-right}
 use borrow.Author.Needs.{needs}
+use Rattle.line_room.proofs.Laws.{day-wrong, day-right}
+use Rattle.wage_writer.specs.Writer.{labelAnswer}
 use Rattle.wage_writer.proofs.write_label.Statement.{statement}
 use Rattle.wage_writer.proofs.write_label.Tie as tie
 

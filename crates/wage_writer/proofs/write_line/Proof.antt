@@ -1,6 +1,6 @@
 -- `wage_writer::write_line` meets its contract: a refused draft leaves the room as it was, and another's line is put. Assumes nothing.
-use Rattle.wage_writer.proofs.Laws.{draft-refused, draft-written}
 use borrow.Author.Needs.{needs}
+use Rattle.wage_writer.proofs.Laws.{draft-refused, draft-written}
 use Rattle.wage_writer.proofs.write_line.Statement.{statement}
 use Rattle.wage_writer.proofs.write_line.Tie as tie
 

@@ -1,9 +1,9 @@
 -- `wage_writer::write_order` meets its contract: the day, the kind, then the line. Assumes nothing.
 use mathlib.Core.Path.{sym, _∙_}
 use borrow.Author.Tests.{not-true, not-false}
-use Rattle.wage_writer.specs.Writer.{orderAnswer}
-use Rattle.wage_writer.proofs.Laws.{day-wrong, day-right, kind-wrong, kind-right}
 use borrow.Author.Needs.{needs}
+use Rattle.line_room.proofs.Laws.{day-wrong, day-right, kind-wrong, kind-right}
+use Rattle.wage_writer.specs.Writer.{orderAnswer}
 use Rattle.wage_writer.proofs.write_order.Statement.{statement}
 use Rattle.wage_writer.proofs.write_order.Tie as tie
 

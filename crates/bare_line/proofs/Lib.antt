@@ -1,0 +1,2 @@
+-- What is promised of `bare_line`.
+pub mod Theorems

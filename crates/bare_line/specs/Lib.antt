@@ -1,0 +1,2 @@
+-- The definitions of the crate `bare_line`.
+pub mod Bare

@@ -1,0 +1,3 @@
+-- The laws of the judge's record, and what is promised of it.
+pub mod Laws
+pub mod Theorems

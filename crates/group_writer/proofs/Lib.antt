@@ -1,0 +1,3 @@
+-- What is promised of `group_writer`.
+pub mod Refusals
+pub mod Theorems

@@ -1,0 +1,2 @@
+-- The definitions of the crate `group_writer`.
+pub mod GroupWriter

@@ -1,0 +1,25 @@
+-- How fields are lent to a writer: one behind the other in one text, with the size of each. "Each field is the bytes of its positions".
+use mathlib.Core.Path.{_≡_}
+use mathlib.Core.List.{List, [], _∷_}
+use Prim.Native.Nat.{ℕ, _-_, _≤_}
+use lib.ListN.{length, take, drop}
+
+-- the fields: a size that runs past the text's end gives a shorter field
+unfoldable pub fieldsOf : List ℕ → List ℕ → List (List ℕ)
+fieldsOf [] text = []
+fieldsOf (n ∷ ns) text = take n text ∷ fieldsOf ns (drop n text)
+
+-- the text behind some fields
+unfoldable pub behind : List ℕ → List ℕ → List ℕ
+behind [] text = text
+behind (n ∷ ns) text = behind ns (drop n text)
+
+-- ---------------------------------------------------------------------------
+-- Claims
+
+-- where a field of a size ends that begins at a place: no later than the text
+pub record FieldEnd (text : List ℕ) (at size end : ℕ) : Type 0 where
+  pub begins : at ≤ end
+  pub within : end ≤ length text
+  pub field : take (end - at) (drop at text) ≡ take size (drop at text)
+  pub rest : drop end text ≡ drop size (drop at text)

@@ -1,0 +1,54 @@
+// The fields of a line, as they are lent to a writer: one behind the other in one text, with the size of each.
+//
+// Document 01, "The wage file", the writer: "Each field is the bytes of its positions".
+ghost use mathlib.Core.Path.{_≡_};
+ghost use Prim.Native.Nat.{_-_, _≤_};
+ghost use lib.ListN.{getD, take, drop, length};
+ghost use Rattle.lent_fields.specs.Fields.{behind, FieldEnd};
+
+// The size of a field; one that is not there is empty.
+pub fn size_at(sizes: &[usize], i: usize) -> usize
+    ensures { λ r. ⌜ r ≡ getD (now (sizes .entry)) i 0 ⌝ }
+{
+    if i < sizes.len() {
+        return sizes[i];
+    }
+    0
+}
+
+// Where a field of a size ends that begins at a place: no later than the text.
+pub fn end_of(text: &[u8], at: usize, size: usize) -> usize
+    requires { ⌜ at ≤ length (now text) ⌝ }
+    ensures { λ r. ⌜ FieldEnd (now (text .entry)) at size r ⌝ }
+{
+    if text.len() - at < size {
+        return text.len();
+    }
+    at + size
+}
+
+// The text behind the first fields.
+pub fn text_behind<'a>(text: &'a [u8], sizes: &[usize], fields: usize) -> &'a [u8]
+    ensures { λ r. ⌜ now r ≡ behind (take fields (now (sizes .entry))) (now (text .entry)) ⌝ }
+{
+    let mut at = 0;
+    let mut i = 0;
+    while i < sizes.len() {
+        if fields <= i {
+            return &text[at..];
+        }
+        at = end_of(text, at, sizes[i]);
+        i += 1;
+    }
+    &text[at..]
+}
+
+// The sizes behind the first four.
+pub fn sizes_behind(sizes: &[usize]) -> &[usize]
+    ensures { λ r. ⌜ now r ≡ drop 4 (now (sizes .entry)) ⌝ }
+{
+    if sizes.len() < 4 {
+        return &sizes[..0];
+    }
+    &sizes[4..]
+}

@@ -1,0 +1,2 @@
+-- The definitions of the crate `line_room`.
+pub mod LineRoom

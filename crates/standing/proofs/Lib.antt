@@ -1,0 +1,2 @@
+-- What is promised of `standing`.
+pub mod Theorems

@@ -1,0 +1,46 @@
+-- What is promised of what a 301 works out: a sum of at most twenty digits, and one answer. Assumes nothing.
+use mathlib.Core.Path.{_≡_}
+use mathlib.Core.List.{List, [], _∷_, _++_}
+use Prim.Native.Nat.{ℕ, _*_, _/_, _%_, _≤_, _<_}
+use native.Mathlib.Omega.{arith}
+use lib.ListN.{length, take, length-take}
+use Rattle.refusal.specs.Only.{Only, defined-only}
+use Rattle.text.specs.Digits.{digitsText}
+use Rattle.sums.specs.declared.Sum.{Sum}
+use Rattle.sums.specs.Sums.{sumOf, numberIn}
+use Rattle.sums.proofs.Theorems.{text-small}
+use Rattle.wage_places.specs.declared.LineType.the-variants.{Order}
+use Rattle.wage_places.specs.Places.{partOf, spots, spotIn}
+use Rattle.wage_line.specs.Pieces.{pieces}
+use Rattle.wage_line.proofs.PieceLaws.{whole-pieces}
+use Rattle.wage_file.specs.Right.{amounts}
+
+-- ---------------------------------------------------------------------------
+-- The sum of at most 99,999 orders, whatever their bytes are
+
+-- fifteen bytes write less than 10^15
+amount-small : (s : List ℕ) → numberIn (partOf Order 10 s) < 1000000000000000
+unfolding spots spotIn
+amount-small s = text-small 15 (take 18 (partOf Order 10 s)) (simp length-take (omega arith))
+
+amounts-at-most : (ss : List (List ℕ)) → amounts ss ≤ length ss * 1000000000000000
+unfolding amounts
+amounts-at-most [] = omega arith
+amounts-at-most (s ∷ ss) = omega (arith, amount-small s, amounts-at-most ss)
+
+-- twenty digits write it
+pub amounts-small : (s : List ℕ) → length s / 1002 ≤ 99999 → length s % 1002 ≡ 0 → amounts (pieces s) < 100000000000000000000
+amounts-small s h e = omega (arith, amounts-at-most (pieces s), whole-pieces s e .0)
+
+-- ---------------------------------------------------------------------------
+-- Any two answers that a contract allows are equal
+
+module _ (s : List ℕ) where
+  pub number-only : Only (λ (r : ℕ). r ≡ length s / 1002)
+  number-only = defined-only (length s / 1002)
+
+  pub total-only : Only (λ (r : Sum). r ≡ sumOf 100 (amounts (pieces s)))
+  total-only = defined-only (sumOf 100 (amounts (pieces s)))
+
+  pub put-worked-only : Only (λ (digits : List ℕ). digits ≡ digitsText 5 (length s / 1002) ++ digitsText 20 (amounts (pieces s)))
+  put-worked-only = defined-only (digitsText 5 (length s / 1002) ++ digitsText 20 (amounts (pieces s)))
