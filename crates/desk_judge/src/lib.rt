@@ -10,8 +10,8 @@ ghost use Rattle.wage_file.specs.File.{fileAnswer};
 ghost use Rattle.desk_record.specs.Record.{judgeOf, recordOf};
 ghost use Rattle.desk_judge.specs.Wages.{endedOf, placePart};
 use boundary::Told;
-use desk_record::Record;
 use condition::Ending;
+use desk_record::Record;
 use text::Part;
 use wage_line::Typed;
 

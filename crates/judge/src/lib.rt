@@ -8,8 +8,8 @@ ghost use Rattle.condition.specs.Record.{isSound};
 ghost use Rattle.judge.specs.Judge.{typeStep, stepped};
 use condition::Judge;
 use refusal::Answer;
-use wage_places::LineType;
 use wage_line::Typed;
+use wage_places::LineType;
 
 // ---------------------------------------------------------------------------
 // A step

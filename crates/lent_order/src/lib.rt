@@ -8,8 +8,8 @@ ghost use Rattle.lent_order.specs.Order.{answerIn, noOrder, orderAnswer}
 use refusal::Answer;
 use refusal::Place;
 use refusal::Refusal;
-use wage_places::LineType;
 use wage_line::Typed;
+use wage_places::LineType;
 
 // A line that is no order: 10.
 fn no_order(n: usize) -> Answer

@@ -85,7 +85,10 @@ fn opening(s: &[u8]) -> Open
 {
     Open {
         declared: number_at(LineType::Group, 5, s),
-        promised: sums::written(wage_places::part(wage_places::find(LineType::Group, 6), s), 100),
+        promised: sums::written(
+            wage_places::part(wage_places::find(LineType::Group, 6), s),
+            100,
+        ),
         counted: 0,
         total: sums::nothing(),
     }
