@@ -2,7 +2,7 @@
 use mathlib.Core.Path.{_≡_, refl, ap}
 use mathlib.Core.List.{List}
 use Prim.Native.Nat.{ℕ}
-use lib.ListN.{length, take, drop}
+use lib.ListN.{take, drop}
 use Rattle.refusal.specs.declared.Answer.the-variants.{Refused}
 use Rattle.text.specs.declared.Part.{Part}
 use Rattle.wage_line.specs.declared.Typed.{Typed}

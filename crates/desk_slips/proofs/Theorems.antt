@@ -2,7 +2,7 @@
 use mathlib.Core.Path.{_≡_, sym, _∙_}
 use mathlib.Core.List.{List}
 use Prim.Native.Nat.{ℕ}
-use lib.ListN.{length, take, drop}
+use lib.ListN.{take, drop}
 use Rattle.text.specs.declared.Part.{Part}
 use Rattle.slip_handed.specs.Handed.{fieldPart, fieldOf}
 use Rattle.slip_handed.proofs.Laws.{field-stands}

@@ -3,7 +3,6 @@ use native.Mathlib.Omega.{arith}
 use borrow.Author.Tests.{eq-eqb, ne-eqb}
 use borrow.Author.Needs.{needs}
 use Rattle.condition.proofs.Laws.{sound-within}
-use Rattle.standing.specs.Standing.{after}
 use Rattle.judge.specs.Judge.{typeStep}
 use Rattle.judge.proofs.type_step.Statement.{statement}
 use Rattle.judge.proofs.type_step.Tie as tie

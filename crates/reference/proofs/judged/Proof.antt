@@ -7,7 +7,6 @@ use borrow.Author.Tests.{lt-leb, le-leb, not-true, not-false}
 use Rattle.refusal.proofs.Verdicts.{refused, passed, failed, met}
 use Rattle.text.proofs.Laws.{taken, left}
 use Rattle.parts.proofs.Laws.{found-none}
-use Rattle.groups.proofs.Stretches.{obeys-at}
 use Rattle.reference.proofs.Laws.{found-bare, found-long, found-judged, unformed-judged}
 use Rattle.reference.proofs.judged.Statement.{statement}
 use Rattle.reference.proofs.judged.Tie as tie

@@ -7,7 +7,6 @@ use borrow.Author.Needs.{needs}
 use Rattle.text.proofs.Laws.{and-first}
 use Rattle.parts.proofs.Pieces.{Bytes, formed-short}
 use Rattle.parts.proofs.Laws.{found-none, found-formed}
-use Rattle.groups.proofs.Stretches.{obeys-at}
 use Rattle.reference.proofs.Laws.{found-obeys}
 use Rattle.reference.proofs.obeys.Statement.{statement}
 use Rattle.reference.proofs.obeys.Tie as tie

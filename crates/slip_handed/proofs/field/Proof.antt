@@ -1,7 +1,6 @@
 -- `slip::field` meets its contract: the bytes of the field's part. Assumes nothing.
 use mathlib.Core.Path.{_∙_}
 use borrow.Author.Needs.{needs}
-use Rattle.slip.proofs.Laws.{part}
 use Rattle.slip_handed.proofs.Laws.{field-stands}
 use Rattle.slip_handed.proofs.field.Statement.{statement}
 use Rattle.slip_handed.proofs.field.Tie as tie
