@@ -224,12 +224,12 @@ fn list_in(line: &[u8], room: usize, out: &mut [u16]) {
     let d = find(line, 32);
     if room <= out.len() {
         if d == line.len() {
-            let r = fillings::list_iban(line, &mut out[..room]);
+            let r = wet::list_iban(line, &mut out[..room]);
             listed(r, text::count(63, line), out);
             return;
         }
         let tail = beyond(line, d);
-        let r = fillings::list_reference(front(line, d), tail, &mut out[..room]);
+        let r = wet::list_reference(front(line, d), tail, &mut out[..room]);
         listed(r, text::count(63, tail), out);
     }
 }

@@ -6,9 +6,9 @@ ghost use mathlib.Core.Path.{_≡_};
 ghost use lib.ListN.{length};
 ghost use Rattle.account.specs.Answers.{isIban};
 ghost use Rattle.fillings.specs.Fillings.{fillings};
-ghost use Rattle.fillings.specs.Wet.{ibanListing, referenceListing, referenceFillings};
-ghost use Rattle.fillings.specs.Answers as fillings;
-ghost use Rattle.fillings.specs.Answers.{filledAnswer, filledBy};
+ghost use Rattle.wet.specs.Wet.{ibanListing, referenceListing, referenceFillings};
+ghost use Rattle.fillings.specs.Answers.{leftBy};
+ghost use Rattle.filling.specs.Filling.{filledAnswer, filledBy};
 ghost use Rattle.boundary.specs.Told.{toldOf};
 ghost use Rattle.desk_wet.specs.Listed.{listedOf};
 use boundary::Told;
@@ -28,17 +28,17 @@ fn tell_listed(l: Listed) -> Valued
 // Lists the fillings of an IBAN; the value is their count.
 #[no_mangle]
 pub extern "C" fn lanecockle_list_iban(text: &[u8], out: &mut [u16]) -> Valued
-    ensures { λ r. ⌜ (r ≡ listedOf (ibanListing (now (text .entry)) (length (now (out .entry))))) × (now (out .exit) ≡ fillings.leftBy (ibanListing (now (text .entry)) (length (now (out .entry)))) (fillings isIban (now (text .entry))) (now (out .entry))) ⌝ }
+    ensures { λ r. ⌜ (r ≡ listedOf (ibanListing (now (text .entry)) (length (now (out .entry))))) × (now (out .exit) ≡ leftBy (ibanListing (now (text .entry)) (length (now (out .entry)))) (fillings isIban (now (text .entry))) (now (out .entry))) ⌝ }
 {
-    tell_listed(fillings::list_iban(text, out))
+    tell_listed(wet::list_iban(text, out))
 }
 
 // Lists the fillings of a reference under its model; the value is their count.
 #[no_mangle]
 pub extern "C" fn lanecockle_list_reference(model: &[u8], text: &[u8], out: &mut [u16]) -> Valued
-    ensures { λ r. ⌜ (r ≡ listedOf (referenceListing (now (model .entry)) (now (text .entry)) (length (now (out .entry))))) × (now (out .exit) ≡ fillings.leftBy (referenceListing (now (model .entry)) (now (text .entry)) (length (now (out .entry)))) (referenceFillings (now (model .entry)) (now (text .entry))) (now (out .entry))) ⌝ }
+    ensures { λ r. ⌜ (r ≡ listedOf (referenceListing (now (model .entry)) (now (text .entry)) (length (now (out .entry))))) × (now (out .exit) ≡ leftBy (referenceListing (now (model .entry)) (now (text .entry)) (length (now (out .entry)))) (referenceFillings (now (model .entry)) (now (text .entry))) (now (out .entry))) ⌝ }
 {
-    tell_listed(fillings::list_reference(model, text, out))
+    tell_listed(wet::list_reference(model, text, out))
 }
 
 // Writes the text filled by a number at the front of `out`.
@@ -46,5 +46,5 @@ pub extern "C" fn lanecockle_list_reference(model: &[u8], text: &[u8], out: &mut
 pub extern "C" fn lanecockle_filled(text: &[u8], number: u16, out: &mut [u8]) -> Told
     ensures { λ r. ⌜ (r ≡ toldOf (filledAnswer (now (text .entry)) (length (now (out .entry))))) × (now (out .exit) ≡ filledBy (filledAnswer (now (text .entry)) (length (now (out .entry)))) (now (text .entry)) number (now (out .entry))) ⌝ }
 {
-    boundary::tell(fillings::filled(text, number, out))
+    boundary::tell(filling::filled(text, number, out))
 }

@@ -1,30 +1,35 @@
 -- Laws of the listing, over any rule: of ranges of numbers, of the first mark, of the ten digits at it, and of runs of stores.
 -- Assumes nothing.
-use mathlib.Core.Path.{_≡_, refl, sym, ap}
+use mathlib.Core.Path.{_≡_, refl, sym, ap, _∙_}
 use mathlib.Core.Bool.{Bool, true, false, cond, not}
 use mathlib.Core.List.{List, [], _∷_, _++_}
 use Prim.Native.Nat.{ℕ, zero, suc, _+_, _-_, _*_, _/_, _%_, _^_, _≤_, _<_}
 use native.Mathlib.Numerals.{add-one}
 use native.Mathlib.Omega.{arith}
-use native.Mathlib.Nat.{zero-add, add-zero, suc-add, mul-one, suc-mul, add-mul, mul-assoc, one-mul, zero-mul, pow-suc, pow-succ', one-le-pow, mul-le-mul-right, le-mul-of-pos-right, pow-le-pow-right, div-one, div-div-eq-div-mul, div-eq-of-lt-le}
+use native.Mathlib.Nat.{zero-add, add-zero, suc-add, mul-one, suc-mul, add-mul, mul-assoc, one-mul, zero-mul, pow-succ', one-le-pow, mul-le-mul-right, le-mul-of-pos-right, pow-le-pow-right, div-eq-of-lt-le}
 use lib.Dec.{eqb}
-use lib.ListN.{length, getD, take, drop, set, length-take, take-append-drop}
-use lib.Seq.{take-suc, take-suc-set, append-snoc, set-at, length-take-le, drop-length, drop-cons, take-set-lt}
-use borrow.Author.Tests.{eqb-true, ne-eqb, lt-ltb, le-ltb}
+use lib.ListN.{length, getD, take, drop, set, length-take}
+use lib.Seq.{take-suc, take-suc-set, take-set-lt}
+use borrow.Author.Tests.{eqb-true, ne-eqb, lt-ltb, le-ltb, le-leb}
 use Rattle.refusal.specs.declared.Place.{Place}
 use Rattle.refusal.specs.declared.Refusal.the-variants.{Room}
-use Rattle.refusal.specs.declared.Answer.{Answer}
 use Rattle.refusal.specs.Refusal.{none}
 use Rattle.text.specs.declared.Class.the-variants.{Dry}
 use Rattle.text.specs.declared.Found.{Found}
 use Rattle.text.specs.declared.Found.the-variants.{At, Nothing}
 use Rattle.text.specs.Bytes.{later, firstBad, countOf, marks}
-use Rattle.fillings.specs.declared.Listed.the-variants.{Count, Refused}
-use Rattle.fillings.specs.Fillings.{fill, among, fillings}
-use Rattle.fillings.specs.Answers.{roomAnswer, filledAnswer}
 use Rattle.text.specs.Stands.{Stands}
+use Rattle.text.proofs.Laws.{left}
 use Rattle.text.proofs.Stands.{stands-none, stands-append, front-stands}
+use Rattle.filling.specs.Filling.{fill}
+use Rattle.filling.proofs.Theorems.{fill-dry}
+use Rattle.fillings.specs.declared.Aim.{Aim}
+use Rattle.fillings.specs.declared.Listed.{Listed}
+use Rattle.fillings.specs.declared.Listed.the-variants.{Count, Refused}
+use Rattle.fillings.specs.Fillings.{among, fillings}
+use Rattle.fillings.specs.Answers.{roomAnswer, leftBy, listing}
 use Rattle.fillings.specs.ByMark.{between, block}
+use Rattle.fillings.specs.Accepts.{accepts}
 
 -- ---------------------------------------------------------------------------
 -- The accepted numbers of a range
@@ -122,16 +127,6 @@ no-mark (b ∷ s) e = go (eqb b 63) (no-mark s) e
     go : (t : Bool) → (firstBad Dry s ≡ Nothing → marks s ≡ 0) → cond (not t) (later (firstBad Dry s)) (At 0) ≡ Nothing → cond t (suc (marks s)) (marks s) ≡ 0
     go true ih e = let z : _≡_ {A = ℕ} 0 1 = cc in absurd (omega arith)
     go false ih e = ih (past (firstBad Dry s) refl e)
-
--- a text with no mark stays as it is
-pub fill-dry : (s : List ℕ) (k : ℕ) → marks s ≡ 0 → fill s k ≡ s
-unfolding fill countOf
-fill-dry [] k e = refl
-fill-dry (b ∷ s) k e = go (eqb b 63) (fill-dry s k) e
-  where
-    go : (t : Bool) → (marks s ≡ 0 → fill s k ≡ s) → cond t (suc (marks s)) (marks s) ≡ 0 → cond t (48 + (k / 10 ^ marks s) % 10) b ∷ fill s k ≡ b ∷ s
-    go true ih e = absurd (omega arith)
-    go false ih e = rw (ih e)
 
 -- ---------------------------------------------------------------------------
 -- The ten digits at the first mark
@@ -282,57 +277,26 @@ pub room-counted :
 room-counted xs b after n m e w h = let z : n ≡ length xs = omega arith in (rw (le-ltb (length b) (length xs) h, z), front-stands b after xs m w h)
 
 -- ---------------------------------------------------------------------------
--- A filled text, written from the last byte to the first
+-- What the listing answers of a text that it takes
 
--- the bytes from i on are written, and k has the digits that are still to come
-pub record WrittenFrom (s b : List ℕ) (number i k : ℕ) (after : List ℕ) : Type 0 where
-  pub digits : k ≡ number / 10 ^ marks (drop i s)
-  pub content : after ≡ take i b ++ (fill (drop i s) number ++ drop (length s) b)
+-- "A form that no filling can mend is a count of 0"
+pub none-accepted : (s : List ℕ) (aim : Aim) → aim .mendable ≡ false → fillings (accepts aim) s ≡ []
+unfolding accepts fillings
+none-accepted s aim m = among-none (λ (k : ℕ). accepts aim (fill s k)) 0 (10 ^ marks s) (λ k. rw m)
 
--- a store in front of what is written
-store-before : (b rest : List ℕ) (j v : ℕ) → j < length b → set (take (suc j) b ++ rest) j v ≡ take j b ++ v ∷ rest
-store-before b rest j v h = rw (take-suc b j 0 h, append-snoc) (set-at (take j b) (getD b j 0) rest v j (length-take-le j b (omega arith)))
+-- what a listing over the rule p answers and leaves
+abbrev pub ListedBy : (List ℕ → Bool) → List ℕ → List ℕ → Listed → List ℕ → Type 0
+ListedBy p s out r o = (r ≡ listing p s (length out)) × (o ≡ leftBy r (fillings p s) out)
 
--- at the end nothing is written
-pub from-end : (s b : List ℕ) (number : ℕ) → WrittenFrom s b number (length s) number b
-unfolding fill countOf
-from-end s b number =
-    record {
-      digits = rw (drop-length, div-one);
-      content = rw drop-length (sym (take-append-drop (length s) b));
-    }
+module _ (s : List ℕ) (h : length s ≤ 22) (g : marks s ≤ 4) where
+  -- neither 1 nor 16
+  pub taken-on : (p : List ℕ → Bool) (room : ℕ) → listing p s room ≡ roomAnswer (fillings p s) room
+  taken-on p room = rw (le-leb (length s) 22 h, le-leb (marks s) 4 g)
 
-module _ (s b : List ℕ) (number i j k : ℕ) (after : List ℕ) (e : i ≡ suc j) (h : i ≤ length s) (g : length s ≤ length b) (w : WrittenFrom s b number i k after) where
-  -- one byte before it: a mark gets the next digit
-  pub from-mark : getD s j 0 ≡ 63 → WrittenFrom s b number j (k / 10) (set after j (48 + k % 10))
-  unfolding fill countOf
-  from-mark m =
-      let l : j < length s = omega arith in
-      let v : WrittenFrom s b number (suc j) k after = rw e at w in
-      record {
-        digits = rw (drop-cons s j 0 l, m, v .digits, pow-suc) (div-div-eq-div-mul number (10 ^ marks (drop (suc j) s)) 10);
-        content = rw (drop-cons s j 0 l, m, v .content, v .digits) (store-before b (fill (drop (suc j) s) number ++ drop (length s) b) j _ (omega arith));
-      }
+  -- so the count and the room are left
+  pub all-listed : (p : List ℕ → Bool) (out : List ℕ) (r : Listed) (o : List ℕ) → (r ≡ roomAnswer (fillings p s) (length out)) × (o ≡ leftBy r (fillings p s) out) → ListedBy p s out r o
+  all-listed p out r o v = (v .0 ∙ sym (taken-on p (length out)), v .1)
 
-  -- any other byte stays
-  pub from-byte : (getD s j 0 ≡ 63 → ⊥) → WrittenFrom s b number j k (set after j (getD s j 0))
-  unfolding fill countOf
-  from-byte m =
-      let l : j < length s = omega arith in
-      let v : WrittenFrom s b number (suc j) k after = rw e at w in
-      record {
-        digits = rw (drop-cons s j 0 l, ne-eqb (getD s j 0) 63 m) (v .digits);
-        content = rw (drop-cons s j 0 l, ne-eqb (getD s j 0) 63 m, v .content) (store-before b (fill (drop (suc j) s) number ++ drop (length s) b) j _ (omega arith));
-      }
-
--- at the front all is written
-pub from-front : (s b : List ℕ) (number i k : ℕ) (after : List ℕ) → i ≡ 0 → WrittenFrom s b number i k after → after ≡ fill s number ++ drop (length s) b
-from-front s b number i k after e w = (rw e at w) .content
-
--- too little room: refused
-pub short-refused : (s : List ℕ) (room : ℕ) (place : Place) → room < length s → place ≡ none → Answer.Refused (Room place (length s)) ≡ filledAnswer s room
-short-refused s room place h g = rw (lt-ltb room (length s) h, g)
-
--- room enough: accepted
-pub enough-accepted : (s : List ℕ) (room : ℕ) → length s ≤ room → Answer.Accepted ≡ filledAnswer s room
-enough-accepted s room h = rw (le-ltb room (length s) h)
+  -- nothing is listed
+  pub none-listed : (out : List ℕ) (aim : Aim) → aim .mendable ≡ false → ListedBy (accepts aim) s out (Count 0) out
+  none-listed out aim m = all-listed (accepts aim) out (Count 0) out (rw (none-accepted s aim m) (left _ _ _ _ (le-ltb (length out) 0 (omega arith)) refl, refl))

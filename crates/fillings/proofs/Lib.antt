@@ -1,4 +1,3 @@
 -- What the proofs here share, and what is proved of every listing.
 pub mod Laws
 pub mod Theorems
-pub mod Accepts

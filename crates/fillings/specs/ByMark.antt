@@ -1,9 +1,10 @@
 -- The listing mark by mark: the fillings that stand in one part of the numbers.
-use Prim.Native.Nat.{ℕ, _*_, _^_}
 use mathlib.Core.Bool.{Bool}
 use mathlib.Core.List.{List}
+use Prim.Native.Nat.{ℕ, _*_, _^_}
 use Rattle.text.specs.Bytes.{marks}
-use Rattle.fillings.specs.Fillings.{fill, among}
+use Rattle.filling.specs.Filling.{fill}
+use Rattle.fillings.specs.Fillings.{among}
 
 -- of the n fillings of s from the number a on, those that p accepts
 unfoldable pub between : (List ℕ → Bool) → List ℕ → ℕ → ℕ → List ℕ

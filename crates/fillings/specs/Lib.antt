@@ -4,4 +4,3 @@ pub mod ByMark
 pub mod Accepts
 pub mod Answers
 pub mod Listing
-pub mod Wet

@@ -1,4 +1,4 @@
-// Wet slips: every filling of a text's unreadable digits that the rules accept.
+// Wet slips: every filling of a text's unreadable digits that a rule accepts (document 01, "Wet slips").
 //
 // The listing is stated once, over any rule (specs/Fillings.antt): a changed rule moves `accepted` and nothing else
 // here. As document 01 asks, the listing calls itself for each digit at the first open mark.
@@ -8,17 +8,12 @@ ghost use mathlib.Core.List.{[], _∷_};
 ghost use Prim.Native.Nat.{suc, _*_, _^_, _≤_, _<_};
 ghost use lib.ListN.{length, take};
 ghost use Rattle.text.specs.Bytes.{marks};
-ghost use Rattle.fillings.specs.Fillings.{fill, fillings};
-ghost use Rattle.fillings.specs.Wet.{wetIban, ibanListing, modelListing, numberListing, numberFillings, referenceListing, referenceFillings};
-ghost use Rattle.account.specs.Answers.{isIban};
-ghost use Rattle.reference.specs.Answers.{obeys};
-ghost use Rattle.parts.specs.Ends.{partsFound};
+ghost use Rattle.fillings.specs.Fillings.{fillings};
 ghost use Rattle.text.specs.Stands.{Stands};
 ghost use Rattle.fillings.specs.ByMark.{block};
-ghost use Rattle.fillings.specs.Accepts.{accepts, aimFrom};
-ghost use Rattle.fillings.specs.Answers.{roomAnswer, leftBy, filledAnswer, filledBy};
+ghost use Rattle.fillings.specs.Accepts.{accepts};
+ghost use Rattle.fillings.specs.Answers.{listing, leftBy};
 use models::Model;
-use refusal::Answer;
 use refusal::Refusal;
 use text::Class;
 use text::Found;
@@ -112,19 +107,24 @@ fn list(
     next
 }
 
-// Lists the fillings of a text of at most 22 bytes and four marks: the room is judged here alone, and a form that no filling can
-// mend is a count of 0 here alone. Ten thousand are all that there can be; where `out` has room for fewer they are counted first, so
-// that a refusal leaves it as it was.
-fn list_into(aim: Aim, s: &[u8], out: &mut [u16]) -> Listed
-    requires { ⌜ (length (now s) ≤ 22) × (marks (now s) ≤ 4) ⌝ }
-    ensures { λ r. ⌜ (r ≡ roomAnswer (fillings (accepts aim) (now (s .entry))) (length (now (out .entry)))) × (now (out .exit) ≡ leftBy r (fillings (accepts aim) (now (s .entry))) (now (out .entry))) ⌝ }
+// Lists the fillings of a text: the room is judged here alone, and a form that no filling can mend is a count of 0 here
+// alone. Four marks have ten thousand at most; where `out` has room for fewer they are counted first, so that a refusal
+// leaves it as it was. Refusals: 1 (above 22 bytes), 16, 15; W13's 26 will be asked behind 16.
+pub fn list_into(aim: Aim, s: &[u8], out: &mut [u16]) -> Listed
+    ensures { λ r. ⌜ (r ≡ listing (accepts aim) (now (s .entry)) (length (now (out .entry)))) × (now (out .exit) ≡ leftBy r (fillings (accepts aim) (now (s .entry))) (now (out .entry))) ⌝ }
 {
+    let n = s.len();
+    if 22 < n {
+        return Listed::Refused(Refusal::Size(refusal::nowhere()));
+    }
+    let left = text::count(63, s);
+    if 4 < left {
+        return Listed::Refused(Refusal::Marks(refusal::nowhere()));
+    }
     if !aim.mendable {
         return Listed::Count(0);
     }
     let t = held(s);
-    let n = s.len();
-    let left = text::count(63, s);
     if 10000 <= out.len() {
         return Listed::Count(list(aim, t, n, left, 0, out, 0));
     }
@@ -135,134 +135,4 @@ fn list_into(aim: Aim, s: &[u8], out: &mut [u16]) -> Listed
     }
     list(aim, t, n, left, 0, out, 0);
     Listed::Count(count)
-}
-
-// Writes the filling of a text by a number at the front of `out`; the bytes beyond it stay as they were.
-pub fn filled(s: &[u8], number: u16, out: &mut [u8]) -> Answer
-    ensures { λ r. ⌜ (r ≡ filledAnswer (now (s .entry)) (length (now (out .entry)))) × (now (out .exit) ≡ filledBy r (now (s .entry)) number (now (out .entry))) ⌝ }
-{
-    let n = s.len();
-    if n > out.len() {
-        return Answer::Refused(Refusal::Room(refusal::nowhere(), n));
-    }
-    let mut k = number;
-    let mut i = n;
-    while i > 0 {
-        i -= 1;
-        if s[i] == 63 {
-            out[i] = 48 + (k % 10) as u8;
-            k /= 10;
-        } else {
-            out[i] = s[i];
-        }
-    }
-    Answer::Accepted
-}
-
-// ---------------------------------------------------------------------------
-// The listings of IBANs and of references
-
-// Whether a text is `HR` and then digits or `?`.
-fn is_wet_iban(s: &[u8]) -> bool
-    ensures { λ r. ⌜ r ≡ wetIban (now (s .entry)) ⌝ }
-{
-    if s.len() < 2 {
-        return false;
-    }
-    if s[0] != 72 {
-        return false;
-    }
-    if s[1] != 82 {
-        return false;
-    }
-    text::all_of(Class::WetAccount, &s[2..])
-}
-
-// The fillings of an IBAN that the rules accept, ascending, at the front of `out`. Refusals: 1, 3, 16, 15.
-pub fn list_iban(s: &[u8], out: &mut [u16]) -> Listed
-    ensures { λ r. ⌜ (r ≡ ibanListing (now (s .entry)) (length (now (out .entry)))) × (now (out .exit) ≡ leftBy r (fillings isIban (now (s .entry))) (now (out .entry))) ⌝ }
-{
-    if s.len() != 21 {
-        return Listed::Refused(Refusal::Size(refusal::nowhere()));
-    }
-    if !is_wet_iban(s) {
-        return Listed::Refused(Refusal::Byte(refusal::nowhere()));
-    }
-    if 4 < text::count(63, s) {
-        return Listed::Refused(Refusal::Marks(refusal::nowhere()));
-    }
-    let model = models::rules(0);
-    list_into(
-        Aim {
-            iban: true,
-            mendable: true,
-            model,
-            ends: 0,
-        },
-        s,
-        out,
-    )
-}
-
-// What is listed of a text under a model: the fillings have their parts where the first one, by 0, has them.
-fn aimed(model: Model, s: &[u8]) -> Aim
-    requires { ⌜ length (now s) ≤ 22 ⌝ }
-    ensures { λ r. ⌜ r ≡ aimFrom model (partsFound model (fill (now (s .entry)) 0)) ⌝ }
-{
-    let n = s.len();
-    let mut t = [0u8; 22];
-    filled(s, 0, &mut t);
-    match parts::parts(model, &t[..n]) {
-        Found::At(ends) => Aim {
-            iban: false,
-            mendable: true,
-            model,
-            ends,
-        },
-        Found::Nothing => Aim {
-            iban: false,
-            mendable: false,
-            model,
-            ends: 0,
-        },
-    }
-}
-
-// The listing under a model: 7, then 15.
-fn list_model(model: Model, s: &[u8], out: &mut [u16]) -> Listed
-    requires { ⌜ (length (now s) ≤ 22) × (marks (now s) ≤ 4) ⌝ }
-    ensures { λ r. ⌜ (r ≡ modelListing model (now (s .entry)) (length (now (out .entry)))) × (now (out .exit) ≡ leftBy r (fillings (obeys model) (now (s .entry))) (now (out .entry))) ⌝ }
-{
-    let handled = model.handled;
-    if !handled {
-        return Listed::Refused(Refusal::Model(refusal::nowhere()));
-    }
-    list_into(aimed(model, s), s, out)
-}
-
-// The listing under a model's number: 5, then what the model says.
-fn list_numbered(number: Found, s: &[u8], out: &mut [u16]) -> Listed
-    requires { ⌜ (length (now s) ≤ 22) × (marks (now s) ≤ 4) ⌝ }
-    ensures { λ r. ⌜ (r ≡ numberListing number (now (s .entry)) (length (now (out .entry)))) × (now (out .exit) ≡ leftBy r (numberFillings number (now (s .entry))) (now (out .entry))) ⌝ }
-{
-    match number {
-        Found::At(n) => list_model(models::rules(n), s, out),
-        Found::Nothing => Listed::Refused(Refusal::Form(refusal::nowhere())),
-    }
-}
-
-// The fillings of a reference that its model accepts, ascending, at the front of `out`. Refusals: 1, 3, 16, 5, 7, 15.
-pub fn list_reference(model: &[u8], s: &[u8], out: &mut [u16]) -> Listed
-    ensures { λ r. ⌜ (r ≡ referenceListing (now (model .entry)) (now (s .entry)) (length (now (out .entry)))) × (now (out .exit) ≡ leftBy r (referenceFillings (now (model .entry)) (now (s .entry))) (now (out .entry))) ⌝ }
-{
-    if 22 < s.len() {
-        return Listed::Refused(Refusal::Size(refusal::nowhere()));
-    }
-    if !text::all_of(Class::WetReference, s) {
-        return Listed::Refused(Refusal::Byte(refusal::nowhere()));
-    }
-    if 4 < text::count(63, s) {
-        return Listed::Refused(Refusal::Marks(refusal::nowhere()));
-    }
-    list_numbered(model_text::number(model), s, out)
 }

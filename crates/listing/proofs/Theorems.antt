@@ -11,7 +11,7 @@ use lib.ListN.{length, take, length-take}
 use lib.Seq.{take-all}
 use borrow.Author.Tests.{ne-eqb, leb-true, leb-false, lt-leb}
 use Rattle.model_text.specs.Texts.{modelNumber}
-use Rattle.fillings.specs.Wet.{ibanListing, referenceListing}
+use Rattle.wet.specs.Wet.{ibanListing, referenceListing}
 
 -- a test decided, one way or the other
 cases : {P : Type 0} (b : Bool) → (b ≡ true → P) → (b ≡ false → P) → P

@@ -65,12 +65,12 @@ fn respond(seen: Seen, head: &[u8], tail: &[u8]) {
     let mut out = [0u16; 10000];
     if seen.spaced {
         let text = front(tail, t);
-        let r = fillings::list_reference(front(head, h), text, &mut out);
+        let r = wet::list_reference(front(head, h), text, &mut out);
         write_listed(r, text, &out);
         return;
     }
     let text = front(head, h);
-    let r = fillings::list_iban(text, &mut out);
+    let r = wet::list_iban(text, &mut out);
     write_listed(r, text, &out);
 }
 
@@ -105,7 +105,7 @@ fn write_texts(n: usize, text: &[u8], out: &[u16]) {
 fn write_text(text: &[u8], number: u16) {
     let mut t = [10u8; 23];
     if text.len() < 23 {
-        fillings::filled(text, number, &mut t);
+        filling::filled(text, number, &mut t);
         let n = text.len() + 1;
         say(&t[..n]);
     }

@@ -1,7 +1,7 @@
 -- `desk_wet::lanecockle_filled` meets its contract: what the call answers is told, and what it leaves is left. Assumes nothing.
 use borrow.Author.Needs.{needs}
 use Rattle.refusal.specs.declared.Answer.{Answer}
-use Rattle.fillings.specs.Answers.{filledBy}
+use Rattle.filling.specs.Filling.{filledBy}
 use Rattle.boundary.specs.Told.{toldOf}
 use Rattle.boundary.proofs.Laws.{told-and-left}
 use Rattle.desk_wet.proofs.lanecockle_filled.Statement.{statement}

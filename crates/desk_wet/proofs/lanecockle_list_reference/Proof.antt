@@ -2,7 +2,7 @@
 use borrow.Author.Needs.{needs}
 use Rattle.fillings.specs.declared.Listed.{Listed}
 use Rattle.fillings.specs.Answers.{leftBy}
-use Rattle.fillings.specs.Wet.{referenceFillings}
+use Rattle.wet.specs.Wet.{referenceFillings}
 use Rattle.boundary.proofs.Laws.{told-and-left}
 use Rattle.desk_wet.specs.Listed.{listedOf}
 use Rattle.desk_wet.proofs.lanecockle_list_reference.Statement.{statement}

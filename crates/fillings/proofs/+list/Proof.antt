@@ -1,23 +1,22 @@
 -- `fillings::list` meets its contract. The measure is the number of marks left. The loop's invariant: the fillings with a digit below `d` at
 -- the first mark are written. Assumes nothing.
-use Prim.Native.Nat.{ℕ, _-_, _≤_, _<_}
 use mathlib.Core.Path.{sym, _∙_}
+use Prim.Native.Nat.{ℕ, _-_, _≤_, _<_}
 use native.Mathlib.Omega.{arith}
 use lib.ListN.{take}
 use lib.Seq.{length-take-le}
 use borrow.Author.Needs.{needs}
 use borrow.Fn.Kinds.{In}
 use borrow.Fn.PlainCycle.{Measures, is, falls, and}
-use Rattle.fillings.specs.Accepts.{accepts}
 use Rattle.text.specs.Stands.{Stands}
 use Rattle.text.proofs.Stands.{stands-length}
-use Rattle.fillings.proofs.Laws.{first-mark, no-mark, block-dry, number-small, place-small}
-use Rattle.fillings.proofs.Laws.{Open, digitsBelow, first-before, one-fewer, digits-none, digits-more, digits-all, digits-fit, digits-place}
+use Rattle.text.proofs.first_bad.Reads as first-bad-reads
+use Rattle.fillings.specs.Accepts.{accepts}
+use Rattle.fillings.proofs.Laws.{first-mark, no-mark, block-dry, number-small, place-small, Open, digitsBelow, first-before, one-fewer, digits-none, digits-more, digits-all, digits-fit, digits-place}
 use Rattle.fillings.proofs.list.Reads as list
 use Rattle.fillings.proofs.list.Kinds as list-kinds
 use Rattle.fillings.proofs.+list.Lts-list as list-lts
 use Rattle.fillings.proofs.leaf.Reads as leaf-reads
-use Rattle.text.proofs.first_bad.Reads as first-bad-reads
 use Rattle.fillings.proofs.+list.{statement}
 use Rattle.fillings.proofs.+list.Tie.{close}
 

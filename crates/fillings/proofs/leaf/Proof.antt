@@ -1,10 +1,10 @@
 -- `fillings::leaf` meets its contract: the number is written where the text is accepted and there is room. Assumes nothing.
 use mathlib.Core.Path.{sym, refl, _∙_}
 use native.Mathlib.Omega.{arith}
-use borrow.Author.Tests.{not-true, not-false}
 use lib.Seq.{set-out}
-use Rattle.fillings.proofs.Laws.{written-rejected, written-accepted}
+use borrow.Author.Tests.{not-true, not-false}
 use borrow.Author.Needs.{needs}
+use Rattle.fillings.proofs.Laws.{written-rejected, written-accepted}
 use Rattle.fillings.proofs.leaf.Statement.{statement}
 use Rattle.fillings.proofs.leaf.Tie as tie
 

@@ -1,11 +1,11 @@
--- `fillings::aimed` meets its contract: the filled text stands at the front of the array. Assumes nothing.
+-- `wet::aimed` meets its contract: the filled text stands at the front of the array. Assumes nothing.
 use mathlib.Core.Path.{sym, _∙_}
 use native.Mathlib.Omega.{arith}
 use lib.Seq.{length-take-le}
 use borrow.Author.Needs.{needs}
-use Rattle.fillings.proofs.Accepts.{filled-front}
-use Rattle.fillings.proofs.aimed.Statement.{statement}
-use Rattle.fillings.proofs.aimed.Tie as tie
+use Rattle.filling.proofs.Laws.{filled-front}
+use Rattle.wet.proofs.aimed.Statement.{statement}
+use Rattle.wet.proofs.aimed.Tie as tie
 
 slice-aggregate-parts : tie.Need-slice-aggregate-parts
 slice-aggregate-parts c = sym (length-take-le _ _ (omega (arith, c .before .before .filled .kept .1 .1 .0)))

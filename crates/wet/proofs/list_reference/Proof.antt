@@ -1,13 +1,13 @@
--- `fillings::list_reference` meets its contract: each refusal is the definition's choice on the tests that led there. Assumes nothing.
+-- `wet::list_reference` meets its contract: each refusal is the definition's choice on the tests that led there. Assumes nothing.
 use mathlib.Core.Path.{refl, sym, _∙_}
 use native.Mathlib.Omega.{arith}
-use borrow.Author.Tests.{not-true, not-false, lt-leb, le-leb}
-use Rattle.text.proofs.Laws.{left, entered}
-use Rattle.text.specs.Bytes.{marks}
 use lib.ListN.{length}
+use borrow.Author.Tests.{not-true, not-false, lt-leb, le-leb}
 use borrow.Author.Needs.{needs}
-use Rattle.fillings.proofs.list_reference.Statement.{statement}
-use Rattle.fillings.proofs.list_reference.Tie as tie
+use Rattle.text.specs.Bytes.{marks}
+use Rattle.text.proofs.Laws.{left, entered}
+use Rattle.wet.proofs.list_reference.Statement.{statement}
+use Rattle.wet.proofs.list_reference.Tie as tie
 
 returns : tie.Need-returns
 returns c = (rw (c .nowhere .ensures) (left _ _ _ _ (lt-leb _ _ (c .before .if1 .taken)) refl), refl)

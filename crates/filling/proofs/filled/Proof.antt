@@ -1,12 +1,12 @@
--- `fillings::filled` meets its contract. The loop's invariant: the bytes from `i` on are written. Assumes nothing.
-use Prim.Native.Nat.{_≤_, _-_}
+-- `filling::filled` meets its contract. The loop's invariant: the bytes from `i` on are written. Assumes nothing.
 use mathlib.Core.Path.{_≡_, refl}
+use Prim.Native.Nat.{_≤_, _-_}
 use native.Mathlib.Omega.{arith}
-use borrow.Author.Needs.{needs}
 use lib.ListN.{length, length-set}
-use Rattle.fillings.proofs.Laws.{WrittenFrom, from-end, from-mark, from-byte, from-front, short-refused, enough-accepted}
-use Rattle.fillings.proofs.filled.Statement.{statement}
-use Rattle.fillings.proofs.filled.Tie as tie
+use borrow.Author.Needs.{needs}
+use Rattle.filling.proofs.Laws.{WrittenFrom, from-end, from-mark, from-byte, from-front, short-refused, enough-accepted}
+use Rattle.filling.proofs.filled.Statement.{statement}
+use Rattle.filling.proofs.filled.Tie as tie
 
 abbrev Inv-loop : tie.InvT-loop
 Inv-loop s number out₀ n k₀ i₀ out k i = (i ≤ length s) × ((length out ≡ length out₀) × WrittenFrom s out₀ number i k out)

@@ -1,14 +1,13 @@
--- `fillings::is_wet_iban` meets its contract: each return is the definition's choice on the tests that led there. Assumes nothing.
+-- `wet::is_wet_iban` meets its contract: each return is the definition's choice on the tests that led there. Assumes nothing.
 use mathlib.Core.Path.{ap, _∙_}
 use borrow.Author.Tests.{ne-eqb, eq-eqb}
-use Rattle.text.proofs.Laws.{and-first, and-second}
+use borrow.Author.Needs.{needs}
 use Rattle.text.specs.Bytes.{allOf}
 use Rattle.text.specs.declared.Class.the-variants.{WetAccount}
-use Rattle.text.proofs.Laws.{to-the-end}
-use Rattle.fillings.proofs.Accepts.{short-is-not-wet}
-use borrow.Author.Needs.{needs}
-use Rattle.fillings.proofs.is_wet_iban.Statement.{statement}
-use Rattle.fillings.proofs.is_wet_iban.Tie as tie
+use Rattle.text.proofs.Laws.{and-first, and-second, to-the-end}
+use Rattle.wet.proofs.Accepts.{short-is-not-wet}
+use Rattle.wet.proofs.is_wet_iban.Statement.{statement}
+use Rattle.wet.proofs.is_wet_iban.Tie as tie
 
 returns : tie.Need-returns
 returns c = short-is-not-wet (c .before .before .args .s .now) (c .if1 .taken)

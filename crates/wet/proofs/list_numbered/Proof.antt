@@ -1,8 +1,8 @@
--- `fillings::list_numbered` meets its contract: the arm says the number. Assumes nothing.
+-- `wet::list_numbered` meets its contract: the arm says the number. Assumes nothing.
 use mathlib.Core.Path.{refl, sym}
 use borrow.Author.Needs.{needs}
-use Rattle.fillings.proofs.list_numbered.Statement.{statement}
-use Rattle.fillings.proofs.list_numbered.Tie as tie
+use Rattle.wet.proofs.list_numbered.Statement.{statement}
+use Rattle.wet.proofs.list_numbered.Tie as tie
 
 returns : tie.Need-returns
 returns c = rw (c .before .before .before .before .before .before .number .given .1, sym (c .before .before .before .before .rules .ensures)) (c .before .before .list-model .ensures)

@@ -1,7 +1,7 @@
 -- Document 01, "Wet slips": what the listings of IBANs and of references answer. No place is told.
-use Prim.Native.Nat.{ℕ}
-use mathlib.Core.Bool.{Bool, cond, _&&_}
+use mathlib.Core.Bool.{Bool, true, false, cond, _&&_}
 use mathlib.Core.List.{List, []}
+use Prim.Native.Nat.{ℕ}
 use lib.Dec.{eqb, leb}
 use lib.ListN.{length, drop, getD}
 use Rattle.refusal.specs.Refusal.{none}
@@ -15,10 +15,11 @@ use Rattle.models.specs.declared.Model as declared
 use Rattle.model_text.specs.Texts.{modelNumber}
 use Rattle.models.specs.Models.{modelOf}
 use Rattle.reference.specs.Answers.{obeys}
 use Rattle.fillings.specs.Fillings.{fillings}
 use Rattle.fillings.specs.Answers.{roomAnswer}
+use Rattle.fillings.specs.declared.Aim.{Aim}
 use Rattle.fillings.specs.declared.Listed.{Listed}
 use Rattle.fillings.specs.declared.Listed.the-variants.{Refused}
 
 -- ---------------------------------------------------------------------------
 -- IBANs
@@ -38,6 +39,11 @@ ibanListing s room =
 
 -- ---------------------------------------------------------------------------
 -- References
+
+-- what is listed under a model, by what was found of one filling
+abbrev pub aimFrom : declared.Model → Found → Aim
+aimFrom model (At ends) = record { iban = false; mendable = true; model = model; ends = ends }
+aimFrom model Nothing = record { iban = false; mendable = false; model = model; ends = 0 }
 
 -- 7, then 15
 abbrev pub modelListing : declared.Model → List ℕ → ℕ → Listed

@@ -1,0 +1,20 @@
+-- What is claimed of the fillings of one text (proofs/Theorems.antt): which texts fill it, and by which number.
+use mathlib.Core.Path.{_≡_}
+use mathlib.Core.Bool.{cond}
+use mathlib.Core.List.{List, [], _∷_}
+use Prim.Native.Nat.{ℕ, _+_, _*_, _-_, _^_, _≤_, _<_}
+use lib.Dec.{eqb}
+use lib.ListN.{length, getD}
+use Rattle.text.specs.Bytes.{marks}
+
+-- t fills s: it is s where s has no mark, and has a digit where s has one
+pub record Fills (s t : List ℕ) : Type 0 where
+  pub size : length t ≡ length s
+  pub same : (i : ℕ) → i < length s → (getD s i 0 ≡ 63 → ⊥) → getD t i 0 ≡ getD s i 0
+  pub digit : (i : ℕ) → i < length s → getD s i 0 ≡ 63 → (48 ≤ getD t i 0) × (getD t i 0 ≤ 57)
+
+-- "Read left to right, the digits filled in form a number": the number that the digits of t at the marks of s form
+unfoldable pub numberIn : List ℕ → List ℕ → ℕ
+numberIn [] t = 0
+numberIn (b ∷ s) [] = 0
+numberIn (b ∷ s) (c ∷ t) = cond (eqb b 63) ((c - 48) * 10 ^ marks s + numberIn s t) (numberIn s t)

@@ -1,0 +1,3 @@
+-- The definitions of the crate `filling`.
+pub mod Filling
+pub mod Claims
