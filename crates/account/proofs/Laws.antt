@@ -10,10 +10,12 @@ use lib.Dec.{eqb, leb}
 use lib.ListN.{length, take, drop, getD, take-append-drop, length-take, length-drop}
 use lib.Seq.{length-take-le, take-all, drop-drop}
 use borrow.Author.Tests.{eqb-true, lt-leb, le-leb}
-use Rattle.text.specs.Bytes.{isDigit, allOf, bytesVerdict}
-use Rattle.text.specs.declared.Class.the-variants.{Digits, Account}
+use Rattle.classes.specs.Classes.{isDigit}
+use Rattle.text.specs.Bytes.{allOf, bytesVerdict}
+use Rattle.classes.specs.declared.Class.the-variants.{Digits, Account}
 use Rattle.text.specs.Digits.{digitsOf, valueFrom, valueOf}
-use Rattle.text.proofs.Laws.{digits-append, value-append, all-apart, all-wider, all-passes, both-true, or-first}
+use Rattle.text.proofs.Laws.{digits-append, value-append, all-apart, all-wider, all-passes}
+use Rattle.classes.proofs.Choices.{both-true, or-first}
 use Rattle.sums.specs.Sums.{numberIn}
 use Rattle.sums.proofs.Theorems.{text-small, number-of-all}
 use Rattle.account.specs.Account.{checkDigits, rearranged, ibanFormed, ibanPasses}

@@ -10,11 +10,12 @@ use lib.Dec.{eqb}
 use lib.ListN.{length}
 use borrow.Author.Tests.{eq-eqb}
 use Rattle.refusal.specs.Only.{Only, defined-only}
-use Rattle.refusal.specs.Verdict.{onlyIf, andThen, Within}
-use Rattle.refusal.proofs.Verdicts.{passed, met, both-pass, pass-both, test-holds, then-within, only-within}
+use Rattle.verdict.specs.Verdict.{onlyIf, andThen, Within}
+use Rattle.verdict.proofs.Verdicts.{passed, met, both-pass, pass-both, test-holds, then-within, only-within}
 use Rattle.text.specs.Bytes.{allOf, bytesVerdict}
-use Rattle.text.specs.declared.Class.the-variants.{Digits, Account}
-use Rattle.text.proofs.Laws.{both-true, and-second, all-passes, passes-all, bytes-within}
+use Rattle.classes.specs.declared.Class.the-variants.{Digits, Account}
+use Rattle.classes.proofs.Choices.{both-true, and-second}
+use Rattle.text.proofs.Laws.{all-passes, passes-all, bytes-within}
 use Rattle.account.specs.Account.{ibanFormed, ibanPasses, oibPasses}
 use Rattle.account.specs.Answers.{isIban, ibanCheckVerdict, ibanVerdict, oibVerdict}
 use Rattle.account.proofs.Laws.{formed-length, formed-permitted}

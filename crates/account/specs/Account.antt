@@ -6,7 +6,7 @@ use lib.Dec.{eqb, leb}
 use lib.ListN.{length, take, drop, getD}
 use Rattle.text.specs.Bytes.{allOf}
 use Rattle.text.specs.Digits.{digitsOf, valueOf}
-use Rattle.text.specs.declared.Class.the-variants.{Digits}
+use Rattle.classes.specs.declared.Class.the-variants.{Digits}
 use Rattle.check_digits.specs.CheckDigit.{passes}
 use Rattle.check_digits.specs.declared.Rule.the-variants.{Mod1110}
 

@@ -4,9 +4,9 @@ use mathlib.Core.Bool.{Bool, _&&_}
 use mathlib.Core.List.{List}
 use lib.Dec.{eqb}
 use lib.ListN.{length}
-use Rattle.refusal.specs.Verdict.{onlyIf, andThen}
+use Rattle.verdict.specs.Verdict.{onlyIf, andThen}
 use Rattle.text.specs.Bytes.{bytesVerdict}
-use Rattle.text.specs.declared.Class.the-variants.{Digits, Account}
+use Rattle.classes.specs.declared.Class.the-variants.{Digits, Account}
 use Rattle.account.specs.Account.{ibanFormed, ibanPasses, oibPasses}
 
 -- an IBAN: "`HR` and nineteen digits; IBAN check"

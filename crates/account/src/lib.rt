@@ -6,7 +6,7 @@ ghost use mathlib.Core.Path.{_≡_};
 ghost use Rattle.account.specs.Account.{ibanFormed, oibPasses};
 ghost use Rattle.account.specs.Answers.{isIban, ibanCheckVerdict, ibanVerdict, oibVerdict};
 use check_digits::Rule;
-use text::Class;
+use classes::Class;
 
 // Whether a text is `HR` and nineteen digits.
 pub fn is_iban_formed(s: &[u8]) -> bool

@@ -2,7 +2,7 @@
 -- acceptance; then all else but what it tells is 0.
 use Prim.Native.Nat.{ℕ}
 use Rattle.refusal.specs.Refusal.{none, numberOf, placeOf, neededOf}
-use Rattle.refusal.specs.Verdict.{answerIn}
+use Rattle.verdict.specs.Verdict.{answerIn}
 use Rattle.refusal.specs.declared.Answer.{Answer}
 use Rattle.refusal.specs.declared.Answer.the-variants as answer
 use Rattle.refusal.specs.declared.Place.{Place}

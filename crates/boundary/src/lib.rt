@@ -68,7 +68,7 @@ pub fn tell(a: Answer) -> Told
 pub fn tell_verdict(verdict: usize) -> Told
     ensures { λ r. ⌜ r ≡ verdictTold verdict ⌝ }
 {
-    tell(refusal::answer_in(verdict, 0))
+    tell(verdict::answer_in(verdict, 0))
 }
 
 // Acceptance with a value.

@@ -7,7 +7,7 @@ use mathlib.Core.Bool.{Bool, true, _&&_}
 use mathlib.Core.List.{List, [], _∷_, _++_}
 use lib.Dec.{eqb}
 use Rattle.refusal.specs.Refusal.{answerNumber}
-use Rattle.refusal.specs.Verdict.{verdictNumber}
+use Rattle.verdict.specs.Verdict.{verdictNumber}
 use Rattle.text.specs.Bytes.{firstBad, bytesVerdict, allOf, countOf, same}
 use Rattle.text.specs.Digits.{digitsOf, valueFrom, digitsText}
 use Rattle.text.specs.Split.{split, joined}

@@ -11,11 +11,11 @@ ghost use lib.ListN.{length};
 use check::same;
 use check_digits::Made;
 use check_digits::Rule;
+use classes::Class;
 use fillings::Listed;
 use refusal::Answer;
 use refusal::Refusal;
 use slip_writer::Written;
-use text::Class;
 use text::Found;
 use words::front;
 use words::say;
@@ -71,17 +71,17 @@ fn answer(line: &[u8]) {
 
 fn answer_verb(verb: &[u8], rest: &[u8]) {
     if same(verb, b"iban") {
-        judged(refusal::answer_in(account::iban(rest), 0));
+        judged(verdict::answer_in(account::iban(rest), 0));
         return;
     }
     if same(verb, b"oib") {
-        judged(refusal::answer_in(account::oib(rest), 0));
+        judged(verdict::answer_in(account::oib(rest), 0));
         return;
     }
     if same(verb, b"ref") {
         let m = find(rest, 32);
         let verdict = reference::reference(front(rest, m), beyond(rest, m));
-        judged(refusal::answer_in(verdict, 0));
+        judged(verdict::answer_in(verdict, 0));
         return;
     }
     answer_digits(verb, rest);

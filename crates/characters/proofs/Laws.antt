@@ -13,9 +13,10 @@ use lib.Seq.{drop-cons, drop-length}
 use borrow.Author.Tests.{ne-eqb, lt-leb, le-leb, ltb-true, ltb-false}
 use Rattle.text.specs.Bytes.{later}
 use Rattle.text.specs.declared.Found.the-variants.{At, Nothing}
-use Rattle.text.proofs.Laws.{taken, left, both-true, shifted, shifted-zero, shifted-later, Below, below-later}
-use Rattle.refusal.specs.Verdict.{wrongAt}
-use Rattle.refusal.proofs.Verdicts.{refused}
+use Rattle.classes.proofs.Choices.{taken, left, both-true}
+use Rattle.text.proofs.Laws.{shifted, shifted-zero, shifted-later, Below, below-later}
+use Rattle.verdict.specs.Verdict.{wrongAt}
+use Rattle.verdict.proofs.Verdicts.{refused}
 use Rattle.characters.specs.Answers.{charactersVerdict}
 use Rattle.characters.specs.Characters.{isSingle, afterC4, afterC5, isPair, isCompleted, firstWrong, characters}
 

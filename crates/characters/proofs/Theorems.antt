@@ -10,7 +10,7 @@ use lib.Dec.{eqb}
 use lib.ListN.{length, getD}
 use borrow.Author.Tests.{leb-true, le-leb, eqb-true}
 use Rattle.refusal.specs.Only.{Only, defined-only}
-use Rattle.refusal.proofs.Verdicts.{both-pass, test-holds}
+use Rattle.verdict.proofs.Verdicts.{both-pass, test-holds}
 use Rattle.text.specs.Bytes.{later, found}
 use Rattle.text.proofs.Laws.{nothing-found}
 use Rattle.text.specs.declared.Found.{Found}

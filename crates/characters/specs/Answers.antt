@@ -2,7 +2,7 @@
 use Prim.Native.Nat.{ℕ}
 use mathlib.Core.List.{List}
 use lib.Dec.{leb}
-use Rattle.refusal.specs.Verdict.{onlyIf, andThen}
+use Rattle.verdict.specs.Verdict.{onlyIf, andThen}
 use Rattle.text.specs.Bytes.{found}
 use Rattle.characters.specs.Characters.{firstWrong, characters}
 

@@ -4,7 +4,8 @@ use mathlib.Core.Bool.{Bool, cond, not, _&&_, _||_}
 use mathlib.Core.List.{List, [], _∷_}
 use lib.Dec.{eqb, leb, ltb}
 use lib.ListN.{length, getD}
-use Rattle.text.specs.Bytes.{isDigit, isLetter, later}
+use Rattle.classes.specs.Classes.{isDigit, isLetter}
+use Rattle.text.specs.Bytes.{later}
 use Rattle.text.specs.declared.Found.{Found}
 use Rattle.text.specs.declared.Found.the-variants.{At, Nothing}
 

@@ -41,10 +41,10 @@ fn is_sign(b: u8) -> bool
 fn is_single(b: u8) -> bool
     ensures { λ r. ⌜ r ≡ isSingle b ⌝ }
 {
-    if text::is_digit(b) {
+    if classes::is_digit(b) {
         return true;
     }
-    if text::is_letter(b) {
+    if classes::is_letter(b) {
         return true;
     }
     if is_small_letter(b) {

@@ -9,10 +9,10 @@ use native.Mathlib.Numerals.{add-one}
 use native.Mathlib.Omega.{arith}
 use lib.Dec.{ltb, lit<}
 use borrow.Author.Tests.{ne-eqb, lt-ltb, le-ltb}
-use Rattle.text.proofs.Laws.{taken, left}
+use Rattle.classes.proofs.Choices.{taken, left}
 use lib.ListN.{length, drop, getD}
 use lib.Seq.{drop-cons, drop-length}
-use Rattle.text.specs.Bytes.{isDigit}
+use Rattle.classes.specs.Classes.{isDigit}
 use Rattle.text.specs.Digits.{digitsOf}
 use Rattle.check_digits.specs.declared.Rule.{Rule}
 use Rattle.check_digits.specs.declared.Rule.the-variants.{Ini, Mod1110}

@@ -10,7 +10,7 @@ use Rattle.refusal.specs.declared.Answer.the-variants.{Accepted, Refused}
 use Rattle.refusal.specs.declared.Refusal.the-variants.{Size, Byte, Digit}
 use Rattle.text.specs.Bytes.{allOf}
 use Rattle.text.specs.Digits.{digitsOf}
-use Rattle.text.specs.declared.Class.the-variants.{Digits}
+use Rattle.classes.specs.declared.Class.the-variants.{Digits}
 use Rattle.check_digits.specs.declared.Rule.{Rule}
 use Rattle.check_digits.specs.declared.Made.{Made}
 use Rattle.check_digits.specs.declared.Made.the-variants as made

@@ -9,9 +9,9 @@ ghost use Rattle.text.specs.Digits.{digitsOf};
 ghost use Rattle.check_digits.specs.CheckDigit.{carry, digitFor, checkDigit, passes};
 ghost use Rattle.check_digits.specs.Run.{Small, startOf, stepOf, readOf, digitOf};
 ghost use Rattle.check_digits.specs.Answers.{sized, checkAnswer, makeAnswer};
+use classes::Class;
 use refusal::Answer;
 use refusal::Refusal;
-use text::Class;
 
 // The rules by which one digit checks the digits before it.
 pub enum Rule {

@@ -12,7 +12,7 @@ use borrow.Author.Tests.{ltb-true, leb-true, eq-eqb, ne-eqb}
 use Rattle.refusal.specs.Only.{Only, defined-only}
 use Rattle.text.specs.declared.Found.{Found}
 use Rattle.text.specs.declared.Found.the-variants.{At, Nothing}
-use Rattle.text.proofs.Laws.{both-true}
+use Rattle.classes.proofs.Choices.{both-true}
 use Rattle.codes.specs.Codes.{codes, placeIn, codePlace}
 use Rattle.codes.proofs.Laws.{place-tells}
 

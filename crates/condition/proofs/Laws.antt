@@ -5,7 +5,7 @@ use mathlib.Core.Bool.{true}
 use Prim.Native.Nat.{_≤_}
 use lib.Dec.{leb}
 use borrow.Author.Tests.{leb-true}
-use Rattle.text.proofs.Laws.{both-true}
+use Rattle.classes.proofs.Choices.{both-true}
 use Rattle.sums.specs.Sums.{fits}
 use Rattle.condition.specs.declared.Judge.{Judge}
 use Rattle.condition.specs.Record.{isSound}

@@ -8,7 +8,7 @@ use native.Mathlib.Omega.{arith}
 use lib.Dec.{eqb, leb}
 use borrow.Author.Tests.{leb-true, le-leb}
 use Rattle.refusal.specs.Only.{Only, defined-only}
-use Rattle.text.proofs.Laws.{both-true}
+use Rattle.classes.proofs.Choices.{both-true}
 use Rattle.dates.specs.Dates.{isLeap, daysOf, yearOf, monthOf, dayOf, isDate}
 
 -- ---------------------------------------------------------------------------

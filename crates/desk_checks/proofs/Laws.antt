@@ -5,7 +5,7 @@ use mathlib.Core.Bool.{cond}
 use Prim.Native.Nat.{ℕ}
 use lib.Dec.{eqb}
 use borrow.Author.Tests.{eq-eqb, ne-eqb}
-use Rattle.text.proofs.Laws.{left, entered}
+use Rattle.classes.proofs.Choices.{left, entered}
 
 module _ {A : Type 0} (rule : ℕ) (first second no r : A) where
   pub by-ini : rule ≡ 0 → r ≡ first → r ≡ cond (eqb rule 0) first (cond (eqb rule 1) second no)

@@ -13,7 +13,7 @@ use Rattle.refusal.specs.declared.Refusal.the-variants.{Room}
 use Rattle.refusal.specs.declared.Answer.{Answer}
 use Rattle.refusal.specs.Refusal.{none}
 use Rattle.text.specs.Bytes.{countOf, marks}
-use Rattle.text.proofs.Laws.{left}
+use Rattle.classes.proofs.Choices.{left}
 use Rattle.filling.specs.Filling.{fill, filledAnswer, filledBy}
 use Rattle.filling.proofs.Theorems.{fill-length}
 

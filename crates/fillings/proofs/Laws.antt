@@ -14,12 +14,12 @@ use borrow.Author.Tests.{eqb-true, ne-eqb, lt-ltb, le-ltb, le-leb}
 use Rattle.refusal.specs.declared.Place.{Place}
 use Rattle.refusal.specs.declared.Refusal.the-variants.{Room}
 use Rattle.refusal.specs.Refusal.{none}
-use Rattle.text.specs.declared.Class.the-variants.{Dry}
+use Rattle.classes.specs.declared.Class.the-variants.{Dry}
 use Rattle.text.specs.declared.Found.{Found}
 use Rattle.text.specs.declared.Found.the-variants.{At, Nothing}
 use Rattle.text.specs.Bytes.{later, firstBad, countOf, marks}
 use Rattle.text.specs.Stands.{Stands}
-use Rattle.text.proofs.Laws.{left}
+use Rattle.classes.proofs.Choices.{left}
 use Rattle.text.proofs.Stands.{stands-none, stands-append, front-stands}
 use Rattle.filling.specs.Filling.{fill}
 use Rattle.filling.proofs.Theorems.{fill-dry}

@@ -13,9 +13,9 @@ ghost use Rattle.text.specs.Stands.{Stands};
 ghost use Rattle.fillings.specs.ByMark.{block};
 ghost use Rattle.fillings.specs.Accepts.{accepts};
 ghost use Rattle.fillings.specs.Answers.{listing, leftBy};
+use classes::Class;
 use models::Model;
 use refusal::Refusal;
-use text::Class;
 use text::Found;
 
 // What is listed: IBANs, or references under a model, whose parts end so in every filling; nothing where no filling mends the form.

@@ -4,7 +4,7 @@ use mathlib.Core.List.{List}
 use Prim.Native.Nat.{ℕ}
 use lib.Dec.{eqb}
 use Rattle.text.specs.Bytes.{bytesVerdict}
-use Rattle.text.specs.declared.Class.the-variants.{Digits}
+use Rattle.classes.specs.declared.Class.the-variants.{Digits}
 use Rattle.wage_contents.specs.Contents.{dateVerdict, ibanPlaceVerdict, currencyVerdict}
 
 -- "301: 1–21 IBAN; 22–24 `EUR`; 25–45 blank or IBAN; 46–48 blank or `EUR`; 49–53 number of orders; 54–73 sum in cents; 74–81 date, today or

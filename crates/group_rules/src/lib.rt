@@ -7,7 +7,7 @@ ghost use lib.ListN.{getD};
 ghost use Rattle.wage_places.specs.declared.LineType.the-variants.{Group};
 ghost use Rattle.wage_places.specs.Places.{spots, noSpot, partAt};
 ghost use Rattle.group_rules.specs.Rules.{groupRule};
-use text::Class;
+use classes::Class;
 use wage_places::LineType;
 use wage_places::part_at;
 

@@ -8,7 +8,7 @@ use Prim.Native.Nat.{ℕ}
 use native.Mathlib.Omega.{arith}
 use Rattle.refusal.specs.Only.{Only, defined-only}
 use Rattle.text.specs.Split.{joined}
-use Rattle.text.proofs.Laws.{both-true, and-second}
+use Rattle.classes.proofs.Choices.{both-true, and-second}
 use Rattle.check_digits.specs.CheckDigit.{passes}
 use Rattle.models.specs.declared.Group.{Group}
 use Rattle.models.specs.declared.Model.{Model}

@@ -5,7 +5,7 @@ use mathlib.Core.List.{List}
 use Prim.Native.Nat.{ℕ}
 use lib.Dec.{eqb}
 use Rattle.text.specs.Bytes.{bytesVerdict}
-use Rattle.text.specs.declared.Class.the-variants.{Digits}
+use Rattle.classes.specs.declared.Class.the-variants.{Digits}
 use Rattle.wage_places.specs.declared.LineType.the-variants.{Label}
 use Rattle.wage_places.specs.Places.{partOf}
 use Rattle.wage_contents.specs.Contents.{amongVerdict, oibPlaceVerdict, employerVerdict, dateVerdict}

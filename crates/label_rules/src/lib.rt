@@ -7,7 +7,7 @@ ghost use lib.ListN.{getD};
 ghost use Rattle.wage_places.specs.declared.LineType.the-variants.{Label};
 ghost use Rattle.wage_places.specs.Places.{spots, noSpot, partAt};
 ghost use Rattle.label_rules.specs.Rules.{labelRule};
-use text::Class;
+use classes::Class;
 use wage_places::LineType;
 use wage_places::part_at;
 

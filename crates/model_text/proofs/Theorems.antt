@@ -4,8 +4,8 @@ use mathlib.Core.Path.{_≡_}
 use mathlib.Core.List.{List}
 use Prim.Native.Nat.{ℕ}
 use Rattle.refusal.specs.Only.{Only, defined-only}
-use Rattle.refusal.specs.Verdict.{Within}
-use Rattle.refusal.proofs.Verdicts.{only-within}
+use Rattle.verdict.specs.Verdict.{Within}
+use Rattle.verdict.proofs.Verdicts.{only-within}
 use native.Mathlib.Omega.{arith}
 use Rattle.text.specs.declared.Found.{Found}
 use Rattle.text.specs.declared.Found.the-variants.{At, Nothing}

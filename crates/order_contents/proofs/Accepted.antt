@@ -7,10 +7,10 @@ use Prim.Native.Nat.{ℕ}
 use lib.Dec.{eqb}
 use lib.ListN.{length, getD}
 use borrow.Author.Tests.{eqb-true}
-use Rattle.refusal.specs.Verdict.{onlyIf}
-use Rattle.refusal.proofs.Verdicts.{both-pass, test-holds}
+use Rattle.verdict.specs.Verdict.{onlyIf}
+use Rattle.verdict.proofs.Verdicts.{both-pass, test-holds}
 use Rattle.text.specs.Bytes.{bytesVerdict, firstBad, allOf, trimmed}
-use Rattle.text.specs.declared.Class.the-variants.{Digits, Reference, Letters, Blanks, Description}
+use Rattle.classes.specs.declared.Class.the-variants.{Digits, Reference, Letters, Blanks, Description}
 use Rattle.text.proofs.Blanks.{trimmed-blanks, trimmed-some}
 use Rattle.codes.specs.Codes.{codePlace}
 use Rattle.sums.specs.Sums.{numberIn}

@@ -5,10 +5,10 @@ use mathlib.Core.List.{List}
 use Prim.Native.Nat.{ℕ}
 use native.Mathlib.Omega.{arith}
 use lib.ListN.{length, getD}
-use Rattle.refusal.specs.Verdict.{Within}
-use Rattle.refusal.proofs.Verdicts.{only-within}
+use Rattle.verdict.specs.Verdict.{Within}
+use Rattle.verdict.proofs.Verdicts.{only-within}
 use Rattle.text.specs.Bytes.{allOf, trimmed}
-use Rattle.text.specs.declared.Class.the-variants.{Digits, Reference, Letters, Blanks, Description}
+use Rattle.classes.specs.declared.Class.the-variants.{Digits, Reference, Letters, Blanks, Description}
 use Rattle.text.proofs.Blanks.{trimmed-shorter}
 use Rattle.models.specs.Models.{modelOf}
 use Rattle.reference.proofs.Theorems.{modelled-within}

@@ -5,9 +5,9 @@ use mathlib.Core.Bool.{Bool, true, false, cond, not, _&&_, _||_}
 use mathlib.Core.List.{List}
 use lib.Dec.{eqb}
 use lib.ListN.{length, getD}
-use Rattle.refusal.specs.Verdict.{onlyIf}
+use Rattle.verdict.specs.Verdict.{onlyIf}
 use Rattle.text.specs.Bytes.{allOf, trimmed}
-use Rattle.text.specs.declared.Class.the-variants.{Digits, Reference, Letters, Blanks, Description}
+use Rattle.classes.specs.declared.Class.the-variants.{Digits, Reference, Letters, Blanks, Description}
 use Rattle.text.specs.declared.Found.{Found}
 use Rattle.text.specs.declared.Found.the-variants.{At, Nothing}
 use Rattle.model_text.specs.Texts.{modelNumber, modelFrom}

@@ -6,7 +6,7 @@ ghost use mathlib.Core.Path.{_≡_};
 ghost use lib.ListN.{getD};
 ghost use Rattle.codes.specs.Codes.{codePlace};
 ghost use Rattle.order_contents.specs.Contents.{purposePlaceVerdict, signVerdict, heldIn, heldBlank, heldVerdict, referenceHeld, descriptionVerdict, isFound, codeVerdict};
-use text::Class;
+use classes::Class;
 use text::Found;
 
 // What a model's place holds: nothing, a text that is no model, or a model's number.

@@ -7,10 +7,10 @@ use Prim.Native.Nat.{ℕ}
 use native.Mathlib.Omega.{arith}
 use lib.Dec.{eqb}
 use lib.ListN.{length, getD}
-use Rattle.refusal.specs.Verdict.{Within}
+use Rattle.verdict.specs.Verdict.{Within}
 use Rattle.refusal.specs.Only.{Only, defined-only}
-use Rattle.refusal.proofs.Verdicts.{choice-within}
-use Rattle.text.specs.declared.Class.the-variants.{Digits}
+use Rattle.verdict.proofs.Verdicts.{choice-within}
+use Rattle.classes.specs.declared.Class.the-variants.{Digits}
 use Rattle.text.proofs.Laws.{bytes-within}
 use Rattle.wage_places.specs.declared.LineType.the-variants.{Order}
 use Rattle.wage_places.specs.Places.{spots, noSpot, partAt, partOf}

@@ -8,8 +8,8 @@ ghost use Rattle.wage_places.specs.declared.LineType.the-variants.{Order};
 ghost use Rattle.wage_places.specs.Places.{spots, noSpot, partAt};
 ghost use Rattle.order_contents.specs.Contents.{heldIn};
 ghost use Rattle.order_rules.specs.Rules.{orderRule};
+use classes::Class;
 use order_contents::Held;
-use text::Class;
 use wage_places::LineType;
 use wage_places::part_at;
 

@@ -10,10 +10,11 @@ use lib.ListN.{length, getD}
 use mir.Syntax.{w8}
 use mir.Val.{Fits}
 use borrow.Author.Tests.{eqb-true, ltb-true, leb-true}
-use Rattle.text.specs.Bytes.{isDigit, allOf}
-use Rattle.text.specs.declared.Class.the-variants.{Digits, Reference}
+use Rattle.classes.specs.Classes.{isDigit}
+use Rattle.text.specs.Bytes.{allOf}
+use Rattle.classes.specs.declared.Class.the-variants.{Digits, Reference}
 use Rattle.text.specs.Split.{longer, split}
-use Rattle.text.proofs.Laws.{both-true}
+use Rattle.classes.proofs.Choices.{both-true}
 use Rattle.models.specs.declared.Model.{Model}
 use Rattle.parts.specs.Parts.{lengthFits, partsOf, partsFit, formed}
 

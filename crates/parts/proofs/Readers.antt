@@ -12,10 +12,12 @@ use lib.Dec.{eqb, leb, ltb}
 use lib.ListN.{length, take, drop, getD, drop-of-length-le}
 use lib.Seq.{drop-cons}
 use borrow.Author.Tests.{eq-eqb, ne-eqb, lt-ltb, le-ltb}
-use Rattle.text.specs.Bytes.{isDigit, allOf}
-use Rattle.text.specs.declared.Class.the-variants.{Digits}
+use Rattle.classes.specs.Classes.{isDigit}
+use Rattle.text.specs.Bytes.{allOf}
+use Rattle.classes.specs.declared.Class.the-variants.{Digits}
 use Rattle.text.specs.Split.{split}
-use Rattle.text.proofs.Laws.{digit-bounds, to-the-end}
+use Rattle.classes.proofs.Laws.{digit-bounds}
+use Rattle.text.proofs.Laws.{to-the-end}
 use Rattle.parts.specs.Parts.{lengthFits, partsFit}
 use Rattle.parts.specs.Ends.{endsFrom, partRead, digitRead}
 use Rattle.parts.proofs.Pieces.{first-part, spanOf, short-span}

@@ -9,10 +9,11 @@ use native.Mathlib.Omega.{arith}
 use lib.Dec.{eqb}
 use lib.ListN.{length}
 use borrow.Author.Tests.{ne-eqb}
-use Rattle.text.specs.Bytes.{isDigit, allOf}
-use Rattle.text.specs.declared.Class.the-variants.{Digits}
+use Rattle.classes.specs.Classes.{isDigit}
+use Rattle.text.specs.Bytes.{allOf}
+use Rattle.classes.specs.declared.Class.the-variants.{Digits}
 use Rattle.text.specs.Split.{longer, split}
-use Rattle.text.proofs.Laws.{digit-bounds}
+use Rattle.classes.proofs.Laws.{digit-bounds}
 use Rattle.models.specs.declared.Model.{Model}
 use Rattle.parts.specs.Parts.{partsOf, partsFit, formed}
 use Rattle.parts.specs.Ends.{endsFrom, partsFound}

@@ -6,7 +6,7 @@ use lib.Dec.{leb, ltb}
 use lib.ListN.{length}
 use Rattle.text.specs.Bytes.{allOf}
 use Rattle.text.specs.Split.{split}
-use Rattle.text.specs.declared.Class.the-variants.{Digits}
+use Rattle.classes.specs.declared.Class.the-variants.{Digits}
 use Rattle.models.specs.declared.Model.{Model}
 
 -- ---------------------------------------------------------------------------

@@ -51,7 +51,7 @@ fn digit(s: &[u8], lengths: &[u8], at: usize) -> usize
     let mut n = 0;
     while n < s.len() {
         let b = s[n];
-        if text::is_digit(b) {
+        if classes::is_digit(b) {
             n += 1;
         } else {
             if b != 45 {

@@ -8,12 +8,13 @@ use native.Mathlib.Omega.{arith}
 use lib.Dec.{leb}
 use lib.ListN.{length, take, drop}
 use borrow.Author.Tests.{lt-leb, le-leb}
-use Rattle.refusal.specs.Verdict.{onlyIf, andThen}
-use Rattle.refusal.proofs.Verdicts.{passed, failed, met}
+use Rattle.verdict.specs.Verdict.{onlyIf, andThen}
+use Rattle.verdict.proofs.Verdicts.{passed, failed, met}
 use Rattle.text.specs.Bytes.{bytesVerdict}
-use Rattle.text.specs.declared.Class.the-variants.{Reference}
+use Rattle.classes.specs.declared.Class.the-variants.{Reference}
 use Rattle.text.specs.declared.Found.the-variants.{At}
-use Rattle.text.proofs.Laws.{taken, all-passes}
+use Rattle.classes.proofs.Choices.{taken}
+use Rattle.text.proofs.Laws.{all-passes}
 use Rattle.models.specs.declared.Group.{Group}
 use Rattle.models.specs.declared.Model.{Model}
 use Rattle.parts.specs.Parts.{partsOf, formed}

@@ -9,13 +9,14 @@ use native.Mathlib.Omega.{arith}
 use lib.Dec.{leb}
 use lib.ListN.{length}
 use Rattle.refusal.specs.Only.{Only, defined-only}
-use Rattle.refusal.specs.Verdict.{onlyIf, Within}
-use Rattle.refusal.proofs.Verdicts.{both-pass, test-holds, then-within, only-within}
+use Rattle.verdict.specs.Verdict.{onlyIf, Within}
+use Rattle.verdict.proofs.Verdicts.{both-pass, test-holds, then-within, only-within}
 use Rattle.text.specs.Bytes.{bytesVerdict}
-use Rattle.text.specs.declared.Class.the-variants.{Reference}
+use Rattle.classes.specs.declared.Class.the-variants.{Reference}
 use Rattle.text.specs.declared.Found.{Found}
 use Rattle.text.specs.declared.Found.the-variants.{At, Nothing}
-use Rattle.text.proofs.Laws.{both-true, all-passes, bytes-within}
+use Rattle.classes.proofs.Choices.{both-true}
+use Rattle.text.proofs.Laws.{all-passes, bytes-within}
 use Rattle.models.specs.declared.Model.{Model}
 use Rattle.model_text.specs.Texts.{modelNumber}
 use Rattle.models.specs.Models.{modelOf}

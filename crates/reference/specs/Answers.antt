@@ -5,9 +5,9 @@ use mathlib.Core.List.{List}
 use Prim.Native.Nat.{ℕ}
 use lib.Dec.{leb}
 use lib.ListN.{length}
-use Rattle.refusal.specs.Verdict.{onlyIf, andThen}
+use Rattle.verdict.specs.Verdict.{onlyIf, andThen}
 use Rattle.text.specs.Bytes.{bytesVerdict}
-use Rattle.text.specs.declared.Class.the-variants.{Reference}
+use Rattle.classes.specs.declared.Class.the-variants.{Reference}
 use Rattle.text.specs.declared.Found.{Found}
 use Rattle.text.specs.declared.Found.the-variants.{At, Nothing}
 use Rattle.models.specs.declared.Model.{Model}

@@ -4,8 +4,8 @@
 ghost use mathlib.Core.Path.{_≡_};
 ghost use Rattle.models.specs.Models.{modelOf};
 ghost use Rattle.reference.specs.Answers.{obeys, modelledVerdict, referenceVerdict};
+use classes::Class;
 use models::Model;
-use text::Class;
 use text::Found;
 
 // Whether a text obeys a model: its parts, and their check groups.

@@ -1,3 +1,2 @@
--- What is promised of refusals, and the laws of verdicts.
+-- What is promised of refusals.
 pub mod Theorems
-pub mod Verdicts

@@ -9,7 +9,6 @@ use Rattle.refusal.specs.declared.Refusal.{Refusal}
 use Rattle.refusal.specs.Only.{Only, defined-only}
 use Rattle.refusal.specs.declared.Refusal.the-variants.{Size, Ends, Byte, Length, Form, Check, Model, Parts, Digit, Misplaced, Date, Orders, Sum, Unfinished, Room, Marks, Beyond}
 use Rattle.refusal.specs.Refusal.{none, numberOf, placeOf, neededOf, refusalOf, moved, inLine, isAccepted}
-use Rattle.refusal.specs.Verdict.{verdictByte, answerOf, answerIn}
 
 -- ---------------------------------------------------------------------------
 -- The paper's number, the place and the needed number say all that a refusal holds
@@ -60,12 +59,3 @@ made-only k p n = defined-only (refusalOf k p n)
 
 pub in-line-only : (n : ℕ) (q : Refusal) → Only (λ (r : Refusal). r ≡ inLine n q)
 in-line-only n q = defined-only (inLine n q)
-
-pub byte-of-only : (v : ℕ) → Only (λ (r : ℕ). r ≡ verdictByte v)
-byte-of-only v = defined-only (verdictByte v)
-
-pub answer-of-only : (v field byte : ℕ) → Only (λ (r : Answer). r ≡ answerOf v field byte)
-answer-of-only v field byte = defined-only (answerOf v field byte)
-
-pub answer-in-only : (v field : ℕ) → Only (λ (r : Answer). r ≡ answerIn field v)
-answer-in-only v field = defined-only (answerIn field v)

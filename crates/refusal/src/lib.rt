@@ -1,11 +1,9 @@
 // The refusals of document 01, "Refusal numbers": one case for each number, each with its place.
 //
 // What the paper's number, place and needed count of a refusal are is said once, in specs/Refusal.antt,
-// and every promise above speaks of refusals through it. A request of document 02 adds a case here. A rule that knows
-// no place answers a verdict (specs/Verdict.antt), and whoever knows the place makes an answer of it.
+// and every promise above speaks of refusals through it. A request of document 02 adds a case here.
 ghost use mathlib.Core.Path.{_≡_};
 ghost use Rattle.refusal.specs.Refusal.{none, numberOf, placeOf, neededOf, refusalOf, moved, inLine, isAccepted};
-ghost use Rattle.refusal.specs.Verdict.{verdictByte, verdictNumber, answerOf, answerIn};
 
 // Where a refusal stands. Lines and fields count from 1, bytes from 0; 0 stands for "none".
 pub struct Place {
@@ -178,49 +176,4 @@ pub fn in_line(line: usize, refusal: Refusal) -> Refusal
     let field = p.field;
     let byte = p.byte;
     put(refusal, Place { line, field, byte })
-}
-
-// ---------------------------------------------------------------------------
-// Verdicts: what a rule says of a text before it is known where that stands, as one number
-
-// The offending byte that a verdict tells; 0 where it tells none.
-pub fn byte_of(verdict: usize) -> usize
-    ensures { λ r. ⌜ r ≡ verdictByte verdict ⌝ }
-{
-    if 32 <= verdict {
-        return verdict - 32;
-    }
-    0
-}
-
-// The number of the refusal that a verdict is.
-fn number_of(verdict: usize) -> usize
-    ensures { λ r. ⌜ r ≡ verdictNumber verdict ⌝ }
-{
-    if 32 <= verdict {
-        return 3;
-    }
-    verdict
-}
-
-// A verdict told of a field and a byte.
-pub fn answer_of(verdict: usize, field: usize, byte: usize) -> Answer
-    ensures { λ r. ⌜ r ≡ answerOf verdict field byte ⌝ }
-{
-    if verdict == 0 {
-        return Answer::Accepted;
-    }
-    let place = Place {
-        line: 0,
-        field,
-        byte,
-    };
-    Answer::Refused(made(number_of(verdict), place, 0))
-}
-
-// A verdict told of a field, the byte counted within it.
-pub fn answer_in(verdict: usize, field: usize) -> Answer
-    ensures { λ r. ⌜ r ≡ answerIn field verdict ⌝ }
-{
-    answer_of(verdict, field, byte_of(verdict))
 }

@@ -9,9 +9,11 @@ use native.Mathlib.Nat.{zero-add, suc-add, add-comm, add-mul, mul-assoc, pow-suc
 use lib.Arith.{mod-mul, digits-div}
 use lib.ListN.{length}
 use lib.Pow.{pow-add}
-use Rattle.text.proofs.Laws.{both-true, digit-between, digit-bounds}
-use Rattle.text.specs.Bytes.{isDigit, allOf}
-use Rattle.text.specs.declared.Class.the-variants.{Digits}
+use Rattle.classes.proofs.Choices.{both-true}
+use Rattle.classes.proofs.Laws.{digit-between, digit-bounds}
+use Rattle.classes.specs.Classes.{isDigit}
+use Rattle.text.specs.Bytes.{allOf}
+use Rattle.classes.specs.declared.Class.the-variants.{Digits}
 use Rattle.text.specs.Digits.{digitsOf, valueFrom, valueOf, digitsText}
 
 -- ---------------------------------------------------------------------------

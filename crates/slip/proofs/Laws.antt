@@ -11,18 +11,20 @@ use lib.ListN.{length, take, drop, getD, length-drop}
 use lib.Seq.{drop-drop, length-take-le}
 use borrow.Author.Tests.{ne-eqb, eq-eqb, le-leb, lt-leb}
 use Rattle.refusal.specs.Refusal.{none, firstOf}
-use Rattle.refusal.specs.Verdict.{answerAt}
+use Rattle.verdict.specs.Verdict.{answerAt}
 use Rattle.refusal.specs.declared.Answer.{Answer}
 use Rattle.refusal.specs.declared.Answer.the-variants.{Accepted, Refused}
 use Rattle.refusal.specs.declared.Refusal.{Refusal}
 use Rattle.refusal.specs.declared.Refusal.the-variants.{Size, Ends}
-use Rattle.text.specs.Bytes.{permits, later, firstBad, countOf}
-use Rattle.text.specs.declared.Class.{Class}
-use Rattle.text.specs.declared.Class.the-variants.{Line}
+use Rattle.classes.specs.Classes.{permits}
+use Rattle.text.specs.Bytes.{later, firstBad, countOf}
+use Rattle.classes.specs.declared.Class.{Class}
+use Rattle.classes.specs.declared.Class.the-variants.{Line}
 use Rattle.text.specs.declared.Found.{Found}
 use Rattle.text.specs.declared.Found.the-variants.{At, Nothing}
 use Rattle.text.specs.Split.{longer, split}
-use Rattle.text.proofs.Laws.{to-the-end, left, entered, and-first, and-second}
+use Rattle.text.proofs.Laws.{to-the-end}
+use Rattle.classes.proofs.Choices.{left, entered, and-first, and-second}
 use Rattle.slip_fields.specs.Fields.{fieldVerdict}
 use Rattle.slip.specs.Slip.{slipEnds, fieldsAnswer, slipAnswer}
 

@@ -12,15 +12,15 @@ use lib.ListN.{length, getD}
 use borrow.Author.Tests.{eq-eqb, eqb-true, leb-true}
 use Rattle.refusal.specs.Only.{Only, defined-only}
 use Rattle.refusal.specs.Refusal.{none}
-use Rattle.refusal.specs.Verdict.{answerAt}
+use Rattle.verdict.specs.Verdict.{answerAt}
 use Rattle.refusal.specs.declared.Answer.{Answer}
 use Rattle.refusal.specs.declared.Answer.the-variants.{Accepted, Refused}
 use Rattle.refusal.specs.declared.Refusal.{Refusal}
 use Rattle.refusal.specs.declared.Refusal.the-variants.{Size, Ends}
-use Rattle.refusal.proofs.Verdicts.{answer-accepted, first-both}
+use Rattle.verdict.proofs.Verdicts.{answer-accepted, first-both}
 use Rattle.text.specs.Bytes.{countOf}
 use Rattle.text.specs.Split.{split}
-use Rattle.text.proofs.Laws.{both-true, and-second}
+use Rattle.classes.proofs.Choices.{both-true, and-second}
 use Rattle.slip_fields.specs.Fields.{fieldVerdict}
 use Rattle.slip.specs.Slip.{slipEnds, fieldsAnswer, slipAnswer, pieceOf}
 use Rattle.slip.proofs.Laws.{pieces-counted, fields-judged}

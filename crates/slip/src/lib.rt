@@ -6,13 +6,13 @@ ghost use mathlib.Core.Path.{_≡_};
 ghost use mathlib.Core.List.{[]};
 ghost use Prim.Native.Nat.{_+_, _<_, _^_};
 ghost use lib.ListN.{length};
-ghost use Rattle.refusal.specs.Verdict.{answerAt};
+ghost use Rattle.verdict.specs.Verdict.{answerAt};
 ghost use Rattle.text.specs.Split.{split};
 ghost use Rattle.slip_fields.specs.Fields.{fieldVerdict};
 ghost use Rattle.slip.specs.Slip.{slipEnds, fieldsAnswer, slipAnswer};
+use classes::Class;
 use refusal::Answer;
 use refusal::Refusal;
-use text::Class;
 use text::Found;
 
 // Whether there are fourteen line feeds, one of them last.
@@ -35,7 +35,7 @@ fn judge_one(n: usize, start: usize, before: &[u8], s: &[u8]) -> Answer
     ensures { λ r. ⌜ r ≡ answerAt n start (fieldVerdict n (now (before .entry)) (now (s .entry))) ⌝ }
 {
     let verdict = slip_fields::judge_field(n, before, s);
-    refusal::answer_of(verdict, n, start + refusal::byte_of(verdict))
+    verdict::answer_of(verdict, n, start + verdict::byte_of(verdict))
 }
 
 // The fields in order, up to the first refusal, each from line feed to line feed.

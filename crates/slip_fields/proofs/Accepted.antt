@@ -8,15 +8,18 @@ use native.Mathlib.Omega.{arith}
 use lib.Dec.{eqb}
 use lib.ListN.{length, getD}
 use borrow.Author.Tests.{eqb-true, eq-eqb, ne-eqb, leb-true}
-use Rattle.refusal.specs.Verdict.{onlyIf}
-use Rattle.refusal.proofs.Verdicts.{both-pass, test-holds}
-use Rattle.text.specs.Bytes.{isDigit, permits, allOf, bytesVerdict, same}
+use Rattle.verdict.specs.Verdict.{onlyIf}
+use Rattle.verdict.proofs.Verdicts.{both-pass, test-holds}
+use Rattle.classes.specs.Classes.{isDigit, permits}
+use Rattle.text.specs.Bytes.{allOf, bytesVerdict, same}
 use Rattle.text.specs.Digits.{twoDigits}
-use Rattle.text.specs.declared.Class.{Class}
-use Rattle.text.specs.declared.Class.the-variants.{Account, Reference, Line}
+use Rattle.classes.specs.declared.Class.{Class}
+use Rattle.classes.specs.declared.Class.the-variants.{Account, Reference, Line}
 use Rattle.text.specs.declared.Found.{Found}
 use Rattle.text.specs.declared.Found.the-variants.{At, Nothing}
-use Rattle.text.proofs.Laws.{both-true, and-second, digit-bounds, isNothing, passes-all}
+use Rattle.classes.proofs.Choices.{both-true, and-second}
+use Rattle.classes.proofs.Laws.{digit-bounds}
+use Rattle.text.proofs.Laws.{isNothing, passes-all}
 use Rattle.characters.specs.Answers.{charactersVerdict}
 use Rattle.characters.proofs.Theorems as texts
 use Rattle.account.specs.Answers.{ibanVerdict}

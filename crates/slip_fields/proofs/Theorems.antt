@@ -9,11 +9,12 @@ use lib.Dec.{eqb, leb}
 use lib.ListN.{length}
 use borrow.Author.Tests.{ne-eqb}
 use Rattle.refusal.specs.Only.{Only, defined-only}
-use Rattle.refusal.specs.Verdict.{Within}
-use Rattle.refusal.proofs.Verdicts.{choice-within, then-within, only-within}
-use Rattle.text.specs.Bytes.{permits, allOf, same, eur}
-use Rattle.text.specs.declared.Class.{Class}
-use Rattle.text.specs.declared.Class.the-variants.{Digits, Account, Reference, Line, Letters}
+use Rattle.verdict.specs.Verdict.{Within}
+use Rattle.verdict.proofs.Verdicts.{choice-within, then-within, only-within}
+use Rattle.classes.specs.Classes.{permits}
+use Rattle.text.specs.Bytes.{allOf, same, eur}
+use Rattle.classes.specs.declared.Class.{Class}
+use Rattle.classes.specs.declared.Class.the-variants.{Digits, Account, Reference, Line, Letters}
 use Rattle.text.proofs.Laws.{bytes-within, found-within, all-passes}
 use Rattle.characters.specs.Characters.{firstWrong, characters}
 use Rattle.characters.proofs.Laws.{wrong-below}

@@ -4,10 +4,10 @@ use mathlib.Core.Bool.{cond, _||_}
 use mathlib.Core.List.{List, [], _∷_}
 use lib.Dec.{eqb}
 use lib.ListN.{length}
-use Rattle.refusal.specs.Verdict.{onlyIf, andThen}
+use Rattle.verdict.specs.Verdict.{onlyIf, andThen}
 use Rattle.text.specs.Bytes.{bytesVerdict, same, eur}
-use Rattle.text.specs.declared.Class.{Class}
-use Rattle.text.specs.declared.Class.the-variants.{Digits, Letters}
+use Rattle.classes.specs.declared.Class.{Class}
+use Rattle.classes.specs.declared.Class.the-variants.{Digits, Letters}
 use Rattle.characters.specs.Answers.{charactersVerdict}
 use Rattle.account.specs.Answers.{ibanVerdict}
 use Rattle.model_text.specs.Texts.{modelVerdict}

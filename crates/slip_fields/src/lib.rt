@@ -4,7 +4,7 @@
 // within the field, and whoever knows where the field stands says so.
 ghost use mathlib.Core.Path.{_≡_};
 ghost use Rattle.slip_fields.specs.Fields.{wordVerdict, sizedVerdict, mostOf, fieldVerdict};
-use text::Class;
+use classes::Class;
 
 // A required word: 5.
 fn judge_word(word: &[u8], s: &[u8]) -> usize

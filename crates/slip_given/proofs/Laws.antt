@@ -9,8 +9,8 @@ use lib.ListN.{length}
 use Rattle.refusal.specs.declared.Refusal.{Refusal}
 use Rattle.refusal.specs.declared.Answer.{Answer}
 use Rattle.refusal.specs.Refusal.{firstOf}
-use Rattle.refusal.specs.Verdict.{answerIn}
-use Rattle.refusal.proofs.Verdicts.{first-joined}
+use Rattle.verdict.specs.Verdict.{answerIn}
+use Rattle.verdict.proofs.Verdicts.{first-joined}
 use Rattle.slip_fields.specs.Fields.{fieldVerdict}
 use Rattle.slip_given.specs.Given.{givenAnswer}
 

@@ -2,7 +2,7 @@
 use mathlib.Core.List.{List, [], _∷_}
 use Prim.Native.Nat.{ℕ, _+_}
 use Rattle.refusal.specs.Refusal.{firstOf}
-use Rattle.refusal.specs.Verdict.{answerIn}
+use Rattle.verdict.specs.Verdict.{answerIn}
 use Rattle.refusal.specs.declared.Answer.{Answer}
 use Rattle.refusal.specs.declared.Answer.the-variants as answer
 use Rattle.slip_fields.specs.Fields.{fieldVerdict}

@@ -12,7 +12,7 @@ use refusal::Answer;
 fn judge_one(n: usize, before: &[u8], s: &[u8]) -> Answer
     ensures { λ r. ⌜ r ≡ givenAnswer n (now (before .entry)) (now (s .entry) ∷ []) ⌝ }
 {
-    refusal::answer_in(slip_fields::judge_field(n, before, s), n)
+    verdict::answer_in(slip_fields::judge_field(n, before, s), n)
 }
 
 // Three fields from field n on.

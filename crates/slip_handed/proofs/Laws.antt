@@ -11,12 +11,13 @@ use lib.Seq.{drop-drop, length-take-le, take-all}
 use borrow.Author.Tests.{le-leb}
 use Rattle.refusal.specs.Refusal.{isAccepted}
 use Rattle.text.specs.Bytes.{firstBad}
-use Rattle.text.specs.declared.Class.the-variants.{Line}
+use Rattle.classes.specs.declared.Class.the-variants.{Line}
 use Rattle.text.specs.declared.Found.{Found}
 use Rattle.text.specs.declared.Found.the-variants.{At, Nothing}
 use Rattle.text.specs.declared.Part.{Part}
 use Rattle.text.specs.Split.{split}
-use Rattle.text.proofs.Laws.{to-the-end, left, entered}
+use Rattle.text.proofs.Laws.{to-the-end}
+use Rattle.classes.proofs.Choices.{left, entered}
 use Rattle.slip.specs.Slip.{slipAnswer, pieceOf}
 use Rattle.slip.proofs.Laws.{first-piece, split-at, split-whole}
 use Rattle.slip_handed.specs.Handed.{startOf, piecePart, isHanded, fieldPart, fieldOf}

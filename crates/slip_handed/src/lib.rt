@@ -8,9 +8,9 @@ ghost use Rattle.refusal.specs.Refusal.{isAccepted};
 ghost use Rattle.text.specs.Split.{split};
 ghost use Rattle.slip.specs.Slip.{slipAnswer, pieceOf};
 ghost use Rattle.slip_handed.specs.Handed.{piecePart, fieldPart, fieldOf, centsOf};
+use classes::Class;
 use refusal::Answer;
 use refusal::Refusal;
-use text::Class;
 use text::Found;
 use text::Part;
 

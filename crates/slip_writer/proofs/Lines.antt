@@ -9,9 +9,9 @@ use lib.ListN.{length, getD, length-append}
 use lib.Seq.{getD-append-add}
 use borrow.Author.Tests.{eqb-true, eqb-false, not-true}
 use Rattle.text.specs.Bytes.{allOf, countOf}
-use Rattle.text.specs.declared.Class.the-variants.{Line}
+use Rattle.classes.specs.declared.Class.the-variants.{Line}
 use Rattle.text.specs.Split.{longer, split}
-use Rattle.text.proofs.Laws.{both-true}
+use Rattle.classes.proofs.Choices.{both-true}
 use Rattle.slip_writer.specs.Writer.{joinLines}
 use Rattle.slip_writer.specs.Claims.{EachLine, none, more, linesOf}
 

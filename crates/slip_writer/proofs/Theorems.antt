@@ -15,12 +15,12 @@ use Rattle.refusal.specs.declared.Answer.{Answer}
 use Rattle.refusal.specs.declared.Answer.the-variants.{Accepted, Refused}
 use Rattle.refusal.specs.Refusal.{none}
 use Rattle.refusal.specs.declared.Refusal.{Refusal}
-use Rattle.refusal.specs.Verdict.{answerAt}
-use Rattle.refusal.proofs.Verdicts.{answer-accepted, first-both}
+use Rattle.verdict.specs.Verdict.{answerAt}
+use Rattle.verdict.proofs.Verdicts.{answer-accepted, first-both}
 use Rattle.text.specs.Digits.{digitsOf, valueOf, digitsText}
 use Rattle.text.specs.Split.{split}
 use Rattle.text.specs.Bytes.{countOf, eur}
-use Rattle.text.proofs.Laws.{both-true}
+use Rattle.classes.proofs.Choices.{both-true}
 use Rattle.slip_fields.specs.Fields.{hrvhub30, fieldVerdict}
 use Rattle.slip_fields.proofs.Theorems.{no-line-feed, first-is-hrvhub30, second-is-eur, third-is-digits, hrvhub30-accepted, eur-accepted, digits-accepted, before-matters-to-12-alone}
 use Rattle.room.proofs.Digits.{digits-length, text-digits, number-back, value-below, digits-again}

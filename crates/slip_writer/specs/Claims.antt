@@ -6,7 +6,7 @@ use Prim.Native.Nat.{ℕ, _-_, _^_, _≤_, _<_}
 use lib.ListN.{length, getD}
 use Rattle.refusal.specs.declared.Answer.the-variants.{Accepted}
 use Rattle.text.specs.Bytes.{allOf}
-use Rattle.text.specs.declared.Class.the-variants.{Line}
+use Rattle.classes.specs.declared.Class.the-variants.{Line}
 use Rattle.text.specs.Split.{split}
 use Rattle.text.specs.Digits.{digitsText}
 use Rattle.slip.specs.Slip.{pieceOf, slipAnswer}

@@ -3,7 +3,7 @@ use mathlib.Core.Bool.{cond, _&&_}
 use mathlib.Core.List.{List}
 use Prim.Native.Nat.{ℕ, _+_}
 use lib.Dec.{eqb, ltb}
-use Rattle.refusal.specs.Verdict.{onlyIf, andThen}
+use Rattle.verdict.specs.Verdict.{onlyIf, andThen}
 use Rattle.sums.specs.Sums.{noCents, sumOf, added, sameSum, numberOf, numberIn}
 use Rattle.wage_places.specs.declared.LineType.{LineType}
 use Rattle.wage_places.specs.declared.LineType.the-variants.{Label, Group, Order, Closing}

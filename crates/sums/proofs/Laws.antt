@@ -9,7 +9,7 @@ use native.Mathlib.Omega.{arith}
 use lib.Dec.{ltb, eqb, lit<}
 use borrow.Author.Tests.{lt-ltb, le-ltb, ltb-true, ltb-false, eq-eqb, ne-eqb, eqb-true, eqb-false}
 use Rattle.text.specs.Digits.{valueFrom}
-use Rattle.text.proofs.Laws.{taken, left}
+use Rattle.classes.proofs.Choices.{taken, left}
 use Rattle.text.proofs.Values.{value-keeps}
 use Rattle.sums.specs.Sums.{limb, centsOf, noCents, sumOf, added}
 

@@ -9,9 +9,9 @@ use lib.Dec.{eqb}
 use lib.ListN.{length, take, getD}
 use lib.Seq.{take-suc}
 use borrow.Author.Tests.{ne-eqb}
-use Rattle.text.specs.declared.Class.the-variants.{Blanks}
+use Rattle.classes.specs.declared.Class.the-variants.{Blanks}
 use Rattle.text.specs.Bytes.{allOf, trimmed}
-use Rattle.text.proofs.Laws.{left}
+use Rattle.classes.proofs.Choices.{left}
 
 -- a text of blanks alone is nothing without them
 pub trimmed-blanks : (s : List ℕ) → allOf Blanks s ≡ true → trimmed s ≡ []

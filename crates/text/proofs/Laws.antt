@@ -1,7 +1,7 @@
 -- Laws that every crate's proofs cite: of choices on a test, of tests, and of the texts that loops walk through.
 -- Assumes nothing.
 use mathlib.Core.Path.{_≡_, refl, sym, ap, subst, _∙_}
-use mathlib.Core.Bool.{Bool, true, false, cond, _&&_, _||_, and-true, and-assoc, false≢true}
+use mathlib.Core.Bool.{Bool, true, false, cond, _&&_, and-true, and-assoc, false≢true}
 use mathlib.Core.List.{List, [], _∷_, _++_}
 use Prim.Native.Nat.{ℕ, suc, _+_, _-_, _*_, _≤_, _<_}
 use native.Mathlib.Numerals.{add-one}
@@ -10,70 +10,18 @@ use native.Mathlib.Nat.{zero-add, add-zero}
 use lib.Dec.{eqb, leb}
 use lib.ListN.{length, take, drop, getD, length-drop, take-append-drop}
 use lib.Seq.{drop-cons, drop-length, take-all}
-use borrow.Author.Tests.{ne-eqb, eq-eqb, lt-leb, le-leb, leb-true, leb-false}
-use Rattle.text.specs.declared.Class.{Class}
+use borrow.Author.Tests.{ne-eqb, eq-eqb, leb-true, leb-false}
+use Rattle.classes.specs.declared.Class.{Class}
 use Rattle.text.specs.declared.Found.{Found}
 use Rattle.text.specs.declared.Found.the-variants.{At, Nothing}
 use Rattle.text.specs.Digits.{digitsOf, valueFrom}
-use Rattle.refusal.specs.Verdict.{Within}
-use Rattle.text.specs.Bytes.{isDigit, permits, later, firstBad, found, bytesVerdict, allOf, countOf}
+use Rattle.verdict.specs.Verdict.{Within}
+use Rattle.classes.specs.Classes.{isDigit, permits}
+use Rattle.text.specs.Bytes.{later, firstBad, found, bytesVerdict, allOf, countOf}
+use Rattle.classes.proofs.Choices.{and-first, and-second, both-true}
 
 -- ---------------------------------------------------------------------------
--- Choices on a test
-
-module _ {A : Type 0} where
-  -- the test held: the first answer
-  pub taken : (b : Bool) (x y : A) → b ≡ true → x ≡ cond b x y
-  taken true x y e = refl
-  taken false x y e = let z : _≡_ {A = ℕ} 0 1 = cc in absurd (omega arith)
-
-  -- the test failed: what answers the rest answers the whole
-  pub left : (b : Bool) (x y r : A) → b ≡ false → r ≡ y → r ≡ cond b x y
-  left false x y r e h = h
-  left true x y r e h = let z : _≡_ {A = ℕ} 0 1 = cc in absurd (omega arith)
-
-  -- the test held: what answers the first part answers the whole
-  pub entered : (b : Bool) (x y r : A) → b ≡ true → r ≡ x → r ≡ cond b x y
-  entered true x y r e h = h
-  entered false x y r e h = let z : _≡_ {A = ℕ} 0 1 = cc in absurd (omega arith)
-
--- ---------------------------------------------------------------------------
--- Tests joined
-
-pub or-first : (a b : Bool) → a ≡ true → true ≡ (a || b)
-or-first true b e = refl
-or-first false b e = let z : _≡_ {A = ℕ} 0 1 = cc in absurd (omega arith)
-
-pub or-second : (a b r : Bool) → a ≡ false → r ≡ b → r ≡ (a || b)
-or-second false b r e h = h
-or-second true b r e h = let z : _≡_ {A = ℕ} 0 1 = cc in absurd (omega arith)
-
-pub and-first : (a b : Bool) → a ≡ false → false ≡ (a && b)
-and-first false b e = refl
-and-first true b e = let z : _≡_ {A = ℕ} 0 1 = cc in absurd (omega arith)
-
-pub and-second : (a b r : Bool) → a ≡ true → r ≡ b → r ≡ (a && b)
-and-second true b r e h = h
-and-second false b r e h = let z : _≡_ {A = ℕ} 0 1 = cc in absurd (omega arith)
-
-pub both-true : (a b : Bool) → (a && b) ≡ true → (a ≡ true) × (b ≡ true)
-both-true true b e = (refl, e)
-both-true false b e = let z : _≡_ {A = ℕ} 0 1 = cc in absurd (omega arith)
-
--- ---------------------------------------------------------------------------
--- Digits of a text
-
-pub no-digit-below : (b : ℕ) → b < 48 → isDigit b ≡ false
-no-digit-below b h = sym (and-first (leb 48 b) (leb b 57) (lt-leb 48 b h))
-
-pub no-digit-above : (b : ℕ) → 48 ≤ b → 57 < b → isDigit b ≡ false
-no-digit-above b g h = sym (and-second (leb 48 b) (leb b 57) false (le-leb 48 b g) (sym (lt-leb b 57 h)))
-
-pub digit-between : (b : ℕ) → 48 ≤ b → b ≤ 57 → isDigit b ≡ true
-digit-between b g h = sym (and-second (leb 48 b) (leb b 57) true (le-leb 48 b g) (sym (le-leb b 57 h)))
-
-pub digit-bounds : (b : ℕ) → isDigit b ≡ true → (48 ≤ b) × (b ≤ 57)
-digit-bounds b e = let h = both-true (leb 48 b) (leb b 57) e in (leb-true 48 b (h .0), leb-true b 57 (h .1))
+-- Digits
 
 pub digits-append : (s t : List ℕ) → digitsOf (s ++ t) ≡ digitsOf s ++ digitsOf t
 unfolding digitsOf

@@ -10,7 +10,7 @@ use lib.Dec.{eqb}
 use lib.ListN.{length, drop, getD}
 use lib.Seq.{drop-cons, drop-length}
 use borrow.Author.Tests.{ne-eqb, eq-eqb, eqb-true}
-use Rattle.text.proofs.Laws.{both-true}
+use Rattle.classes.proofs.Choices.{both-true}
 use Rattle.text.specs.Bytes.{same}
 
 -- texts that are the same bytes are one text

@@ -5,25 +5,19 @@ use mathlib.Core.Bool.{Bool}
 use mathlib.Core.List.{List}
 use Prim.Native.Nat.{ℕ}
 use Rattle.refusal.specs.Only.{Only, defined-only}
-use Rattle.text.specs.declared.Class.{Class}
-use Rattle.text.specs.declared.Class.the-variants.{Blanks, Description}
+use Rattle.classes.specs.declared.Class.{Class}
+use Rattle.classes.specs.declared.Class.the-variants.{Blanks, Description}
 use Rattle.text.specs.declared.Found.{Found}
-use Rattle.text.specs.Bytes.{isDigit, isLetter, permits, firstBad, bytesVerdict, allOf, trimmed, countOf, same}
+use Rattle.text.specs.Bytes.{firstBad, bytesVerdict, allOf, trimmed, countOf, same}
 use Rattle.text.specs.Digits.{twoDigits}
 
 -- ---------------------------------------------------------------------------
 -- Any two answers that a contract allows are equal
 
-pub is-digit-only : (b : ℕ) → Only (λ (r : Bool). r ≡ isDigit b)
-is-digit-only b = defined-only (isDigit b)
-
 pub two-digits-only : (a b : ℕ) → Only (λ (r : Found). r ≡ twoDigits a b)
 two-digits-only a b = defined-only (twoDigits a b)
 
 module _ (k : Class) where
-  pub permitted-only : (b : ℕ) → Only (λ (r : Bool). r ≡ permits k b)
-  permitted-only b = defined-only (permits k b)
-
   pub first-bad-only : (s : List ℕ) → Only (λ (r : Found). r ≡ firstBad k s)
   first-bad-only s = defined-only (firstBad k s)
 
@@ -38,9 +32,6 @@ all-blank-only s = all-of-only Blanks s
 
 pub all-described-only : (s : List ℕ) → Only (λ (r : Bool). r ≡ allOf Description s)
 all-described-only s = all-of-only Description s
-
-pub is-letter-only : (b : ℕ) → Only (λ (r : Bool). r ≡ isLetter b)
-is-letter-only b = defined-only (isLetter b)
 
 pub trim-only : (s : List ℕ) → Only (λ (r : List ℕ). r ≡ trimmed s)
 trim-only s = defined-only (trimmed s)

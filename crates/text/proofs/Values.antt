@@ -9,9 +9,10 @@ use native.Mathlib.Numerals.{add-one}
 use native.Mathlib.Omega.{arith}
 use lib.ListN.{length, take, drop, getD}
 use lib.Seq.{drop-cons, drop-length, take-suc}
-use Rattle.text.specs.Bytes.{isDigit}
+use Rattle.classes.specs.Classes.{isDigit}
 use Rattle.text.specs.Digits.{digitsOf, valueFrom}
-use Rattle.text.proofs.Laws.{digits-append, value-append, digit-bounds}
+use Rattle.text.proofs.Laws.{digits-append, value-append}
+use Rattle.classes.proofs.Laws.{digit-bounds}
 
 -- ---------------------------------------------------------------------------
 -- One byte more

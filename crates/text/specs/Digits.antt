@@ -4,7 +4,7 @@ use mathlib.Core.Bool.{cond, _&&_}
 use mathlib.Core.List.{List, [], _∷_}
 use Rattle.text.specs.declared.Found.{Found}
 use Rattle.text.specs.declared.Found.the-variants.{At, Nothing}
-use Rattle.text.specs.Bytes.{isDigit}
+use Rattle.classes.specs.Classes.{isDigit}
 
 -- the digits of a text as numbers, first to last; a hyphen, or whatever is no digit, is passed over
 unfoldable pub digitsOf : List ℕ → List ℕ

@@ -7,12 +7,13 @@ use mathlib.Core.List.{List}
 use Prim.Native.Nat.{ℕ}
 use lib.Dec.{eqb, leb}
 use lib.ListN.{take, drop}
-use Rattle.refusal.specs.Verdict.{andThen, onlyIf}
-use Rattle.refusal.proofs.Verdicts.{both-pass, pass-both, test-holds}
+use Rattle.verdict.specs.Verdict.{andThen, onlyIf}
+use Rattle.verdict.proofs.Verdicts.{both-pass, pass-both, test-holds}
 use Rattle.text.specs.Bytes.{bytesVerdict, allOf, same, eur}
-use Rattle.text.specs.declared.Class.{Class}
-use Rattle.text.specs.declared.Class.the-variants.{Digits, Blanks, Zeros, Place}
-use Rattle.text.proofs.Laws.{both-true, all-passes, passes-all}
+use Rattle.classes.specs.declared.Class.{Class}
+use Rattle.classes.specs.declared.Class.the-variants.{Digits, Blanks, Zeros, Place}
+use Rattle.classes.proofs.Choices.{both-true}
+use Rattle.text.proofs.Laws.{all-passes, passes-all}
 use Rattle.account.specs.Account.{oibPasses}
 use Rattle.account.specs.Answers.{isIban}
 use Rattle.account.proofs.Theorems.{iban-accepted-exactly}

@@ -7,12 +7,13 @@ use Prim.Native.Nat.{ℕ}
 use lib.ListN.{take, drop, take-append-drop}
 use borrow.Author.Tests.{eqb-true}
 use Rattle.text.specs.Bytes.{bytesVerdict, allOf}
-use Rattle.text.specs.declared.Class.the-variants.{Account, Blanks, Place}
-use Rattle.text.proofs.Laws.{or-first, both-true, all-joined, all-wider, all-passes, passes-all}
+use Rattle.classes.specs.declared.Class.the-variants.{Account, Blanks, Place}
+use Rattle.classes.proofs.Choices.{or-first, both-true}
+use Rattle.text.proofs.Laws.{all-joined, all-wider, all-passes, passes-all}
 use Rattle.account.specs.Account.{ibanFormed, ibanPasses}
 use Rattle.account.specs.Answers.{isIban}
 use Rattle.account.proofs.Laws.{formed-permitted}
-use Rattle.refusal.proofs.Verdicts.{pass-both}
+use Rattle.verdict.proofs.Verdicts.{pass-both}
 use Rattle.wage_contents.specs.Contents.{ibanPlaceVerdict}
 
 -- an IBAN with blanks behind it is bytes that its place permits

@@ -6,8 +6,8 @@ use mathlib.Core.List.{List}
 use Prim.Native.Nat.{ℕ}
 use Rattle.refusal.specs.Only.{Only, defined-only}
 use Rattle.wage_contents.specs.Contents.{tested, amongVerdict, oibPlaceVerdict, employerVerdict, dateVerdict, ibanPlaceVerdict, currencyVerdict}
-use Rattle.refusal.specs.Verdict.{onlyIf}
-use Rattle.text.specs.declared.Class.{Class}
+use Rattle.verdict.specs.Verdict.{onlyIf}
+use Rattle.classes.specs.declared.Class.{Class}
 
 -- ---------------------------------------------------------------------------
 -- Any two answers that a contract allows are equal

@@ -5,11 +5,11 @@ use mathlib.Core.List.{List}
 use Prim.Native.Nat.{ℕ, _<_}
 use native.Mathlib.Omega.{arith}
 use lib.ListN.{length, take, drop}
-use Rattle.refusal.specs.Verdict.{onlyIf, Within}
-use Rattle.refusal.proofs.Verdicts.{choice-within, then-within, only-within}
+use Rattle.verdict.specs.Verdict.{onlyIf, Within}
+use Rattle.verdict.proofs.Verdicts.{choice-within, then-within, only-within}
 use Rattle.text.specs.Bytes.{bytesVerdict, allOf, same, eur}
-use Rattle.text.specs.declared.Class.{Class}
-use Rattle.text.specs.declared.Class.the-variants.{Digits, Blanks, Zeros, Place}
+use Rattle.classes.specs.declared.Class.{Class}
+use Rattle.classes.specs.declared.Class.the-variants.{Digits, Blanks, Zeros, Place}
 use Rattle.text.proofs.Laws.{bytes-within}
 use Rattle.account.specs.Account.{oibPasses}
 use Rattle.account.proofs.Theorems.{iban-check-within}

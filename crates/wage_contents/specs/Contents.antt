@@ -7,10 +7,10 @@ use mathlib.Core.Bool.{Bool, cond, not, _&&_, _||_}
 use mathlib.Core.List.{List}
 use lib.Dec.{eqb, leb}
 use lib.ListN.{take, drop}
-use Rattle.refusal.specs.Verdict.{andThen, onlyIf}
+use Rattle.verdict.specs.Verdict.{andThen, onlyIf}
 use Rattle.text.specs.Bytes.{bytesVerdict, allOf, same, eur}
-use Rattle.text.specs.declared.Class.{Class}
-use Rattle.text.specs.declared.Class.the-variants.{Digits, Blanks, Zeros, Place}
+use Rattle.classes.specs.declared.Class.{Class}
+use Rattle.classes.specs.declared.Class.the-variants.{Digits, Blanks, Zeros, Place}
 use Rattle.account.specs.Account.{oibPasses}
 use Rattle.account.specs.Answers.{ibanCheckVerdict}
 use Rattle.dates.specs.Dates.{isDate}

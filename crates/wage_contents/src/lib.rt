@@ -5,9 +5,9 @@
 // `account::check_iban`: W7 changes what is behind those names. What only a 309 holds is the crate `order_contents`.
 ghost use mathlib.Core.Path.{_≡_};
 ghost use lib.ListN.{take, drop};
-ghost use Rattle.refusal.specs.Verdict.{onlyIf};
+ghost use Rattle.verdict.specs.Verdict.{onlyIf};
 ghost use Rattle.wage_contents.specs.Contents.{tested, amongVerdict, oibPlaceVerdict, employerVerdict, dateVerdict, ibanPlaceVerdict, currencyVerdict};
-use text::Class;
+use classes::Class;
 
 // ---------------------------------------------------------------------------
 // Tests

@@ -14,8 +14,8 @@ use borrow.Author.Tests.{eq-eqb, ne-eqb, eqb-true, eqb-false, leb-true, ltb-true
 use Rattle.refusal.specs.declared.Answer.{Answer}
 use Rattle.refusal.specs.declared.Answer.the-variants.{Accepted, Refused}
 use Rattle.refusal.specs.declared.Refusal.{Refusal}
-use Rattle.refusal.proofs.Verdicts.{first-both}
-use Rattle.text.proofs.Laws.{both-true}
+use Rattle.verdict.proofs.Verdicts.{first-both}
+use Rattle.classes.proofs.Choices.{both-true}
 use Rattle.room.proofs.Places.{sets-length, take-sets, drop-sets, place-filled, set-own, sets-over, sets-apart}
 use Rattle.wage_places.specs.declared.LineType.{LineType}
 use Rattle.wage_places.specs.declared.Spot.{Spot}

@@ -10,13 +10,13 @@ use lib.Dec.{eqb, ltb}
 use lib.ListN.{length, drop, getD, length-take, List·getD-eq-default}
 use borrow.Author.Tests.{ltb-true, ltb-false, eqb-true, ne-eqb}
 use Rattle.refusal.specs.Refusal.{none, placeOf, neededOf, refusalOf, firstOf}
-use Rattle.refusal.specs.Verdict.{verdictByte, verdictNumber, answerOf, answerAt, Within}
+use Rattle.verdict.specs.Verdict.{verdictByte, verdictNumber, answerOf, answerAt, Within}
 use Rattle.refusal.specs.declared.Answer.{Answer}
 use Rattle.refusal.specs.declared.Answer.the-variants.{Accepted, Refused}
 use Rattle.refusal.specs.declared.Place.{Place}
 use Rattle.refusal.specs.declared.Refusal.{Refusal}
 use Rattle.refusal.specs.declared.Refusal.the-variants.{Size, Ends, Byte, Length, Form, Check, Model, Parts, Digit, Misplaced, Date, Orders, Sum, Unfinished, Room, Marks, Beyond}
-use Rattle.refusal.proofs.Verdicts.{byte-within}
+use Rattle.verdict.proofs.Verdicts.{byte-within}
 use Rattle.wage_places.specs.declared.LineType.{LineType}
 use Rattle.wage_places.specs.declared.LineType.the-variants.{Label, Group, Order, Closing}
 use Rattle.wage_places.specs.declared.Spot.{Spot}

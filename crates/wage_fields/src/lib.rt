@@ -5,7 +5,7 @@
 ghost use mathlib.Core.Path.{_≡_};
 ghost use lib.ListN.{getD};
 ghost use Prim.Native.Nat.{_+_, _-_, _<_, _^_};
-ghost use Rattle.refusal.specs.Verdict.{verdictByte, answerAt};
+ghost use Rattle.verdict.specs.Verdict.{verdictByte, answerAt};
 ghost use Rattle.wage_places.specs.Places.{spots, noSpot};
 ghost use Rattle.wage_fields.specs.Rules.{placeVerdict, placeAnswer, spotsFrom, placesFrom, placesAnswer};
 use refusal::Answer;
@@ -32,7 +32,7 @@ fn told(p: Spot, verdict: usize) -> Answer
 {
     let field = p.field;
     let start = p.start;
-    refusal::answer_of(verdict, field, start + refusal::byte_of(verdict))
+    verdict::answer_of(verdict, field, start + verdict::byte_of(verdict))
 }
 
 // The places from one order up to another, in order: a line of another size is refused, else the first refusal stands, with its

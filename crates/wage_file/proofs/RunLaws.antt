@@ -13,8 +13,8 @@ use Rattle.refusal.specs.declared.Answer.{Answer}
 use Rattle.refusal.specs.declared.Answer.the-variants as answer
 use Rattle.refusal.specs.declared.Refusal.{Refusal}
 use Rattle.refusal.specs.Refusal.{inLine}
-use Rattle.refusal.specs.Verdict.{onlyIf, andThen}
-use Rattle.refusal.proofs.Verdicts.{both-pass, test-holds}
+use Rattle.verdict.specs.Verdict.{onlyIf, andThen}
+use Rattle.verdict.proofs.Verdicts.{both-pass, test-holds}
 use Rattle.sums.specs.Sums.{limb, sumOf, fits, sameSum, numberOf, numberIn}
 use Rattle.sums.proofs.Laws.{added-on}
 use Rattle.sums.proofs.Theorems.{sum-fits, sums-told-apart, text-small}

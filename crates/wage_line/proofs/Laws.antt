@@ -9,7 +9,7 @@ use lib.Dec.{eqb}
 use lib.ListN.{length, take, drop, getD, drop-of-length-le, List·getD-eq-default}
 use lib.Seq.{drop-cons}
 use borrow.Author.Tests.{eq-eqb, ne-eqb}
-use Rattle.text.proofs.Laws.{left, entered}
+use Rattle.classes.proofs.Choices.{left, entered}
 use Rattle.wage_line.specs.Line.{endsRight}
 
 -- ---------------------------------------------------------------------------

@@ -8,7 +8,7 @@ use lib.Dec.{leb}
 use lib.ListN.{length, take, drop, getD, length-drop, length-append, take-append-drop, drop-of-length-le}
 use lib.Seq.{drop-drop, drop-length, length-take-le, take-at, drop-at}
 use borrow.Author.Tests.{le-leb, lt-leb, leb-true, leb-false}
-use Rattle.text.proofs.Laws.{taken, left}
+use Rattle.classes.proofs.Choices.{taken, left}
 use Rattle.text.specs.Split.{joined}
 use Rattle.wage_line.specs.Pieces.{piecesOf, pieces, nextPiece}
 

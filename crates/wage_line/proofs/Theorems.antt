@@ -13,7 +13,7 @@ use Rattle.refusal.specs.Only.{Only, defined-only}
 use Rattle.refusal.specs.Refusal.{none}
 use Rattle.refusal.specs.declared.Refusal.{Refusal}
 use Rattle.refusal.specs.declared.Refusal.the-variants.{Size, Ends}
-use Rattle.text.proofs.Laws.{entered, and-second, both-true}
+use Rattle.classes.proofs.Choices.{entered, and-second, both-true}
 use Rattle.wage_places.specs.declared.LineType.{LineType}
 use Rattle.wage_places.specs.declared.LineType.the-variants.{Label, Group, Order, Closing}
 use Rattle.wage_line.specs.declared.Typed.{Typed}

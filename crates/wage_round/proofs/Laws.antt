@@ -14,9 +14,10 @@ use Rattle.refusal.specs.declared.Answer.the-variants.{Accepted, Refused}
 use Rattle.refusal.specs.declared.Refusal.the-variants.{Form, Date}
 use Rattle.text.specs.Bytes.{allOf}
 use Rattle.text.specs.Split.{joined}
-use Rattle.text.specs.declared.Class.the-variants.{Digits}
+use Rattle.classes.specs.declared.Class.the-variants.{Digits}
 use Rattle.text.specs.Digits.{digitsText}
-use Rattle.text.proofs.Laws.{both-true, passes-all}
+use Rattle.classes.proofs.Choices.{both-true}
+use Rattle.text.proofs.Laws.{passes-all}
 use Rattle.dates.specs.Dates.{isDate}
 use Rattle.sums.specs.Sums.{numberOf, numberIn}
 use Rattle.sums.proofs.Theorems.{text-small, number-of-all}
@@ -29,7 +30,7 @@ use Rattle.wage_line.proofs.Theorems.{typed-exactly}
 use Rattle.wage_line.proofs.PieceLaws.{AllWhole}
 use Rattle.wage_contents.proofs.Accepted.{among-accepted}
 use Rattle.wage_fields.specs.Rules.{placesAnswer}
-use Rattle.refusal.proofs.Verdicts.{first-both}
+use Rattle.verdict.proofs.Verdicts.{first-both}
 use Rattle.wage_fields.proofs.Theorems.{label-kind, group-number-digits, group-sum-digits}
 use Rattle.wage_file.specs.Right.{Payments, RightLine, kindOf, amounts, RightGroup}
 use Rattle.wage_draft.specs.Draft.{partsOf}

@@ -3,10 +3,10 @@
 //
 // A file of any size is read 64 lines at a time into one buffer; wage_file/proofs/Theorems.antt says that this gives the
 // answer of the whole file.
+use classes::Class;
 use condition::Ending;
 use condition::Judge;
 use refusal::Refusal;
-use text::Class;
 use words::say;
 use words::say_number;
 

@@ -9,10 +9,12 @@ use native.Mathlib.Omega.{arith}
 use lib.Dec.{eqb}
 use lib.ListN.{length, getD, List·getD-eq-default}
 use borrow.Author.Tests.{eq-eqb, le-leb}
-use Rattle.text.specs.Bytes.{isDigit, marks}
+use Rattle.classes.specs.Classes.{isDigit}
+use Rattle.text.specs.Bytes.{marks}
 use Rattle.text.specs.declared.Found.{Found}
 use Rattle.text.specs.declared.Found.the-variants.{At, Nothing}
-use Rattle.text.proofs.Laws.{digit-between, entered}
+use Rattle.classes.proofs.Laws.{digit-between}
+use Rattle.classes.proofs.Choices.{entered}
 use Rattle.account.specs.Answers.{isIban}
 use Rattle.models.specs.declared.Model.{Model}
 use Rattle.parts.specs.Ends.{partsFound}

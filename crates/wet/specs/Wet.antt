@@ -7,7 +7,7 @@ use lib.ListN.{length, drop, getD}
 use Rattle.refusal.specs.Refusal.{none}
 use Rattle.refusal.specs.declared.Refusal.the-variants.{Size, Byte, Form, Model, Marks}
 use Rattle.text.specs.Bytes.{allOf, marks}
-use Rattle.text.specs.declared.Class.the-variants.{WetAccount, WetReference}
+use Rattle.classes.specs.declared.Class.the-variants.{WetAccount, WetReference}
 use Rattle.text.specs.declared.Found.{Found}
 use Rattle.text.specs.declared.Found.the-variants.{At, Nothing}
 use Rattle.account.specs.Answers.{isIban}

@@ -12,11 +12,11 @@ ghost use Rattle.filling.specs.Filling.{fill};
 ghost use Rattle.fillings.specs.Fillings.{fillings};
 ghost use Rattle.fillings.specs.Answers.{leftBy};
 ghost use Rattle.wet.specs.Wet.{wetIban, ibanListing, aimFrom, modelListing, numberListing, numberFillings, referenceListing, referenceFillings};
+use classes::Class;
 use fillings::Aim;
 use fillings::Listed;
 use models::Model;
 use refusal::Refusal;
-use text::Class;
 use text::Found;
 
 // Whether a text is `HR` and then digits or `?`.

@@ -2,7 +2,7 @@
 -- Assumes nothing.
 use mathlib.Core.Path.{refl, sym, _∙_}
 use borrow.Author.Tests.{ne-eqb, eq-eqb}
-use Rattle.refusal.proofs.Verdicts.{refused, passed, failed, met}
+use Rattle.verdict.proofs.Verdicts.{refused, passed, failed, met}
 use Rattle.account.proofs.Theorems.{iban-accepted-exactly, iban-field-exactly}
 use borrow.Author.Needs.{needs}
 use Rattle.account.proofs.iban.Statement.{statement}

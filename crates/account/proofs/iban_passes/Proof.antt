@@ -6,7 +6,7 @@ use native.Mathlib.Omega.{arith}
 use lib.ListN.{length, take, drop}
 use borrow.Author.Tests.{not-true, not-false}
 use Rattle.text.specs.Digits.{digitsOf, valueOf}
-use Rattle.text.proofs.Laws.{and-first, and-second}
+use Rattle.classes.proofs.Choices.{and-first, and-second}
 use Rattle.account.specs.Account.{checkDigits, ibanFormed}
 use Rattle.account.proofs.Laws.{run-read, formed-length, number-decides, low-fails, high-fails}
 use borrow.Author.Needs.{needs}

@@ -1,9 +1,9 @@
 -- `account::is_iban_formed` meets its contract: each return is the definition's choice on the tests that led there. Assumes nothing.
 use mathlib.Core.Path.{ap, _∙_}
 use borrow.Author.Tests.{ne-eqb, eq-eqb}
-use Rattle.text.proofs.Laws.{and-first, and-second}
+use Rattle.classes.proofs.Choices.{and-first, and-second}
 use Rattle.text.specs.Bytes.{allOf}
-use Rattle.text.specs.declared.Class.the-variants.{Digits}
+use Rattle.classes.specs.declared.Class.the-variants.{Digits}
 use Rattle.text.proofs.Laws.{to-the-end}
 use borrow.Author.Needs.{needs}
 use Rattle.account.proofs.is_iban_formed.Statement.{statement}

@@ -2,9 +2,9 @@
 use mathlib.Core.Path.{_≡_, refl, sym, _∙_}
 use Prim.Native.Nat.{ℕ}
 use borrow.Author.Tests.{ne-eqb, eq-eqb}
-use Rattle.refusal.specs.Verdict.{onlyIf}
-use Rattle.refusal.proofs.Verdicts.{refused, passed, failed, met}
-use Rattle.text.proofs.Laws.{taken, left}
+use Rattle.verdict.specs.Verdict.{onlyIf}
+use Rattle.verdict.proofs.Verdicts.{refused, passed, failed, met}
+use Rattle.classes.proofs.Choices.{taken, left}
 use Rattle.account.specs.Account.{oibPasses}
 use Rattle.account.specs.Answers.{oibVerdict}
 use borrow.Author.Needs.{needs}

@@ -1,6 +1,6 @@
 -- `characters::is_completed` meets its contract: each return follows from the test that led there. Assumes nothing.
 use borrow.Author.Tests.{le-ltb, lt-ltb}
-use Rattle.text.proofs.Laws.{and-first, and-second}
+use Rattle.classes.proofs.Choices.{and-first, and-second}
 use borrow.Author.Needs.{needs}
 use Rattle.characters.proofs.is_completed.Statement.{statement}
 use Rattle.characters.proofs.is_completed.Tie as tie

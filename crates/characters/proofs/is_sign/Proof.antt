@@ -1,7 +1,7 @@
 -- `characters::is_sign` meets its contract: each return follows from the tests that led there. Assumes nothing.
 use mathlib.Core.Path.{refl}
 use borrow.Author.Tests.{eq-eqb, ne-eqb, lt-leb, le-leb}
-use Rattle.text.proofs.Laws.{or-first, or-second, and-first, and-second}
+use Rattle.classes.proofs.Choices.{or-first, or-second, and-first, and-second}
 use Rattle.characters.proofs.is_sign.Statement.{statement}
 use Rattle.characters.proofs.is_sign.Tie as tie
 

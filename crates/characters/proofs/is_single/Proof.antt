@@ -1,6 +1,6 @@
 -- `characters::is_single` meets its contract: each return follows from the tests that led there. Assumes nothing.
 use mathlib.Core.Path.{sym, _∙_}
-use Rattle.text.proofs.Laws.{or-first, or-second}
+use Rattle.classes.proofs.Choices.{or-first, or-second}
 use borrow.Author.Needs.{needs}
 use Rattle.characters.proofs.is_single.Statement.{statement}
 use Rattle.characters.proofs.is_single.Tie as tie

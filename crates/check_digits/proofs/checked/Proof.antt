@@ -1,7 +1,7 @@
 -- `check_digits::checked` meets its contract: each return is the definition's choice on the tests that led there. Assumes nothing.
 use mathlib.Core.Path.{refl, sym, _∙_}
 use borrow.Author.Tests.{not-true, not-false}
-use Rattle.text.proofs.Laws.{taken, left, entered}
+use Rattle.classes.proofs.Choices.{taken, left, entered}
 use borrow.Author.Needs.{needs}
 use Rattle.check_digits.proofs.checked.Statement.{statement}
 use Rattle.check_digits.proofs.checked.Tie as tie

@@ -6,7 +6,7 @@ use lib.Dec.{eqb}
 use lib.ListN.{length, take, getD}
 use lib.Seq.{length-take-le}
 use borrow.Author.Tests.{lt-ltb, le-ltb}
-use Rattle.text.proofs.Laws.{and-first, and-second}
+use Rattle.classes.proofs.Choices.{and-first, and-second}
 use Rattle.text.specs.Digits.{digitsOf}
 use Rattle.check_digits.specs.CheckDigit.{passes}
 use Rattle.check_digits.proofs.Theorems.{check-digit-small}

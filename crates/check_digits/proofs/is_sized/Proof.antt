@@ -3,7 +3,7 @@ use mathlib.Core.Path.{refl}
 use native.Mathlib.Omega.{arith}
 use lib.ListN.{length}
 use borrow.Author.Tests.{lt-leb, le-leb}
-use Rattle.text.proofs.Laws.{and-first, and-second}
+use Rattle.classes.proofs.Choices.{and-first, and-second}
 use Rattle.check_digits.proofs.is_sized.Statement.{statement}
 use Rattle.check_digits.proofs.is_sized.Tie as tie
 

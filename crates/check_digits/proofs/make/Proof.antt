@@ -1,7 +1,7 @@
 -- `check_digits::make` meets its contract: each return is the definition's choice on the tests that led there. Assumes nothing.
 use mathlib.Core.Path.{refl, sym, ap, _∙_}
 use borrow.Author.Tests.{not-true, not-false}
-use Rattle.text.proofs.Laws.{left, entered}
+use Rattle.classes.proofs.Choices.{left, entered}
 use Rattle.check_digits.specs.declared.Made.the-variants.{Digit}
 use borrow.Author.Needs.{needs}
 use Rattle.check_digits.proofs.make.Statement.{statement}

@@ -1,6 +1,7 @@
 -- `check_digits::read` meets its contract: the tests say whether the byte is a digit. Assumes nothing.
 use mathlib.Core.Path.{refl}
-use Rattle.text.proofs.Laws.{left, entered, no-digit-below, no-digit-above, digit-between}
+use Rattle.classes.proofs.Choices.{left, entered}
+use Rattle.classes.proofs.Laws.{no-digit-below, no-digit-above, digit-between}
 use borrow.Author.Needs.{needs}
 use Rattle.check_digits.proofs.read.Statement.{statement}
 use Rattle.check_digits.proofs.read.Tie as tie

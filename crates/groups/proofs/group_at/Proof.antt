@@ -2,7 +2,7 @@
 use mathlib.Core.Path.{sym, _∙_}
 use borrow.Author.Needs.{needs}
 use borrow.Author.Tests.{eq-eqb, ne-eqb}
-use Rattle.text.proofs.Laws.{taken, left, or-first, or-second}
+use Rattle.classes.proofs.Choices.{taken, left, or-first, or-second}
 use Rattle.groups.proofs.group_at.Statement.{statement}
 use Rattle.groups.proofs.group_at.Tie as tie
 

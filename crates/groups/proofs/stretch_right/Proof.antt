@@ -2,7 +2,7 @@
 use mathlib.Core.Path.{refl, sym}
 use borrow.Author.Needs.{needs}
 use borrow.Author.Tests.{lt-leb, le-leb}
-use Rattle.text.proofs.Laws.{left, entered, and-first, and-second}
+use Rattle.classes.proofs.Choices.{left, entered, and-first, and-second}
 use Rattle.groups.proofs.stretch_right.Statement.{statement}
 use Rattle.groups.proofs.stretch_right.Tie as tie
 

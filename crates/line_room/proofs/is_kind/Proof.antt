@@ -1,7 +1,7 @@
 -- `wage_writer::is_kind` meets its contract. Assumes nothing.
 use mathlib.Core.Path.{refl}
 use borrow.Author.Tests.{eq-eqb, ne-eqb}
-use Rattle.text.proofs.Laws.{or-first, or-second}
+use Rattle.classes.proofs.Choices.{or-first, or-second}
 use Rattle.line_room.proofs.is_kind.Statement.{statement}
 use Rattle.line_room.proofs.is_kind.Tie as tie
 

@@ -2,7 +2,7 @@
 -- Assumes nothing.
 use mathlib.Core.Path.{refl, sym, ap, _∙_}
 use Rattle.models.specs.declared.Model.{Model}
-use Rattle.text.proofs.Laws.{taken, left}
+use Rattle.classes.proofs.Choices.{taken, left}
 use borrow.Author.Needs.{needs}
 use Rattle.model_text.proofs.judge.Statement.{statement}
 use Rattle.model_text.proofs.judge.Tie as tie

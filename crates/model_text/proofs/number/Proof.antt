@@ -1,7 +1,7 @@
 -- `model_text::number` meets its contract: each return is the definition's choice on the tests that led there. Assumes nothing.
 use mathlib.Core.Path.{refl, sym}
 use borrow.Author.Tests.{ne-eqb, eq-eqb}
-use Rattle.text.proofs.Laws.{left, entered, and-first, and-second}
+use Rattle.classes.proofs.Choices.{left, entered, and-first, and-second}
 use borrow.Author.Needs.{needs}
 use Rattle.model_text.proofs.number.Statement.{statement}
 use Rattle.model_text.proofs.number.Tie as tie

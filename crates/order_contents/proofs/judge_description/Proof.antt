@@ -2,8 +2,8 @@
 use mathlib.Core.Path.{sym, _∙_}
 use mathlib.Core.Bool.{false≢true}
 use borrow.Author.Tests.{not-true, not-false}
-use Rattle.refusal.proofs.Verdicts.{refused, passed}
-use Rattle.text.specs.declared.Class.the-variants.{Description}
+use Rattle.verdict.proofs.Verdicts.{refused, passed}
+use Rattle.classes.specs.declared.Class.the-variants.{Description}
 use Rattle.text.proofs.Laws.{all-passes, passes-all}
 use Rattle.wage_contents.specs.Contents.{tested}
 use Rattle.order_contents.specs.Contents.{descriptionVerdict}

@@ -8,8 +8,9 @@ use borrow.Author.Tests.{lt-ltb, le-ltb, le-leb, lt-leb}
 use borrow.Fn.Kinds.{In}
 use borrow.Fn.PlainCycle.{Measures, is, falls, and}
 use Rattle.text.specs.Split.{split}
-use Rattle.text.proofs.Laws.{left, entered, and-first, and-second, to-the-end}
-use Rattle.text.proofs.is_digit.Reads as is-digit-reads
+use Rattle.classes.proofs.Choices.{left, entered, and-first, and-second}
+use Rattle.text.proofs.Laws.{to-the-end}
+use Rattle.classes.proofs.is_digit.Reads as is-digit-reads
 use Rattle.parts.specs.Ends.{digitRead}
 use Rattle.parts.proofs.Pieces.{short-span}
 use Rattle.parts.proofs.Readers.{digits-end, digits-on, digits-break, handed-none, handed-on, part-judged, read-small, unread}

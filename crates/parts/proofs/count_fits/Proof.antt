@@ -5,7 +5,7 @@ use Prim.Native.Nat.{ℕ}
 use lib.Dec.{eqb}
 use borrow.Author.Needs.{needs}
 use borrow.Author.Tests.{eq-eqb, ne-eqb}
-use Rattle.text.proofs.Laws.{and-first, and-second, or-first, or-second}
+use Rattle.classes.proofs.Choices.{and-first, and-second, or-first, or-second}
 use Rattle.parts.proofs.count_fits.Statement.{statement}
 use Rattle.parts.proofs.count_fits.Tie as tie
 

@@ -6,7 +6,7 @@ use native.Mathlib.Omega.{arith}
 use lib.ListN.{length}
 use borrow.Author.Needs.{needs}
 use borrow.Author.Tests.{eq-eqb, ne-eqb}
-use Rattle.text.proofs.Laws.{taken, left}
+use Rattle.classes.proofs.Choices.{taken, left}
 use Rattle.parts.proofs.Pieces.{Bytes}
 use Rattle.parts.proofs.Laws.{found-empty, found-read, found-far}
 use Rattle.parts.proofs.parts.Statement.{statement}

@@ -4,8 +4,8 @@
 use mathlib.Core.Path.{refl, sym, _∙_}
 use borrow.Author.Needs.{needs}
 use borrow.Author.Tests.{lt-leb, le-leb, not-true, not-false}
-use Rattle.refusal.proofs.Verdicts.{refused, passed, failed, met}
-use Rattle.text.proofs.Laws.{taken, left}
+use Rattle.verdict.proofs.Verdicts.{refused, passed, failed, met}
+use Rattle.classes.proofs.Choices.{taken, left}
 use Rattle.parts.proofs.Laws.{found-none}
 use Rattle.reference.proofs.Laws.{found-bare, found-long, found-judged, unformed-judged}
 use Rattle.reference.proofs.judged.Statement.{statement}

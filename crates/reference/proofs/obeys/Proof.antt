@@ -4,7 +4,7 @@ use Prim.Native.Nat.{_≤_}
 use native.Mathlib.Omega.{arith}
 use lib.ListN.{length}
 use borrow.Author.Needs.{needs}
-use Rattle.text.proofs.Laws.{and-first}
+use Rattle.classes.proofs.Choices.{and-first}
 use Rattle.parts.proofs.Pieces.{Bytes, formed-short}
 use Rattle.parts.proofs.Laws.{found-none, found-formed}
 use Rattle.reference.proofs.Laws.{found-obeys}

@@ -2,7 +2,7 @@
 use native.Mathlib.Omega.{arith}
 use lib.ListN.{length}
 use borrow.Author.Needs.{needs}
-use Rattle.refusal.proofs.Verdicts.{byte-within}
+use Rattle.verdict.proofs.Verdicts.{byte-within}
 use Rattle.slip_fields.proofs.Theorems.{field-within}
 use Rattle.slip.proofs.judge_one.Statement.{statement}
 use Rattle.slip.proofs.judge_one.Tie as tie

@@ -1,5 +1,5 @@
 -- `sums::longer` meets its contract: the tests say whether the byte is a digit. Assumes nothing.
-use Rattle.text.proofs.Laws.{no-digit-below, no-digit-above, digit-between}
+use Rattle.classes.proofs.Laws.{no-digit-below, no-digit-above, digit-between}
 use Rattle.text.proofs.Values.{value-skips, value-takes}
 use borrow.Author.Needs.{needs}
 use Rattle.sums.proofs.longer.Statement.{statement}

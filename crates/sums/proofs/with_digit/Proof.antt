@@ -5,7 +5,7 @@ use Prim.Native.Nat.{_-_}
 use native.Mathlib.Omega.{arith}
 use native.Mathlib.Nat.{add-zero}
 use Rattle.text.specs.Digits.{digitsOf, valueFrom}
-use Rattle.text.proofs.Laws.{no-digit-below, no-digit-above, digit-between}
+use Rattle.classes.proofs.Laws.{no-digit-below, no-digit-above, digit-between}
 use Rattle.text.proofs.Values.{value-skips, value-takes}
 use Rattle.sums.specs.Sums.{centsOf, sumOf}
 use Rattle.sums.proofs.Laws.{sum-large, carried-digit, low-small}

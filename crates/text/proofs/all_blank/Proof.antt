@@ -1,5 +1,5 @@
 -- `text::all_blank` meets its contract: a blank alone lies between 32 and 32. Assumes nothing.
-use Rattle.text.specs.declared.Class.the-variants.{Blanks}
+use Rattle.classes.specs.declared.Class.the-variants.{Blanks}
 use Rattle.text.proofs.Laws.{alone-between}
 use borrow.Author.Needs.{needs}
 use Rattle.text.proofs.all_blank.Statement.{statement}

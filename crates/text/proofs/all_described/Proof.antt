@@ -6,7 +6,7 @@ use mathlib.Core.Bool.{_&&_}
 use native.Mathlib.Omega.{arith}
 use lib.ListN.{length, drop}
 use Rattle.text.specs.Bytes.{allOf}
-use Rattle.text.specs.declared.Class.the-variants.{Description}
+use Rattle.classes.specs.declared.Class.the-variants.{Description}
 use Rattle.text.proofs.Laws.{tested-on, tested-all}
 use Rattle.text.proofs.all_described.Statement.{statement}
 use Rattle.text.proofs.all_described.Tie as tie

@@ -7,8 +7,9 @@ use native.Mathlib.Omega.{arith}
 use lib.Dec.{leb}
 use borrow.Author.Tests.{lt-leb, le-leb}
 use lib.ListN.{length, drop, getD}
-use Rattle.text.specs.Bytes.{permits, allOf}
-use Rattle.text.specs.declared.Class.{Class}
+use Rattle.classes.specs.Classes.{permits}
+use Rattle.text.specs.Bytes.{allOf}
+use Rattle.classes.specs.declared.Class.{Class}
 use Rattle.text.proofs.Laws.{all-empty, first-wrong, tested-on, tested-all}
 use Rattle.text.proofs.all_within.Statement.{statement}
 use Rattle.text.proofs.all_within.Tie as tie

@@ -1,7 +1,8 @@
 -- `text::two_digits` meets its contract: each return is the definition's choice on the tests that led there. Assumes nothing.
 use mathlib.Core.Path.{refl, sym, _∙_}
 use borrow.Author.Tests.{not-true, not-false}
-use Rattle.text.proofs.Laws.{left, taken, and-first, and-second, digit-bounds}
+use Rattle.classes.proofs.Choices.{left, taken, and-first, and-second}
+use Rattle.classes.proofs.Laws.{digit-bounds}
 use borrow.Author.Needs.{needs}
 use Rattle.text.proofs.two_digits.Statement.{statement}
 use Rattle.text.proofs.two_digits.Tie as tie

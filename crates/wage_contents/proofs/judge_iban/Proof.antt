@@ -1,7 +1,7 @@
 -- `wage_contents::judge_iban` meets its contract: an IBAN with blanks behind it is right, else one rule after the other. Assumes nothing.
 use mathlib.Core.Path.{refl, sym, _∙_}
-use Rattle.refusal.proofs.Verdicts.{refused, passed, failed, met}
-use Rattle.text.proofs.Laws.{taken, left}
+use Rattle.verdict.proofs.Verdicts.{refused, passed, failed, met}
+use Rattle.classes.proofs.Choices.{taken, left}
 use Rattle.wage_contents.specs.Contents.{ibanPlaceVerdict}
 use Rattle.wage_contents.proofs.Laws.{account-right}
 use borrow.Author.Needs.{needs}

@@ -1,6 +1,6 @@
 -- `wage_contents::judge_tested` meets its contract. Assumes nothing.
 use mathlib.Core.Path.{refl}
-use Rattle.refusal.proofs.Verdicts.{refused, passed}
+use Rattle.verdict.proofs.Verdicts.{refused, passed}
 use Rattle.wage_contents.specs.Contents.{tested}
 use borrow.Author.Needs.{needs}
 use Rattle.wage_contents.proofs.judge_tested.Statement.{statement}

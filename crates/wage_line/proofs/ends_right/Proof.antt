@@ -1,6 +1,6 @@
 -- `wage_line::ends_right` meets its contract: each return follows from the tests that led there. Assumes nothing.
 use Rattle.wage_line.proofs.Laws.{no-ends}
-use Rattle.text.proofs.Laws.{and-first, and-second}
+use Rattle.classes.proofs.Choices.{and-first, and-second}
 use borrow.Author.Tests.{eq-eqb, ne-eqb}
 use borrow.Author.Needs.{needs}
 use Rattle.wage_line.proofs.ends_right.Statement.{statement}

@@ -2,7 +2,7 @@
 use mathlib.Core.Path.{refl}
 use borrow.Author.Tests.{le-leb, lt-leb, eq-eqb, ne-eqb}
 use borrow.Author.Needs.{needs}
-use Rattle.text.proofs.Laws.{taken, left, entered}
+use Rattle.classes.proofs.Choices.{taken, left, entered}
 use Rattle.wage_orders.specs.Orders.{groupOrders}
 use Rattle.wage_orders.proofs.judge.Statement.{statement}
 use Rattle.wage_orders.proofs.judge.Tie as tie

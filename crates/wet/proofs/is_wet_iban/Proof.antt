@@ -3,8 +3,9 @@ use mathlib.Core.Path.{ap, _∙_}
 use borrow.Author.Tests.{ne-eqb, eq-eqb}
 use borrow.Author.Needs.{needs}
 use Rattle.text.specs.Bytes.{allOf}
-use Rattle.text.specs.declared.Class.the-variants.{WetAccount}
-use Rattle.text.proofs.Laws.{and-first, and-second, to-the-end}
+use Rattle.classes.specs.declared.Class.the-variants.{WetAccount}
+use Rattle.classes.proofs.Choices.{and-first, and-second}
+use Rattle.text.proofs.Laws.{to-the-end}
 use Rattle.wet.proofs.Accepts.{short-is-not-wet}
 use Rattle.wet.proofs.is_wet_iban.Statement.{statement}
 use Rattle.wet.proofs.is_wet_iban.Tie as tie

@@ -3,7 +3,7 @@
 use mathlib.Core.Path.{refl, sym, _∙_}
 use borrow.Author.Tests.{ne-eqb, eq-eqb, not-true, not-false}
 use borrow.Author.Needs.{needs}
-use Rattle.text.proofs.Laws.{left, entered}
+use Rattle.classes.proofs.Choices.{left, entered}
 use Rattle.wet.proofs.Accepts.{iban-listed}
 use Rattle.wet.proofs.list_iban.Statement.{statement}
 use Rattle.wet.proofs.list_iban.Tie as tie

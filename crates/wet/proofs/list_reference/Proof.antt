@@ -5,7 +5,7 @@ use lib.ListN.{length}
 use borrow.Author.Tests.{not-true, not-false, lt-leb, le-leb}
 use borrow.Author.Needs.{needs}
 use Rattle.text.specs.Bytes.{marks}
-use Rattle.text.proofs.Laws.{left, entered}
+use Rattle.classes.proofs.Choices.{left, entered}
 use Rattle.wet.proofs.list_reference.Statement.{statement}
 use Rattle.wet.proofs.list_reference.Tie as tie
 

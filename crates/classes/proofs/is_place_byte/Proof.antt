@@ -1,0 +1,15 @@
+-- `classes::is_place_byte` meets its contract: each return follows from the test that led there. Assumes nothing.
+use mathlib.Core.Path.{sym, refl, _∙_}
+use Rattle.classes.proofs.Choices.{or-first, or-second}
+use borrow.Author.Needs.{needs}
+use Rattle.classes.proofs.is_place_byte.Statement.{statement}
+use Rattle.classes.proofs.is_place_byte.Tie as tie
+
+returns : tie.Need-returns
+returns c = or-first _ _ (sym (c .before .is-account-byte .ensures) ∙ c .if1 .taken)
+
+returns-2 : tie.Need-returns-2
+returns-2 c = or-second _ _ _ (sym (c .before .is-account-byte .ensures) ∙ c .if1 .left) refl
+
+pub is-place-byte-spec : {M : Type 1} → statement M
+is-place-byte-spec = tie.close (tie.spec (λ c κs. search needs) returns returns-2)

@@ -1,0 +1,15 @@
+-- `classes::is_wet_digit` meets its contract: each return follows from the test that led there. Assumes nothing.
+use mathlib.Core.Path.{sym, refl, _∙_}
+use Rattle.classes.proofs.Choices.{or-first, or-second}
+use borrow.Author.Needs.{needs}
+use Rattle.classes.proofs.is_wet_digit.Statement.{statement}
+use Rattle.classes.proofs.is_wet_digit.Tie as tie
+
+returns : tie.Need-returns
+returns c = or-first _ _ (sym (c .before .is-digit .ensures) ∙ c .if1 .taken)
+
+returns-2 : tie.Need-returns-2
+returns-2 c = or-second _ _ _ (sym (c .before .is-digit .ensures) ∙ c .if1 .left) refl
+
+pub is-wet-digit-spec : {M : Type 1} → statement M
+is-wet-digit-spec = tie.close (tie.spec (λ c κs. search needs) returns returns-2)

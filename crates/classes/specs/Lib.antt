@@ -1,0 +1,2 @@
+-- The definitions of the crate `classes`.
+pub mod Classes

@@ -1,0 +1,94 @@
+-- Laws of verdicts: what a chain of rules answers, when it refuses nothing, and where its byte lies.
+-- Assumes nothing.
+use mathlib.Core.Path.{_≡_, refl, sym, _∙_}
+use mathlib.Core.Bool.{Bool, true, false, cond, false≢true}
+use Prim.Native.Nat.{ℕ, _-_, _≤_, _<_}
+use native.Mathlib.Omega.{arith}
+use lib.Dec.{eqb, leb}
+use borrow.Author.Tests.{ne-eqb, eqb-true}
+use Rattle.refusal.specs.declared.Answer.{Answer}
+use Rattle.refusal.specs.declared.Answer.the-variants.{Accepted, Refused}
+use Rattle.refusal.specs.declared.Refusal.{Refusal}
+use Rattle.refusal.specs.Refusal.{firstOf}
+use Rattle.verdict.specs.Verdict.{onlyIf, andThen, verdictByte, answerOf, Within}
+
+-- ---------------------------------------------------------------------------
+-- What a chain answers, as its code goes
+
+-- the first rule refuses
+pub refused : (v w r : ℕ) → (v ≡ 0 → ⊥) → r ≡ v → r ≡ andThen v w
+refused v w r h e = rw (ne-eqb v 0 h) e
+
+-- it refuses nothing: what answers the rest answers the whole
+pub passed : (v w r : ℕ) → v ≡ 0 → r ≡ w → r ≡ andThen v w
+passed v w r h e = rw h e
+
+-- a test fails
+pub failed : (b : Bool) (n w : ℕ) → b ≡ false → eqb n 0 ≡ false → n ≡ andThen (onlyIf b n) w
+failed b n w e z = rw (e, z)
+
+-- it holds: what answers the rest answers the whole
+pub met : (b : Bool) (n w r : ℕ) → b ≡ true → r ≡ w → r ≡ andThen (onlyIf b n) w
+met b n w r e h = rw e h
+
+-- ---------------------------------------------------------------------------
+-- Refusing nothing
+
+-- two rules refuse nothing where each does
+pub both-pass : (v w : ℕ) → andThen v w ≡ 0 → (v ≡ 0) × (w ≡ 0)
+both-pass v w e = go (eqb v 0) refl e
+  where
+    go : (t : Bool) → eqb v 0 ≡ t → cond t w v ≡ 0 → (v ≡ 0) × (w ≡ 0)
+    go true z h = (eqb-true v 0 z, h)
+    go false z h = absurd (false≢true (sym z ∙ rw h))
+
+pub pass-both : (v w : ℕ) → v ≡ 0 → w ≡ 0 → andThen v w ≡ 0
+pass-both v w e h = rw (e, h)
+
+-- a test's rule where it holds
+pub test-holds : (b : Bool) (n : ℕ) → eqb n 0 ≡ false → onlyIf b n ≡ 0 → b ≡ true
+test-holds true n z e = refl
+test-holds false n z e = absurd (false≢true (sym z ∙ rw e))
+
+-- an answer refuses nothing where its verdict does
+pub answer-accepted : (v field byte : ℕ) → answerOf v field byte ≡ Accepted → v ≡ 0
+answer-accepted v field byte e = go (eqb v 0) refl _ e
+  where
+    go : (t : Bool) → eqb v 0 ≡ t → (r : Refusal) → cond t Accepted (Refused r) ≡ Accepted → v ≡ 0
+    go true z r h = eqb-true v 0 z
+    go false z r h = let z : _≡_ {A = ℕ} 0 1 = cc in absurd (omega arith)
+
+pub accepted-answer : (v field byte : ℕ) → v ≡ 0 → answerOf v field byte ≡ Accepted
+accepted-answer v field byte e = rw e
+
+-- two answers accept where both do
+pub first-both : (a b : Answer) → firstOf a b ≡ Accepted → (a ≡ Accepted) × (b ≡ Accepted)
+first-both Accepted b e = (refl, e)
+first-both (Refused r) b e = let z : _≡_ {A = ℕ} 0 1 = cc in absurd (omega arith)
+
+-- of three, whichever two are joined first
+pub first-joined : (a b c : Answer) → firstOf a (firstOf b c) ≡ firstOf (firstOf a b) c
+first-joined Accepted b c = refl
+first-joined (Refused r) b c = refl
+
+-- ---------------------------------------------------------------------------
+-- A 3's byte lies within the text
+
+module _ (n : ℕ) where
+  pub choice-within : (b : Bool) (v w : ℕ) → Within n v → Within n w → Within n (cond b v w)
+  choice-within true v w g h = g
+  choice-within false v w g h = h
+
+  pub then-within : (v w : ℕ) → Within n v → Within n w → Within n (andThen v w)
+  then-within v w g h = choice-within (eqb v 0) w v h g
+
+  pub only-within : (b : Bool) (k : ℕ) → k < 32 → Within n (onlyIf b k)
+  only-within b k h = choice-within b 0 k (omega arith) (omega arith)
+
+  -- so its byte is a place of the text, or its first
+  pub byte-within : (v : ℕ) → Within n v → verdictByte v ≤ n
+  byte-within v h = go (leb 32 v) refl
+    where
+      go : (t : Bool) → leb 32 v ≡ t → cond t (v - 32) 0 ≤ n
+      go true e = omega arith
+      go false e = omega arith
