@@ -6,7 +6,7 @@ use lib.ListN.{length}
 use Rattle.refusal.specs.declared.Answer.{Answer}
 use Rattle.slip_writer.specs.Steps.{eleven}
 use Rattle.slip_writer.specs.Writer as slip
-use Rattle.wage_writer.specs.Writer as wage
+use Rattle.line_room.specs.LineRoom as wage
 use Rattle.boundary.specs.Told.{toldOf, writtenOf}
 use Rattle.boundary.specs.Parts.{givenOf}
 use Rattle.boundary.specs.declared.Told.{Told}
