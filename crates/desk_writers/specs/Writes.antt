@@ -3,7 +3,7 @@ use mathlib.Core.Path.{_≡_}
 use mathlib.Core.List.{List}
 use Prim.Native.Nat.{ℕ}
 use Rattle.refusal.specs.declared.Answer.{Answer}
-use Rattle.wage_writer.specs.Writer as wage
+use Rattle.line_room.specs.LineRoom as wage
 use Rattle.boundary.specs.Told.{toldOf}
 use Rattle.boundary.specs.declared.Told.{Told}
 
