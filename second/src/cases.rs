@@ -1,73 +1,186 @@
-//! The case file: one question a line, answered behind ` -> `. A slip's line
-//! feeds stand there as `|`, which no field permits.
+//! The cases: one question a line, answered behind ` -> `. A desk keeps what was
+//! written last, some kept lines and a judge from question to question.
+//! README.md lists the verbs.
 
 use crate::account::{iban, oib};
 use crate::checkdigit::Rule;
 use crate::reference::Model;
 use crate::refusal::Refusal;
-use crate::slip::Slip;
-use crate::wet::{divide, list, WHOLE_ROOM};
+use crate::slip::{Slip, TEXTS};
+use crate::wage::record::Told;
+use crate::wage::{place, write_close, write_group, write_label, write_order, Judge, LINE};
+use crate::wet::{list_iban, list_reference, Listing};
 use std::fmt::Write as _;
 use std::io::{self, Write};
 
-const UNKNOWN: &str = "unknown";
-/// As many digits as the greatest u64 has.
-const MOST_DIGITS: usize = 20;
+const MEMORY: usize = 1100;
+const MOST_KEPT: usize = 8 * LINE;
+const MOST_NUMBERS: usize = 10_000;
+/// The fields of a 300, 301 or 309 stand behind room, day, kind and size.
+const HEAD: usize = 4;
 
 /// Answers every line. What follows the last LF is a line unless empty.
 pub fn answer_all(input: &[u8], mut output: impl Write) -> io::Result<()> {
-    let input = input
-        .strip_suffix(b"\n")
-        .map_or_else(|| (!input.is_empty()).then_some(input), Some);
-    for line in input
-        .into_iter()
-        .flat_map(|text| text.split(|&b| b == b'\n'))
-    {
-        output.write_all(line)?;
-        writeln!(output, " -> {}", answer(line))?;
+    let mut desk = Desk::default();
+    for line in input.split_inclusive(|&b| b == b'\n') {
+        let question = line.strip_suffix(b"\n").unwrap_or(line);
+        output.write_all(question)?;
+        output.write_all(b" -> ")?;
+        output.write_all(&desk.answer(question))?;
+        output.write_all(b"\n")?;
     }
     output.flush()
 }
 
-/// The answer to one line.
-pub fn answer(line: &[u8]) -> String {
-    let (verb, argument) = halves(line);
-    match verb {
-        b"iban" => verdict(iban(argument)),
-        b"oib" => verdict(oib(argument)),
-        b"ref" => {
-            let (model, text) = halves(argument);
-            verdict(Model::named(model).and_then(|m| m.judge(text)))
+pub struct Desk {
+    /// What is written stands at its front.
+    memory: [u8; MEMORY],
+    kept: [u8; MOST_KEPT],
+    judge: Judge,
+}
+
+impl Default for Desk {
+    fn default() -> Self {
+        Desk {
+            memory: [0; MEMORY],
+            kept: [0; MOST_KEPT],
+            judge: Judge::begin(0),
         }
-        b"check" | b"make" => {
-            let (word, text) = halves(argument);
-            match Rule::named(word) {
-                None => UNKNOWN.to_string(),
-                Some(rule) if verb == b"check" => verdict(rule.check(text)),
-                Some(rule) => match rule.make(text) {
-                    Ok(digit) => format!("digit {digit}"),
-                    Err(refusal) => refusal.to_string(),
-                },
-            }
-        }
-        b"list" => fillings(argument, WHOLE_ROOM),
-        b"room" => {
-            let (room, line) = halves(argument);
-            match decimal(room) {
-                Some(room) => fillings(line, room),
-                None => UNKNOWN.to_string(),
-            }
-        }
-        b"slip" => verdict(Slip::read(&swapped(argument, b'|', b'\n')).map(|_| ())),
-        b"write" => {
-            let (room, parts) = halves(argument);
-            match (decimal(room), said(parts)) {
-                (Some(room), Some(slip)) => written(&slip, room),
-                _ => UNKNOWN.to_string(),
-            }
-        }
-        _ => UNKNOWN.to_string(),
     }
+}
+
+impl Desk {
+    /// The answer to one question.
+    pub fn answer(&mut self, question: &[u8]) -> Vec<u8> {
+        let bar = question.iter().position(|&b| b == b'|');
+        let (verb, rest) = bar.map_or((question, &b""[..]), |k| {
+            (&question[..k], &question[k + 1..])
+        });
+        let fields = Fields(rest.split(|&b| b == b'|').collect());
+        let answer = match verb {
+            b"iban" => Some(verdict(iban(fields.text(0)))),
+            b"oib" => Some(verdict(oib(fields.text(0)))),
+            b"ref" => {
+                let model = Model::named(fields.text(0));
+                Some(verdict(model.and_then(|m| m.judge(fields.text(1)))))
+            }
+            b"check ini" => Some(verdict(Rule::Ini.check(fields.text(0)))),
+            b"check iso" => Some(verdict(Rule::Iso.check(fields.text(0)))),
+            b"make ini" => Some(made(Rule::Ini.make(fields.text(0)))),
+            b"make iso" => Some(made(Rule::Iso.make(fields.text(0)))),
+            b"slip" => Some(verdict(Slip::read(&swapped(rest, b'|', b'\n')).map(drop))),
+            b"list iban" => listed(fields.size(0), |room| list_iban(fields.text(1), room)),
+            b"list ref" => listed(fields.size(0), |room| {
+                list_reference(fields.text(1), fields.text(2), room)
+            }),
+            b"write" => self.write_slip(&fields),
+            b"300" | b"301" | b"309" | b"399" => self.write_line(verb, &fields),
+            _ => return self.handle(verb, &fields),
+        };
+        answer.map_or(b"unknown".to_vec(), String::into_bytes)
+    }
+
+    /// Nothing where the memory has no such room.
+    fn write_slip(&mut self, fields: &Fields) -> Option<String> {
+        let room = Some(fields.size(0)).filter(|&n| n <= MEMORY)?;
+        let slip = Slip {
+            cents: fields.number(1),
+            texts: std::array::from_fn::<_, TEXTS, _>(|k| fields.text(2 + k)),
+        };
+        Some(match slip.write(room) {
+            Err(refusal) => format!("{} bytes 0|", told(refusal)),
+            Ok(bytes) => {
+                self.memory[..bytes.len()].copy_from_slice(&bytes);
+                let text = String::from_utf8(bytes).expect("permitted only");
+                format!("accepted bytes {}|{text}", text.len())
+            }
+        })
+    }
+
+    /// Nothing where the memory has no such room.
+    fn write_line(&mut self, verb: &[u8], fields: &Fields) -> Option<String> {
+        let room = Some(fields.size(0)).filter(|&n| n <= MEMORY)?;
+        let (day, kind) = (fields.day(1), fields.number(2));
+        let orders = front(&self.kept, fields.size(3));
+        let room = &mut self.memory[..room];
+        Some(verdict(match verb {
+            b"300" => write_label(day, &fields.behind(HEAD), room),
+            b"301" => write_group(day, kind, &fields.behind(HEAD), orders, room),
+            b"309" => write_order(day, kind, &fields.behind(HEAD), room),
+            _ => write_close(day, room),
+        }))
+    }
+
+    /// The memory as a wage line, and the judge.
+    fn handle(&mut self, verb: &[u8], fields: &Fields) -> Vec<u8> {
+        let size = fields.size(0);
+        let seen = front(&self.memory, size);
+        match verb {
+            b"keep" => {
+                let room = self.kept.iter_mut().skip(size);
+                room.zip(self.memory).take(LINE).for_each(|(k, b)| *k = b);
+                Vec::new()
+            }
+            b"poke" => {
+                if let Some(byte) = self.memory.get_mut(size) {
+                    *byte = fields.number(1) as u8;
+                }
+                Vec::new()
+            }
+            b"place" => place(seen, fields.size(1)).to_vec(),
+            b"show" => seen.to_vec(),
+            b"begin" => {
+                self.judge = Judge::begin(fields.day(0));
+                verdict(self.judge.refusal().map_or(Ok(()), Err)).into_bytes()
+            }
+            b"step" => verdict(self.judge.step(seen)).into_bytes(),
+            b"end" => self.end().into_bytes(),
+            _ => b"unknown".to_vec(),
+        }
+    }
+
+    fn end(&self) -> String {
+        let (told, lines, groups, orders) = match self.judge.end() {
+            Ok(all) => ("accepted".to_string(), all.lines, all.groups, all.orders),
+            Err(refusal) => (told(refusal), 0, 0, 0),
+        };
+        format!("{told} lines {lines} groups {groups} orders {orders}")
+    }
+}
+
+/// What follows a verb; a field that is not there is empty.
+struct Fields<'a>(Vec<&'a [u8]>);
+
+impl<'a> Fields<'a> {
+    fn text(&self, k: usize) -> &'a [u8] {
+        self.0.get(k).copied().unwrap_or_default()
+    }
+
+    /// The number of a field's digits; the largest where that is more.
+    fn number(&self, k: usize) -> u64 {
+        let digits = self.text(k).iter().filter(|b| b.is_ascii_digit());
+        digits.fold(0, |n: u64, b| {
+            n.saturating_mul(10).saturating_add(u64::from(b - b'0'))
+        })
+    }
+
+    fn size(&self, k: usize) -> usize {
+        self.number(k) as usize
+    }
+
+    /// A number that is too large for a day is as little a date as 0.
+    fn day(&self, k: usize) -> u32 {
+        u32::try_from(self.number(k)).unwrap_or(0)
+    }
+
+    fn behind<const N: usize>(&self, head: usize) -> [&'a [u8]; N] {
+        std::array::from_fn(|k| self.text(head + k))
+    }
+}
+
+/// The first bytes, as far as there are any.
+fn front(bytes: &[u8], size: usize) -> &[u8] {
+    &bytes[..size.min(bytes.len())]
 }
 
 pub fn swapped(text: &[u8], from: u8, to: u8) -> Vec<u8> {
@@ -76,192 +189,199 @@ pub fn swapped(text: &[u8], from: u8, to: u8) -> Vec<u8> {
         .collect()
 }
 
-/// The amount and the eleven fields of a `write` line.
-fn said(parts: &[u8]) -> Option<Slip<'_>> {
-    let parts: Vec<&[u8]> = parts.split(|&b| b == b'|').collect();
-    let (cents, texts) = parts.split_first()?;
-    Some(Slip {
-        cents: amount(cents)?,
-        texts: texts.try_into().ok()?,
-    })
-}
-
-/// One to twenty digits whose number fits.
-fn amount(text: &[u8]) -> Option<u64> {
-    let sized = (1..=MOST_DIGITS).contains(&text.len());
-    if !sized || !text.iter().all(u8::is_ascii_digit) {
-        return None;
-    }
-    text.iter().try_fold(0u64, |n, b| {
-        n.checked_mul(10)?.checked_add(u64::from(b - b'0'))
-    })
-}
-
-fn written(slip: &Slip, room: usize) -> String {
-    match slip.write(room) {
-        Err(refusal) => refusal.to_string(),
-        Ok(bytes) => {
-            let text = String::from_utf8(swapped(&bytes, b'\n', b'|')).expect("permitted only");
-            format!("written {} {text}", bytes.len())
-        }
-    }
-}
-
-/// Before and after the first space; nothing after it if there is none.
-fn halves(line: &[u8]) -> (&[u8], &[u8]) {
-    divide(line).unwrap_or((line, b""))
-}
-
-/// A room too large to count is as good as the largest.
-fn decimal(text: &[u8]) -> Option<usize> {
-    if text.is_empty() || !text.iter().all(u8::is_ascii_digit) {
-        return None;
-    }
-    Some(text.iter().fold(0usize, |n, b| {
-        n.saturating_mul(10).saturating_add(usize::from(b - b'0'))
-    }))
-}
-
 fn verdict(result: Result<(), Refusal>) -> String {
+    result.map_or_else(told, |()| "accepted".to_string())
+}
+
+fn told(refusal: Refusal) -> String {
+    let told = Told::of(refusal);
+    let (number, line, field, byte) = (told.number, told.line, told.field, told.byte);
+    let needed = told.needed;
+    format!("refused {number} line {line} field {field} byte {byte} needed {needed}")
+}
+
+fn made(result: Result<u8, Refusal>) -> String {
     match result {
-        Ok(()) => "accepted".to_string(),
-        Err(refusal) => refusal.to_string(),
+        Ok(digit) => format!("accepted digit {digit}"),
+        Err(refusal) => format!("{} digit 0", told(refusal)),
     }
 }
 
-fn fillings(line: &[u8], room: usize) -> String {
-    match list(line, room) {
-        Err(refusal) => refusal.to_string(),
+/// Nothing where the room is more than ten thousand numbers.
+fn listed(room: usize, list: impl Fn(usize) -> Result<Listing, Refusal>) -> Option<String> {
+    let room = Some(room).filter(|&n| n <= MOST_NUMBERS)?;
+    Some(match list(room) {
+        Err(refusal) => format!("{} fillings 0", told(refusal)),
         Ok(listing) => {
-            let mut text = format!("{} fillings", listing.numbers.len());
+            let mut text = format!("accepted fillings {}", listing.numbers.len());
             for number in &listing.numbers {
-                let _ = write!(text, " {number:0width$}", width = listing.width());
+                let _ = write!(text, " {number}");
             }
             text
         }
-    }
+    })
 }
 
 #[cfg(test)]
 mod tests {
     use super::*;
 
+    const HAND: &[u8] = include_bytes!("../../cases/hand.txt");
+    const WAGE: &[u8] = include_bytes!("../../cases/wage.txt");
+    const LABEL: &str =
+        "20240228|||20240228|4|000|1|12345678903|00000000042|00000000000|12345678903";
+
+    /// Questions at one desk, each with its answer.
+    fn run(script: &[(&str, &str)]) {
+        let mut desk = Desk::default();
+        for (question, expected) in script {
+            let answer = desk.answer(question.as_bytes());
+            assert_eq!(answer, expected.as_bytes(), "{question}");
+        }
+    }
+
     #[test]
     fn one_of_each() {
-        for (line, expected) in [
-            ("iban HR1210010051863000160", "accepted"),
+        run(&[
+            ("iban|HR1210010051863000160", "accepted"),
             (
-                "iban HR1310010051863000160",
-                "refused 6 line 0 field 0 byte 0",
+                "iban|HR1310010051863000160",
+                "refused 6 line 0 field 0 byte 0 needed 0",
             ),
             (
-                "iban HR12 10010051863000160",
-                "refused 3 line 0 field 0 byte 4",
+                "iban|HR12 10010051863000160",
+                "refused 3 line 0 field 0 byte 4 needed 0",
             ),
-            ("iban", "refused 4 line 0 field 0 byte 0"),
-            ("oib 12345678903", "accepted"),
-            ("oib 1234567890x", "refused 3 line 0 field 0 byte 10"),
-            ("ref HR01 0", "accepted"),
-            ("ref HR99", "accepted"),
-            ("ref HR00", "refused 8 line 0 field 0 byte 0"),
-            ("ref HR01  0", "refused 3 line 0 field 0 byte 0"),
-            ("ref", "refused 5 line 0 field 0 byte 0"),
-            ("check ini 334445556669", "accepted"),
-            ("check iso 1", "accepted"),
-            ("check iso 0", "refused 9 line 0 field 0 byte 0"),
-            ("check ini 12x", "refused 3 line 0 field 0 byte 0"),
-            ("check ini", "refused 1 line 0 field 0 byte 0"),
-            ("check mod 1", "unknown"),
-            ("make iso 234000", "digit 9"),
-            ("make ini x", "refused 3 line 0 field 0 byte 0"),
-            ("list HR01 ??", "10 fillings 00 19 27 35 43 51 60 78 86 94"),
-            ("list HR??10010051863000160", "1 fillings 12"),
-            ("list HR01 0", "1 fillings 0"),
-            ("list HR01 1", "0 fillings"),
-            ("list HR01 ?????", "refused 16 line 0 field 0 byte 0"),
-            ("list HR01 x", "refused 3 line 0 field 0 byte 0"),
-            ("room 9 HR01 ??", "refused 15 needed 10"),
-            ("room 10 HR01 0?", "1 fillings 0"),
-            ("room x HR01 ??", "unknown"),
-            ("IBAN HR1210010051863000160", "unknown"),
+            ("iban", "refused 4 line 0 field 0 byte 0 needed 0"),
+            ("oib|12345678903", "accepted"),
+            ("ref|HR01|0", "accepted"),
+            ("ref|HR99", "accepted"),
+            ("ref|HR01| 0", "refused 3 line 0 field 0 byte 0 needed 0"),
+            ("ref", "refused 5 line 0 field 0 byte 0 needed 0"),
+            ("check ini|334445556669", "accepted"),
+            ("check iso|1", "accepted"),
+            ("check iso|0", "refused 9 line 0 field 0 byte 0 needed 0"),
+            ("check ini", "refused 1 line 0 field 0 byte 0 needed 0"),
+            ("check mod|1", "unknown"),
+            ("make iso|234000", "accepted digit 9"),
+            (
+                "make ini|x",
+                "refused 3 line 0 field 0 byte 0 needed 0 digit 0",
+            ),
+            (
+                "list ref|10|HR01|??",
+                "accepted fillings 10 0 19 27 35 43 51 60 78 86 94",
+            ),
+            (
+                "list iban|1|HR??10010051863000160",
+                "accepted fillings 1 12",
+            ),
+            ("list ref|1|HR01|1", "accepted fillings 0"),
+            (
+                "list ref|9|HR01|??",
+                "refused 15 line 0 field 0 byte 0 needed 10 fillings 0",
+            ),
+            ("list ref|10001|HR01|??", "unknown"),
+            ("IBAN|HR1210010051863000160", "unknown"),
+            ("# iban", "unknown"),
             ("", "unknown"),
-        ] {
-            assert_eq!(answer(line.as_bytes()), expected, "{line}");
-        }
+        ]);
     }
 
     #[test]
     fn slips() {
         let tail = "Ž||||||HR1210010051863000160|HR99||COST|a b";
         let slip = format!("HRVHUB30|EUR|000000000000007|{tail}|");
-        for (line, expected) in [
-            (format!("slip {slip}"), "accepted".to_string()),
+        let written = format!("accepted bytes 74|{}", slip.replace('|', "\n"));
+        let nothing = |told: &str| format!("refused {told} bytes 0|");
+        let much = nothing("4 line 0 field 3 byte 0 needed 0");
+        let refused = "refused 2 line 0 field 0 byte 0 needed 0";
+        for (question, expected) in [
+            (format!("slip|{slip}"), "accepted"),
+            (format!("slip|{slip}x"), refused),
+            ("slip".to_string(), refused),
             (
-                format!("slip {slip}").replace("COST", "CO T"),
-                "refused 3 line 0 field 13 byte 67".to_string(),
+                format!("slip|{slip}").replace("COST", "CO T"),
+                "refused 3 line 0 field 13 byte 67 needed 0",
             ),
             (
-                format!("slip {slip}x"),
-                "refused 2 line 0 field 0 byte 0".to_string(),
+                format!("slip|{}", "|".repeat(484)),
+                "refused 1 line 0 field 0 byte 0 needed 0",
             ),
+            (format!("write|74|7|{tail}"), &written),
+            (format!("write|74|7|{tail}|"), &written),
             (
-                format!("slip  {slip}"),
-                "refused 5 line 0 field 1 byte 0".to_string(),
+                format!("write|1100|0000000000000000000007|{tail}"),
+                &written,
             ),
+            (format!("write|1101|7|{tail}"), "unknown"),
             (
-                "slip".to_string(),
-                "refused 2 line 0 field 0 byte 0".to_string(),
+                format!("write|73|7|{tail}"),
+                &nothing("15 line 0 field 0 byte 0 needed 74"),
             ),
+            (format!("write|0|1000000000000000|{tail}"), &much),
+            (format!("write|0|99999999999999999999|{tail}"), &much),
             (
-                format!("slip {}", "|".repeat(484)),
-                "refused 1 line 0 field 0 byte 0".to_string(),
+                format!("write|0|7|{tail};"),
+                &nothing("3 line 0 field 14 byte 3 needed 0"),
             ),
-            (format!("write 74 7|{tail}"), format!("written 74 {slip}")),
-            (
-                format!("write 74 00000000000000000007|{tail}"),
-                format!("written 74 {slip}"),
-            ),
-            (
-                format!("write 9{} 7|{tail}", "9".repeat(40)),
-                format!("written 74 {slip}"),
-            ),
-            (
-                format!("write 73 7|{tail}"),
-                "refused 15 needed 74".to_string(),
-            ),
-            (
-                format!("write 0 1000000000000000|{tail}"),
-                "refused 4 line 0 field 3 byte 0".to_string(),
-            ),
-            (
-                format!("write 0 18446744073709551615|{tail}"),
-                "refused 4 line 0 field 3 byte 0".to_string(),
-            ),
-            (
-                format!("write 0 7|{tail};"),
-                "refused 3 line 0 field 14 byte 3".to_string(),
-            ),
-            (format!("write 74 7|{tail}|"), UNKNOWN.to_string()),
-            (format!("write 74 {tail}"), UNKNOWN.to_string()),
-            (format!("write 74 |{tail}"), UNKNOWN.to_string()),
-            (format!("write 74 -7|{tail}"), UNKNOWN.to_string()),
-            (format!("write 74  7|{tail}"), UNKNOWN.to_string()),
-            (format!("write  74 7|{tail}"), UNKNOWN.to_string()),
-            (format!("write x 7|{tail}"), UNKNOWN.to_string()),
-            (format!("write 7|{tail}"), UNKNOWN.to_string()),
-            (
-                format!("write 74 18446744073709551616|{tail}"),
-                UNKNOWN.to_string(),
-            ),
-            (
-                format!("write 74 000000000000000000007|{tail}"),
-                UNKNOWN.to_string(),
-            ),
-            ("write".to_string(), UNKNOWN.to_string()),
-            ("write 74".to_string(), UNKNOWN.to_string()),
         ] {
-            assert_eq!(answer(line.as_bytes()), expected, "{line}");
+            run(&[(&question, expected)]);
         }
+    }
+
+    #[test]
+    fn wage_lines() {
+        run(&[
+            (
+                "end",
+                "refused 11 line 0 field 0 byte 0 needed 0 lines 0 groups 0 orders 0",
+            ),
+            ("begin|20240228", "accepted"),
+            (
+                "end",
+                "refused 14 line 1 field 0 byte 0 needed 0 lines 0 groups 0 orders 0",
+            ),
+            ("place|1002|1", ""),
+            (
+                &format!("300|1001|{LABEL}"),
+                "refused 15 line 0 field 0 byte 0 needed 1002",
+            ),
+            (&format!("300|1101|{LABEL}"), "unknown"),
+            (&format!("300|1003|{LABEL}"), "accepted"),
+            ("place|1002|6", "00000000042"),
+            ("place|1002|9", ""),
+            ("poke|0|120", ""),
+            ("place|1002|1", "x0240228"),
+            ("place|1001|1", ""),
+            ("poke|1100|1", ""),
+            ("step|1001", "refused 1 line 1 field 0 byte 0 needed 0"),
+            ("step|1002", "refused 1 line 1 field 0 byte 0 needed 0"),
+            ("begin|20240228", "accepted"),
+            ("step|1002", "refused 3 line 1 field 1 byte 0 needed 0"),
+            ("399|1002|20240228", "accepted"),
+            ("keep|0", ""),
+            (
+                "301|1002|20240228|4|1002|a|b|c|d|e",
+                "refused 10 line 1 field 0 byte 0 needed 0",
+            ),
+            (
+                "301|1002|20240228|4|1000|a|b|c|d|e",
+                "refused 1 line 0 field 0 byte 0 needed 0",
+            ),
+            (
+                "301|1002|20240228|4||a|b|c|d|e",
+                "refused 10 line 0 field 0 byte 0 needed 0",
+            ),
+            (
+                "begin|20240230",
+                "refused 11 line 0 field 0 byte 0 needed 0",
+            ),
+            ("begin", "refused 11 line 0 field 0 byte 0 needed 0"),
+            ("show|1000", &format!("{:>1000}", "399")),
+            ("show", ""),
+            ("keep it", "unknown"),
+        ]);
     }
 
     #[test]
@@ -275,12 +395,22 @@ mod tests {
         assert_eq!(run(b"\n"), b" -> unknown\n");
         assert_eq!(run(b"a"), b"a -> unknown\n");
         assert_eq!(
-            run(b"a\n\nb\n"),
-            b"a -> unknown\n -> unknown\nb -> unknown\n"
+            run(b"oib|1\xff\n\n"),
+            b"oib|1\xff -> refused 3 line 0 field 0 byte 1 needed 0\n -> unknown\n"
         );
-        assert_eq!(
-            run(b"oib 1\xff"),
-            b"oib 1\xff -> refused 3 line 0 field 0 byte 1\n"
-        );
+    }
+
+    /// What a person chose meets every refusal but 17.
+    #[test]
+    fn hand_picked() {
+        let mut desk = Desk::default();
+        let mut answers = Vec::new();
+        for question in [HAND, WAGE].concat().split(|&b| b == b'\n') {
+            answers.push(desk.answer(question));
+        }
+        for number in (1..=16).map(|n| format!("refused {n} ")) {
+            let met = answers.iter().any(|a| a.starts_with(number.as_bytes()));
+            assert!(met, "{number}");
+        }
     }
 }

@@ -5,7 +5,7 @@ use crate::account::{iban, iban_check};
 use crate::checkdigit::{values, Rule};
 use crate::reference::{Model, LONGEST, MODELS};
 use crate::refusal::Reason;
-use crate::wet::list;
+use crate::wet::{divide, list, WHOLE_ROOM};
 use std::io::{self, Write};
 
 mod slips;
@@ -95,11 +95,14 @@ fn case(dice: &mut Dice) -> Vec<u8> {
             join(&[b"ref", &name, &text])
         }
         55..=66 => check_or_make(dice),
-        67..=86 => join(&[b"list", &wet_line(dice)]),
+        67..=86 => {
+            let line = wet_line(dice);
+            list_case(WHOLE_ROOM, &line)
+        }
         87..=95 => {
             let line = wet_line(dice);
             let room = room_for(dice, &line);
-            join(&[b"room", room.to_string().as_bytes(), &line])
+            list_case(room, &line)
         }
         96..=116 => slips::slip_case(dice),
         117..=128 => slips::write_case(dice),
@@ -124,8 +127,18 @@ pub fn listing_input(dice: &mut Dice) -> Vec<u8> {
     input
 }
 
-fn join(words: &[&[u8]]) -> Vec<u8> {
-    words.join(&b' ')
+/// A question: its verb and its fields.
+fn join(fields: &[&[u8]]) -> Vec<u8> {
+    fields.join(&b'|')
+}
+
+/// A question for the fillings of a line of the listing program.
+fn list_case(room: usize, line: &[u8]) -> Vec<u8> {
+    let room = room.to_string();
+    match divide(line) {
+        None => join(&[b"list iban", room.as_bytes(), line]),
+        Some((model, text)) => join(&[b"list ref", room.as_bytes(), model, text]),
+    }
 }
 
 // Right texts.
@@ -413,10 +426,10 @@ fn check_or_make(dice: &mut Dice) -> Vec<u8> {
         } else {
             body
         };
-        join(&[b"make", word, &text])
+        join(&[&[b"make ", word].concat(), &text])
     } else {
         let text = completed(Rule::named(word).unwrap_or(Rule::Ini), body);
-        join(&[b"check", word, &spoilt(dice, text)])
+        join(&[&[b"check ", word].concat(), &spoilt(dice, text)])
     }
 }
 
@@ -444,7 +457,7 @@ fn wet_line(dice: &mut Dice) -> Vec<u8> {
     } else {
         let (name, mut text) = model_and_text(dice);
         wet(dice, &mut text, marks);
-        join(&[&name, &text])
+        [name, text].join(&b' ')
     }
 }
 
@@ -475,9 +488,25 @@ fn room_for(dice: &mut Dice, line: &[u8]) -> usize {
 
 /// A line whose verb is none, or stands alone.
 fn stray(dice: &mut Dice) -> Vec<u8> {
-    const VERBS: [&str; 15] = [
-        "iban", "oib", "ref", "check", "make", "list", "IBAN", "iban\t", " iban", "lists", "#", "",
-        "slip", "write", "slips",
+    const VERBS: [&str; 18] = [
+        "iban",
+        "oib",
+        "ref",
+        "check ini",
+        "make iso",
+        "list iban",
+        "list ref",
+        "IBAN",
+        "iban\t",
+        " iban",
+        "list",
+        "lists",
+        "#",
+        "",
+        "slip",
+        "write",
+        "slips",
+        "check",
     ];
     match dice.below(3) {
         0 => noise(dice, 40),
@@ -492,7 +521,7 @@ fn stray(dice: &mut Dice) -> Vec<u8> {
 #[cfg(test)]
 mod tests {
     use super::*;
-    use crate::cases::answer;
+    use crate::cases::Desk;
     use std::collections::BTreeSet;
 
     fn made(seed: u64, count: usize) -> Vec<u8> {
@@ -522,12 +551,12 @@ mod tests {
     fn every_answer_is_met() {
         let mut met = BTreeSet::new();
         for line in made(3, 20_000).split(|&b| b == b'\n') {
-            let verb = String::from_utf8_lossy(line.split(|&b| b == b' ').next().unwrap());
-            let answer = answer(line);
+            let verb = String::from_utf8_lossy(line.split(|&b| b == b'|').next().unwrap());
+            let answer = String::from_utf8(Desk::default().answer(line)).unwrap();
             let words: Vec<&str> = answer.split(' ').collect();
             let kind = match words[..] {
                 ["refused", number, ..] => number,
-                [count, "fillings", ..] if count != "0" => "some",
+                [_, "fillings", "0"] => "none",
                 [word, ..] => word,
                 [] => "",
             };
@@ -550,30 +579,36 @@ mod tests {
             "ref 7",
             "ref 8",
             "ref 9",
-            "check accepted",
-            "check 1",
-            "check 3",
-            "check 9",
-            "check unknown",
-            "make digit",
-            "make 1",
-            "make 3",
-            "make unknown",
-            "list some",
-            "list 0",
-            "list 1",
-            "list 3",
-            "list 5",
-            "list 7",
-            "list 16",
-            "room some",
-            "room 0",
-            "room 1",
-            "room 3",
-            "room 5",
-            "room 7",
-            "room 15",
-            "room 16",
+            "check ini accepted",
+            "check ini 1",
+            "check ini 3",
+            "check ini 9",
+            "check iso accepted",
+            "check iso 1",
+            "check iso 3",
+            "check iso 9",
+            "make ini accepted",
+            "make ini 1",
+            "make ini 3",
+            "make iso accepted",
+            "make iso 1",
+            "make iso 3",
+            "check INI unknown",
+            "make  unknown",
+            "list iban accepted",
+            "list iban none",
+            "list iban 1",
+            "list iban 3",
+            "list iban 15",
+            "list iban 16",
+            "list ref accepted",
+            "list ref none",
+            "list ref 1",
+            "list ref 3",
+            "list ref 5",
+            "list ref 7",
+            "list ref 15",
+            "list ref 16",
         ] {
             assert!(met.contains(wanted), "{wanted}");
         }

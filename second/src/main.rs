@@ -8,7 +8,6 @@ const USAGE: &str = "usage: second cases < FILE
        second listing < LINE
        second slipfile < SLIP
        second wagefile < DAY AND FILE
-       second wagecases < COMMANDS
        second gen SEED N
        second genwage SEED LINES
        second genwagecases SEED N
@@ -39,11 +38,6 @@ fn run(arguments: &[OsString]) -> io::Result<ExitCode> {
         ["listing"] => wet::program(io::stdin().lock(), output())?,
         ["slipfile"] => slip::program(io::stdin().lock(), output())?,
         ["wagefile"] => wage::program(io::stdin().lock(), output())?,
-        ["wagecases"] => {
-            let mut input = Vec::new();
-            io::stdin().lock().read_to_end(&mut input)?;
-            wage::answer_all(&input, output())?;
-        }
         ["gen", seed, count] => {
             generate::cases(number(seed)?, number(count)? as usize, output())?;
         }

@@ -4,7 +4,6 @@
 //! A field is judged in one way only, whether it stands in a line that is read
 //! or is handed in to be written: `fields` takes the bytes of each field alone.
 
-mod cases;
 mod date;
 mod fields;
 mod judge;
@@ -13,7 +12,6 @@ mod program;
 pub mod record;
 mod writer;
 
-pub use cases::answer_all;
 pub use date::is_date;
 pub use fields::{Declared, Kind, CODES};
 pub use judge::{whole, Accepted, Condition, Judge, Open, MOST_LINES};

@@ -24,11 +24,6 @@ pub struct Listing {
 }
 
 impl Listing {
-    /// How many digits a filling has when written out; 0 without marks too.
-    pub fn width(&self) -> usize {
-        self.marks.len().max(1)
-    }
-
     /// 15 where there are more numbers than room for them.
     pub fn within(self, room: usize) -> Result<Listing, Refusal> {
         if self.numbers.len() > room {

@@ -2,6 +2,7 @@
 //! against the second implementation.
 
 pub mod bench;
+pub mod cases;
 pub mod clock;
 pub mod dice;
 pub mod ffi;
@@ -12,4 +13,3 @@ pub mod maker;
 pub mod properties;
 pub mod table;
 pub mod trial;
-pub mod wagecases;

@@ -1,22 +1,14 @@
-// Runs the cases of document 01, of its sources and a run of made-up ones: one question a line on standard input, each
-// written back with its answer. An independent second implementation answers the same lines (`second cases`), and the
-// gate compares.
+// Runs the cases of a person's choosing, those of document 01 and of its sources among them: one question a line on
+// standard input, each written back with its answer. An independent second implementation answers the same questions
+// (`second cases`), and the gate compares.
 //
-//     iban TEXT, oib TEXT, ref MODEL TEXT, check RULE TEXT, make RULE TEXT, list LINE, room K LINE,
-//     slip TEXT, write K CENTS|F4|..|F14 (`|` stands for a line feed)
-//
-// The starred cases of 01 are proved about the definitions, as one table (proofs/Starred.antt).
+// A question is a verb and its fields, divided by bars; second/README.md lists the verbs. From question to question stay a
+// memory, at whose front stands what was written last, the lines kept for a group, and the judge's record.
 ghost use Prim.Native.Nat.{_≤_};
 ghost use lib.ListN.{length};
-use check::same;
-use check_digits::Made;
-use check_digits::Rule;
-use classes::Class;
-use fillings::Listed;
-use refusal::Answer;
-use refusal::Refusal;
-use slip_writer::Written;
-use text::Found;
+use desk_record::Record;
+use boundary::Told;
+use boundary::Valued;
 use words::front;
 use words::say;
 use words::say_number;
@@ -24,8 +16,37 @@ use words::say_number;
 fn main() {
     let mut input = [0u8; 262144];
     let n = io::read_full(0, &mut input);
-    answer_all(&input[..n]);
+    let mut memory = [0u8; 1100];
+    let mut kept = [0u8; 8016];
+    answer_all(&input[..n], &mut memory, &mut kept);
 }
+
+// Answers each line.
+fn answer_all(s: &[u8], memory: &mut [u8], kept: &mut [u8]) {
+    let mut r = desk_judge::lanecockle_judge_begin(0);
+    let mut at = 0;
+    while at < s.len() {
+        let start = at;
+        let e = find(&s[start..], 10);
+        let end = start + e;
+        at = end + 1;
+        r = answer(&s[start..end], r, memory, kept);
+    }
+}
+
+// Writes a question back with its answer; the record after it.
+fn answer(question: &[u8], r: Record, memory: &mut [u8], kept: &mut [u8]) -> Record {
+    say(question);
+    say(b" -> ");
+    let verb = number_of(field(question, 0));
+    respond(verb, question, memory, kept);
+    let next = judge_by(verb, number(field(question, 1)), r, memory);
+    say(b"\n");
+    next
+}
+
+// ---------------------------------------------------------------------------
+// One reader of a question
 
 // The place of the first byte b, or the length where there is none.
 fn find(s: &[u8], b: u8) -> usize
@@ -41,421 +62,299 @@ fn find(s: &[u8], b: u8) -> usize
     i
 }
 
-// What stands after a place.
-fn beyond(s: &[u8], i: usize) -> &[u8] {
-    if i < s.len() {
-        return &s[i + 1..];
-    }
-    &s[..0]
-}
-
-// Answers each line.
-fn answer_all(s: &[u8]) {
-    let mut at = 0;
-    while at < s.len() {
-        let e = find(&s[at..], 10);
-        let end = at + e;
-        answer(&s[at..end]);
-        at = end + 1;
-    }
-}
-
-// Writes a line back with its answer.
-fn answer(line: &[u8]) {
-    say(line);
-    say(b" -> ");
-    let v = find(line, 32);
-    answer_verb(front(line, v), beyond(line, v));
-    say(b"\n");
-}
-
-fn answer_verb(verb: &[u8], rest: &[u8]) {
-    if same(verb, b"iban") {
-        judged(verdict::answer_in(account::iban(rest), 0));
-        return;
-    }
-    if same(verb, b"oib") {
-        judged(verdict::answer_in(account::oib(rest), 0));
-        return;
-    }
-    if same(verb, b"ref") {
-        let m = find(rest, 32);
-        let verdict = reference::reference(front(rest, m), beyond(rest, m));
-        judged(verdict::answer_in(verdict, 0));
-        return;
-    }
-    answer_digits(verb, rest);
-}
-
-fn answer_digits(verb: &[u8], rest: &[u8]) {
-    let r = find(rest, 32);
-    if same(verb, b"check") {
-        check_by(front(rest, r), beyond(rest, r));
-        return;
-    }
-    if same(verb, b"make") {
-        make_by(front(rest, r), beyond(rest, r));
-        return;
-    }
-    answer_list(verb, rest);
-}
-
-fn answer_list(verb: &[u8], rest: &[u8]) {
-    if same(verb, b"list") {
-        list(rest, 10000);
-        return;
-    }
-    if same(verb, b"room") {
-        let r = find(rest, 32);
-        list(beyond(rest, r), decimal(front(rest, r)));
-        return;
-    }
-    answer_slip(verb, rest);
-}
-
-fn answer_slip(verb: &[u8], rest: &[u8]) {
-    if same(verb, b"slip") {
-        read_slip(rest);
-        return;
-    }
-    if same(verb, b"write") {
-        let r = find(rest, 32);
-        write_by(front(rest, r), beyond(rest, r));
-        return;
-    }
-    say(b"unknown");
-}
-
-fn check_by(rule: &[u8], s: &[u8]) {
-    if same(rule, b"ini") {
-        judged(check_digits::checked(Rule::Ini, s));
-        return;
-    }
-    if same(rule, b"iso") {
-        judged(check_digits::checked(Rule::Mod1110, s));
-        return;
-    }
-    say(b"unknown");
-}
-
-fn make_by(rule: &[u8], s: &[u8]) {
-    if same(rule, b"ini") {
-        made(check_digits::make(Rule::Ini, s));
-        return;
-    }
-    if same(rule, b"iso") {
-        made(check_digits::make(Rule::Mod1110, s));
-        return;
-    }
-    say(b"unknown");
-}
-
-fn judged(answer: Answer) {
-    match answer {
-        Answer::Accepted => say(b"accepted"),
-        Answer::Refused(r) => refused(r),
-    }
-}
-
-fn made(digit: Made) {
-    match digit {
-        Made::Digit(d) => {
-            say(b"digit ");
-            say_number(d as usize);
-        }
-        Made::Refused(r) => refused(r),
-    }
-}
-
-fn refused(r: Refusal) {
-    say(b"refused ");
-    let n = refusal::number(r);
-    say_number(n as usize);
-    if n == 15 {
-        say(b" needed ");
-        say_number(refusal::needed(r));
-        return;
-    }
-    let p = refusal::told(r);
-    say(b" line ");
-    say_number(p.line);
-    say(b" field ");
-    say_number(p.field);
-    say(b" byte ");
-    say_number(p.byte);
-}
-
-// The number that decimal digits write, or 10,000 where that is more.
-fn decimal(s: &[u8]) -> usize
-    ensures { λ r. ⌜ r ≤ 10000 ⌝ }
-{
-    let mut n = 0;
+// What stands behind so many bars.
+fn behind(s: &[u8], bars: usize) -> &[u8] {
+    let mut passed = 0;
     let mut i = 0;
     while i < s.len() {
-        n = one_more(n, s[i]);
-        i += 1;
-    }
-    n
-}
-
-fn one_more(n: usize, b: u8) -> usize
-    ensures { λ r. ⌜ r ≤ 10000 ⌝ }
-{
-    if n > 1000 {
-        return 10000;
-    }
-    if b < 48 {
-        return 10000;
-    }
-    let m = n * 10 + (b - 48) as usize;
-    if m > 10000 {
-        return 10000;
-    }
-    m
-}
-
-// Lists an IBAN, or a model and a reference, into `room` entries, 10,000 at most.
-fn list(line: &[u8], room: usize) {
-    let mut out = [0u16; 10000];
-    list_in(line, room, &mut out);
-}
-
-fn list_in(line: &[u8], room: usize, out: &mut [u16]) {
-    let d = find(line, 32);
-    if room <= out.len() {
-        if d == line.len() {
-            let r = wet::list_iban(line, &mut out[..room]);
-            listed(r, text::count(63, line), out);
-            return;
+        if passed == bars {
+            return &s[i..];
         }
-        let tail = beyond(line, d);
-        let r = wet::list_reference(front(line, d), tail, &mut out[..room]);
-        listed(r, text::count(63, tail), out);
-    }
-}
-
-// Writes a listing: its count, and each number with as many digits as there are marks.
-fn listed(r: Listed, marks: usize, out: &[u16]) {
-    match r {
-        Listed::Count(n) => {
-            say_number(n);
-            say(b" fillings");
-            numbers(n, marks, out);
-        }
-        Listed::Refused(r) => refused(r),
-    }
-}
-
-fn numbers(n: usize, marks: usize, out: &[u16]) {
-    let mut i = 0;
-    while i < n {
-        if i < out.len() {
-            say(b" ");
-            padded(out[i], marks);
-        }
-        i += 1;
-    }
-}
-
-fn padded(n: u16, marks: usize) {
-    if marks > 3 {
-        if n < 1000 {
-            say(b"0");
-        }
-    }
-    if marks > 2 {
-        if n < 100 {
-            say(b"0");
-        }
-    }
-    if marks > 1 {
-        if n < 10 {
-            say(b"0");
-        }
-    }
-    say_number(n as usize);
-}
-
-// ---------------------------------------------------------------------------
-// Slips
-
-// Puts a text at the front of `out`, as far as there is room, with line feeds for its bars, and answers how many bytes.
-fn with_ends(s: &[u8], out: &mut [u8]) -> usize {
-    let mut i = 0;
-    while i < s.len() {
-        if i < out.len() {
-            out[i] = swapped(s[i], 124, 10);
+        if s[i] == 124 {
+            passed += 1;
             i += 1;
         } else {
             i += 1;
         }
     }
-    i
-}
-
-// A byte, or b where it is a.
-fn swapped(x: u8, a: u8, b: u8) -> u8 {
-    if x == a { b } else { x }
-}
-
-fn read_slip(s: &[u8]) {
-    let mut buffer = [0u8; 2048];
-    let n = with_ends(s, &mut buffer);
-    judged(slip::read(front(&buffer, n)));
-}
-
-// The part of a text after k bars.
-fn after_bars(s: &[u8], k: usize) -> &[u8] {
-    let mut at = 0;
-    let mut left = k;
-    while 0 < left {
-        if s.len() <= at {
-            return &s[..0];
-        }
-        at = at + find(&s[at..], 124) + 1;
-        left -= 1;
-    }
-    if at <= s.len() {
-        return &s[at..];
-    }
     &s[..0]
 }
 
-// The field of a text between bars, counted from 0.
-fn barred(s: &[u8], k: usize) -> &[u8] {
-    let t = after_bars(s, k);
-    let e = find(t, 124);
-    front(t, e)
+// What stands behind so many bars, up to the next one.
+fn field(s: &[u8], bars: usize) -> &[u8] {
+    let t = behind(s, bars);
+    front(t, find(t, 124))
 }
 
-// How many bars a text has.
-fn bars(s: &[u8]) -> usize {
-    let mut n = 0;
-    let mut i = 0;
-    while i < s.len() {
-        n = counted(n, s[i]);
-        i += 1;
-    }
-    n
-}
-
-fn counted(n: usize, b: u8) -> usize {
-    if b == 124 {
-        if n < 1000 {
-            return n + 1;
+// A verb's number, by its place in this list; 22 where it is not there.
+fn number_of(verb: &[u8]) -> usize {
+    let verbs =
+        b"iban|oib|ref|check ini|check iso|make ini|make iso|slip|list iban|list ref|write|300|301|309|399|keep|poke|place|show|begin|step|end";
+    let mut k = 0;
+    while k < 22 {
+        if text::is_same(verb, field(verbs, k)) {
+            return k;
         }
+        k += 1;
+    }
+    k
+}
+
+// The number that the digits of a text write; the largest where that is more.
+fn number(s: &[u8]) -> usize {
+    let mut n = 0;
+    let mut i = 0;
+    while i < s.len() {
+        n = longer(n, s[i]);
+        i += 1;
     }
     n
 }
 
-// An amount of up to twenty digits that fits, or nothing.
-fn cents_of(s: &[u8]) -> Found {
-    if s.len() == 0 {
-        return Found::Nothing;
-    }
-    if 20 < s.len() {
-        return Found::Nothing;
-    }
-    let mut n = 0;
-    let mut i = 0;
-    while i < s.len() {
-        let Found::At(m) = next_digit(n, s[i]) else {
-            return Found::Nothing;
-        };
-        n = m;
-        i += 1;
-    }
-    Found::At(n)
-}
-
-fn next_digit(n: usize, b: u8) -> Found {
+// A number with one digit more after it; what is no digit is passed over.
+fn longer(n: usize, b: u8) -> usize {
     if b < 48 {
-        return Found::Nothing;
+        return n;
     }
     if 57 < b {
-        return Found::Nothing;
+        return n;
+    }
+    if 1844674407370955161 < n {
+        return 18446744073709551615;
     }
     let d = (b - 48) as usize;
-    if 1844674407370955161 < n {
-        return Found::Nothing;
-    }
     let m = n * 10;
     if 18446744073709551615 - d < m {
-        return Found::Nothing;
+        return 18446744073709551615;
     }
-    Found::At(m + d)
+    m + d
 }
 
-// Writes a slip where the room is decimal digits.
-fn write_by(room: &[u8], s: &[u8]) {
-    if room.len() == 0 {
-        say(b"unknown");
-        return;
+// A byte of a text whose end is a divider too; a bar that does not divide is a line feed.
+fn byte_at(s: &[u8], i: usize, divider: u8) -> u8 {
+    if s.len() <= i {
+        return divider;
     }
-    if !text::all_of(Class::Digits, room) {
-        say(b"unknown");
-        return;
+    let b = s[i];
+    if b == divider {
+        return b;
     }
-    write_slip(decimal(room), s);
+    if b == 124 {
+        return 10;
+    }
+    b
 }
 
-fn write_slip(room: usize, s: &[u8]) {
-    if bars(s) != 11 {
-        say(b"unknown");
-        return;
-    }
-    let Found::At(cents) = cents_of(barred(s, 0)) else {
-        say(b"unknown");
-        return;
-    };
-    let mut out = [0u8; 2048];
-    write_in(cents, room, s, &mut out);
-}
-
-fn write_in(cents: usize, room: usize, s: &[u8], out: &mut [u8]) {
-    let k = least(room, out.len());
-    if k <= out.len() {
-        let r = slip_writer::write(
-            cents as u64,
-            barred(s, 1),
-            barred(s, 2),
-            barred(s, 3),
-            barred(s, 4),
-            barred(s, 5),
-            barred(s, 6),
-            barred(s, 7),
-            barred(s, 8),
-            barred(s, 9),
-            barred(s, 10),
-            barred(s, 11),
-            &mut out[..k],
-        );
-        written(r, out);
-    }
-}
-
-fn least(a: usize, b: usize) -> usize {
-    if a < b { a } else { b }
-}
-
-fn written(r: Written, out: &[u8]) {
-    match r {
-        Written::Bytes(n) => {
-            say(b"written ");
-            say_number(n);
-            say(b" ");
-            say_barred(front(out, n));
-        }
-        Written::Refused(r) => refused(r),
-    }
-}
-
-// Writes a text with bars for its line feeds.
-fn say_barred(s: &[u8]) {
+// Puts the fields of a text one behind the other into `text`, and their sizes into `sizes`, as far as there is room.
+fn divide(s: &[u8], divider: u8, text: &mut [u8], sizes: &mut [usize]) {
+    let mut field = 0;
+    let mut start = 0;
     let mut i = 0;
-    while i < s.len() {
-        let one = [swapped(s[i], 10, 124)];
-        say(&one);
+    while i <= s.len() {
+        let b = byte_at(s, i, divider);
+        if b == divider {
+            if sizes.len() <= field {
+                return;
+            }
+            sizes[field] = i - start;
+            field += 1;
+            i += 1;
+            start = i;
+        } else {
+            let at = i - field;
+            if text.len() <= at {
+                return;
+            }
+            text[at] = b;
+            i += 1;
+        }
+    }
+}
+
+// ---------------------------------------------------------------------------
+// One writer of answers
+
+// Writes an answer.
+fn tell(t: Told) {
+    if t.number == 0 {
+        say(b"accepted");
+        return;
+    }
+    count(b"refused ", t.number);
+    count(b" line ", t.line);
+    count(b" field ", t.field);
+    count(b" byte ", t.byte);
+    count(b" needed ", t.needed);
+}
+
+// Writes a word and its number.
+fn count(word: &[u8], n: usize) {
+    say(word);
+    say_number(n);
+}
+
+// Writes an answer with its value.
+fn tell_value(v: Valued, word: &[u8]) {
+    let t = v.told;
+    tell(t);
+    count(word, v.value);
+}
+
+// Writes a listing's answer, and the numbers listed.
+fn tell_list(v: Valued, out: &[u16]) {
+    tell_value(v, b" fillings ");
+    let n = v.value;
+    let mut i = 0;
+    while i < n {
+        if i < out.len() {
+            count(b" ", out[i] as usize);
+        }
         i += 1;
     }
+}
+
+// ---------------------------------------------------------------------------
+// The verbs
+
+// Answers a question by its verb's number; the judge's verbs, from 19 on, are `judge_by`'s.
+fn respond(verb: usize, question: &[u8], memory: &mut [u8], kept: &mut [u8]) {
+    match verb {
+        0..=4 => tell(judge_text(verb, field(question, 1), field(question, 2))),
+        5..=6 => tell_value(made(verb, field(question, 1)), b" digit "),
+        7 => tell(read_slip(behind(question, 1))),
+        8..=9 => list(verb, question),
+        10..=14 => write(verb, question, memory, kept),
+        15..=18 => handle(verb, question, memory, kept),
+        22 => say(b"unknown"),
+        _ => {}
+    }
+}
+
+// iban, oib, ref, check ini, check iso.
+fn judge_text(verb: usize, a: &[u8], b: &[u8]) -> Told {
+    match verb {
+        0 => desk_checks::lanecockle_iban(a),
+        1 => desk_checks::lanecockle_oib(a),
+        2 => desk_checks::lanecockle_reference(a, b),
+        3 => desk_checks::lanecockle_check_digits(0, a),
+        _ => desk_checks::lanecockle_check_digits(1, a),
+    }
+}
+
+// make ini, make iso.
+fn made(verb: usize, a: &[u8]) -> Valued {
+    if verb == 5 {
+        return desk_checks::lanecockle_make_digit(0, a);
+    }
+    desk_checks::lanecockle_make_digit(1, a)
+}
+
+// slip: its bars are line feeds.
+fn read_slip(s: &[u8]) -> Told {
+    let mut text = [0u8; 1024];
+    let mut sizes = [0usize; 1];
+    divide(s, 10, &mut text, &mut sizes);
+    desk_slips::lanecockle_slip_read(front(&text, sizes[0]))
+}
+
+// list iban, list ref: into a room of 10,000 numbers at most.
+fn list(verb: usize, question: &[u8]) {
+    let mut out = [0u16; 10000];
+    let room = number(field(question, 1));
+    if 10000 < room {
+        say(b"unknown");
+        return;
+    }
+    listed(
+        verb,
+        field(question, 2),
+        field(question, 3),
+        &mut out[0..room],
+    );
+}
+
+fn listed(verb: usize, a: &[u8], b: &[u8], out: &mut [u16]) {
+    if verb == 8 {
+        tell_list(desk_wet::lanecockle_list_iban(a, out), out);
+        return;
+    }
+    tell_list(desk_wet::lanecockle_list_reference(a, b, out), out);
+}
+
+// write, 300, 301, 309, 399: into a room at the front of the memory.
+fn write(verb: usize, question: &[u8], memory: &mut [u8], kept: &[u8]) {
+    let room = number(field(question, 1));
+    if memory.len() < room {
+        say(b"unknown");
+        return;
+    }
+    if verb == 10 {
+        write_slip(question, &mut memory[0..room]);
+        return;
+    }
+    let orders = front(kept, number(field(question, 4)));
+    tell(write_line(verb, question, orders, &mut memory[0..room]));
+}
+
+fn write_slip(question: &[u8], out: &mut [u8]) {
+    let cents = number(field(question, 2)) as u64;
+    let mut text = [0u8; 1024];
+    let mut sizes = [0usize; 16];
+    divide(behind(question, 3), 124, &mut text, &mut sizes);
+    let v = desk_slips::lanecockle_slip_write(cents, &text, &sizes, out);
+    tell_value(v, b" bytes ");
+    say(b"|");
+    say(front(out, v.value));
+}
+
+fn write_line(verb: usize, question: &[u8], orders: &[u8], out: &mut [u8]) -> Told {
+    let day = number(field(question, 2)) as u64;
+    let kind = number(field(question, 3)) as u64;
+    let mut text = [0u8; 1024];
+    let mut sizes = [0usize; 16];
+    divide(behind(question, 5), 124, &mut text, &mut sizes);
+    match verb {
+        11 => desk_writers::lanecockle_write_label(day, &text, &sizes, out),
+        12 => desk_writers::lanecockle_write_group(day, kind, &text, &sizes, orders, out),
+        13 => desk_writers::lanecockle_write_order(day, kind, &text, &sizes, out),
+        _ => desk_writers::lanecockle_write_closing(day, out),
+    }
+}
+
+// keep, poke, place, show.
+fn handle(verb: usize, question: &[u8], memory: &mut [u8], kept: &mut [u8]) {
+    let n = number(field(question, 1));
+    let m = number(field(question, 2));
+    match verb {
+        15 => room::put(kept, n, front(memory, 1002)),
+        16 => room::put(memory, n, &[(m % 256) as u8]),
+        17 => say(wage_line::place(front(memory, n), m)),
+        _ => say(front(memory, n)),
+    }
+}
+
+// begin, step, end: the record after it.
+fn judge_by(verb: usize, n: usize, r: Record, memory: &[u8]) -> Record {
+    match verb {
+        19 => told(desk_judge::lanecockle_judge_begin(n as u64)),
+        20 => told(desk_judge::lanecockle_judge_step(r, front(memory, n))),
+        21 => ended(r),
+        _ => r,
+    }
+}
+
+fn told(r: Record) -> Record {
+    let t = r.told;
+    tell(t);
+    r
+}
+
+fn ended(r: Record) -> Record {
+    let e = desk_judge::lanecockle_judge_end(r);
+    let t = e.told;
+    tell(t);
+    count(b" lines ", e.lines);
+    count(b" groups ", e.groups);
+    count(b" orders ", e.orders);
+    r
 }

@@ -69,7 +69,7 @@ fn hand_picked() -> Vec<Vec<u8>> {
         HR1210010051863000160\nHR00\n1-2\nCOST\nx\n";
     let mut inputs: Vec<Vec<u8>> = CASES
         .split(|&b| b == b'\n')
-        .filter_map(|line| line.strip_prefix(b"slip "))
+        .filter_map(|line| line.strip_prefix(b"slip|"))
         .map(|text| swapped(text, b'|', b'\n'))
         .collect();
     inputs.push(RIGHT.to_vec());

@@ -204,9 +204,9 @@ fn hand_picked() -> Vec<Vec<u8>> {
     }
     // The case file's references, by turns the payer's and the recipient's.
     let cases = CASES.split(|&b| b == b'\n').filter_map(|line| {
-        let mut reference = line.strip_prefix(b"ref ")?.to_vec();
-        // A model has four bytes, and here no space stands behind it.
-        (reference.get(4)? == &b' ').then(|| reference.remove(4))?;
+        let mut reference = line.strip_prefix(b"ref|")?.to_vec();
+        // A model has four bytes, and here no bar stands behind it.
+        (reference.get(4)? == &b'|').then(|| reference.remove(4))?;
         reference.resize(26.max(reference.len()), b' ');
         (reference.len() == 26).then_some(reference)
     });

@@ -1,4 +1,4 @@
-//! Commands for the wage cases by dice: little scenes at the desk.
+//! Wage cases by dice: little scenes at the desk.
 
 use super::wages::{right_day, right_group, right_label, right_order, spoil, Fields};
 use super::Dice;
@@ -42,12 +42,12 @@ fn say(commands: &mut Commands, command: &str) {
     commands.push(command.as_bytes().to_vec());
 }
 
-/// A command that writes a line of these fields.
+/// A question that writes a line of these fields.
 fn written(head: String, fields: Fields) -> Vec<u8> {
     let mut command = head.into_bytes();
     for field in fields {
         command.push(b'|');
-        // Neither the end of a field nor that of a command can stand in one.
+        // Neither the end of a field nor that of a question can stand in one.
         command.extend(field.iter().map(|b| match b {
             b'\n' => 0x0b,
             b'|' => b'!',
@@ -57,13 +57,28 @@ fn written(head: String, fields: Fields) -> Vec<u8> {
     command
 }
 
+/// What a write is given besides its fields: the room, and how many of the kept
+/// bytes are a 301's group.
+#[derive(Clone, Copy)]
+struct Lent {
+    room: usize,
+    kept: usize,
+}
+
+/// Room for a line, and no group.
+const LENT: Lent = Lent {
+    room: LINE,
+    kept: 0,
+};
+
 /// A write with right fields, of which some are then spoilt.
-fn write(dice: &mut Dice, of: Type, day: u32, kind: u64, wrong: usize) -> Vec<u8> {
+fn write(dice: &mut Dice, of: Type, day: u32, kind: u64, wrong: usize, lent: Lent) -> Vec<u8> {
+    let Lent { room, kept } = lent;
     let head = match of {
-        Type::Label => format!("300 {day}"),
-        Type::Group => format!("301 {day} {kind}"),
-        Type::Order => format!("309 {day} {kind}"),
-        Type::Close => format!("399 {day}"),
+        Type::Label => format!("300|{room}|{day}||"),
+        Type::Group => format!("301|{room}|{day}|{kind}|{kept}"),
+        Type::Order => format!("309|{room}|{day}|{kind}|"),
+        Type::Close => format!("399|{room}|{day}"),
     };
     written(head, spoilt_line(dice, of, day, kind, wrong))
 }
@@ -123,7 +138,7 @@ fn poke(dice: &mut Dice, of: Type) -> Vec<u8> {
         0 => dice.byte(),
         _ => *dice.pick(POKED),
     };
-    format!("poke {place} {byte}").into_bytes()
+    format!("poke|{place}|{byte}").into_bytes()
 }
 
 /// A small file, line by line, with a mishap now and then.
@@ -134,10 +149,10 @@ fn file(dice: &mut Dice, commands: &mut Commands, day: u32, kind: u64) {
         1 => *dice.pick(&[0, 20230229, 20221231, 21000229, 20231301, 20230100]),
         _ => day,
     };
-    commands.push(format!("begin {begun}").into_bytes());
+    commands.push(format!("begin|{begun}").into_bytes());
     if dice.one_in(12) {
         say(commands, "end");
-        commands.push(format!("begin {begun}").into_bytes());
+        commands.push(format!("begin|{begun}").into_bytes());
     }
     let step = |dice: &mut Dice, commands: &mut Commands, of: Type, command: Vec<u8>| {
         commands.push(command);
@@ -146,34 +161,32 @@ fn file(dice: &mut Dice, commands: &mut Commands, day: u32, kind: u64) {
         }
         if mishap == 1 && dice.one_in(14) {
             let size = *dice.pick(&[0, 1, 998, 1000, 1001]);
-            commands.push(format!("size {size}").into_bytes());
-            say(commands, "step");
-            say(commands, "size 1002");
+            commands.push(format!("step|{size}").into_bytes());
         }
-        say(commands, "step");
+        say(commands, "step|1002");
         if mishap == 1 && dice.one_in(14) {
-            say(commands, "step");
+            say(commands, "step|1002");
         }
     };
-    let label = write(dice, Type::Label, day, kind, 0);
+    let label = write(dice, Type::Label, day, kind, 0, LENT);
     step(dice, commands, Type::Label, label);
     for _ in 0..*dice.pick(&[1, 1, 2]) {
         let orders: Commands = (0..*dice.pick(&[1, 1, 2, 3]))
-            .map(|_| write(dice, Type::Order, day, kind, 0))
+            .map(|_| write(dice, Type::Order, day, kind, 0, LENT))
             .collect();
-        say(commands, "forget");
+        let mut lent = LENT;
         for command in &orders {
             commands.push(command.clone());
-            say(commands, "keep");
+            keep(commands, &mut lent);
         }
-        let head = write(dice, Type::Group, day, kind, 0);
+        let head = write(dice, Type::Group, day, kind, 0, lent);
         step(dice, commands, Type::Group, head);
         for command in orders {
             // Forgotten, and so too few; or another, of another amount.
             match dice.below(5) {
                 0 if mishap == 2 => {}
                 1 if mishap == 2 => {
-                    let other = write(dice, Type::Order, day, kind, 0);
+                    let other = write(dice, Type::Order, day, kind, 0, LENT);
                     step(dice, commands, Type::Order, other);
                 }
                 _ => step(dice, commands, Type::Order, command),
@@ -181,7 +194,7 @@ fn file(dice: &mut Dice, commands: &mut Commands, day: u32, kind: u64) {
         }
     }
     if !dice.one_in(10) {
-        let close = write(dice, Type::Close, day, kind, 0);
+        let close = write(dice, Type::Close, day, kind, 0, LENT);
         step(dice, commands, Type::Close, close);
     }
     say(commands, "end");
@@ -203,35 +216,35 @@ fn lines(dice: &mut Dice, commands: &mut Commands, day: u32, kind: u64) {
             0 => *dice.pick(&[0, 3, 6, 45]),
             _ => kind,
         };
-        commands.push(write(dice, of, day, kind, wrong));
+        commands.push(write(dice, of, day, kind, wrong, LENT));
     }
     if dice.one_in(2) {
-        say(commands, "show");
+        say(commands, "show|1000");
     }
 }
 
 /// A 301 and its lent lines, of which one may be damaged.
 fn group(dice: &mut Dice, commands: &mut Commands, day: u32, kind: u64) {
-    say(commands, "forget");
-    let full = dice.one_in(12);
-    let count = if full { 9 } else { dice.between(0, 3) };
+    let mut lent = LENT;
+    let many = dice.one_in(12);
+    let count = if many { 8 } else { dice.between(0, 3) };
     for _ in 0..count {
         let of = match dice.below(15) {
             0 => *dice.pick(&[Type::Label, Type::Close]),
             _ => Type::Order,
         };
         let of_kind = if dice.one_in(10) { 9 - kind } else { kind };
-        if !full || dice.one_in(3) {
-            commands.push(write(dice, of, day, of_kind, 0));
+        if !many || dice.one_in(3) {
+            commands.push(write(dice, of, day, of_kind, 0, LENT));
         }
         if dice.one_in(6) {
             commands.push(poke(dice, of));
         }
-        say(commands, "keep");
+        keep(commands, &mut lent);
     }
     if dice.one_in(6) {
         let less = *dice.pick(&[0, 1, 2, 500, 1001, 1002, 1003, 3006]);
-        commands.push(format!("cut {less}").into_bytes());
+        lent.kept = lent.kept.saturating_sub(less);
     }
     let day = match dice.below(20) {
         0 => *dice.pick(&[0, 20230431, 24000230]),
@@ -242,66 +255,64 @@ fn group(dice: &mut Dice, commands: &mut Commands, day: u32, kind: u64) {
         _ => kind,
     };
     let wrong = *dice.pick(&[0, 0, 1, 1, 2]);
-    commands.push(write(dice, Type::Group, day, kind, wrong));
-    say(commands, "show");
+    commands.push(write(dice, Type::Group, day, kind, wrong, lent));
+    say(commands, "show|1000");
     if dice.one_in(3) {
-        say(commands, "place 5");
-        say(commands, "place 6");
+        say(commands, "place|1002|5");
+        say(commands, "place|1002|6");
     }
 }
 
 /// Places of a line that is a line, or is none any more.
 fn queries(dice: &mut Dice, commands: &mut Commands, day: u32, kind: u64) {
     let of = *dice.pick(&[Type::Label, Type::Order, Type::Order, Type::Close]);
-    commands.push(write(dice, of, day, kind, 0));
+    commands.push(write(dice, of, day, kind, 0, LENT));
     for _ in 0..dice.between(0, 2) {
         commands.push(poke(dice, of));
     }
     if dice.one_in(6) {
         let digits = dice.pick(&["300", "301", "309", "399", "308"]).as_bytes();
         for (place, digit) in (997..).zip(digits) {
-            commands.push(format!("poke {place} {digit}").into_bytes());
+            commands.push(format!("poke|{place}|{digit}").into_bytes());
         }
     }
-    let cut = dice.one_in(8);
-    if cut {
-        let size = *dice.pick(&[0, 57, 1000, 1001, 1002]);
-        commands.push(format!("size {size}").into_bytes());
-    }
+    let size = match dice.below(8) {
+        0 => *dice.pick(&[0, 57, 1000, 1001, 1003]),
+        _ => LINE,
+    };
     for _ in 0..dice.between(2, 6) {
         let field = match dice.below(8) {
             0 => *dice.pick(&[0, 24, 25, 26, 255, 256, 257, 1000]),
             _ => dice.between(1, 23),
         };
-        commands.push(format!("place {field}").into_bytes());
-    }
-    if cut {
-        say(commands, "size 1002");
+        commands.push(format!("place|{size}|{field}").into_bytes());
     }
 }
 
 fn rooms(dice: &mut Dice, commands: &mut Commands, day: u32, kind: u64) {
     for _ in 0..dice.between(1, 3) {
-        let room = *dice.pick(&[0, 1, 1000, 1001, 1002, 1003, 1100]);
-        commands.push(format!("room {room}").into_bytes());
+        let room = *dice.pick(&[0, 1, 1000, 1001, 1002, 1003, 1100, 1101]);
         let of = *dice.pick(&Type::ALL);
+        let mut lent = Lent { room, kept: 0 };
         if of == Type::Group {
-            say(commands, "forget");
-            say(commands, "room 1002");
-            commands.push(write(dice, Type::Order, day, kind, 0));
-            say(commands, "keep");
-            commands.push(format!("room {room}").into_bytes());
+            commands.push(write(dice, Type::Order, day, kind, 0, LENT));
+            keep(commands, &mut lent);
         }
         let wrong = usize::from(dice.one_in(4));
-        commands.push(write(dice, of, day, kind, wrong));
+        commands.push(write(dice, of, day, kind, wrong, lent));
     }
-    say(commands, "room 1002");
     if dice.one_in(2) {
-        say(commands, "show");
+        say(commands, "show|1100");
     }
 }
 
-/// What cannot be read.
+/// The line written last, kept behind those that a group has already.
+fn keep(commands: &mut Commands, lent: &mut Lent) {
+    commands.push(format!("keep|{}", lent.kept).into_bytes());
+    lent.kept += LINE;
+}
+
+/// What is no question, or has not all its fields.
 fn odd(dice: &mut Dice, commands: &mut Commands) {
     let texts = [
         "",
@@ -309,20 +320,27 @@ fn odd(dice: &mut Dice, commands: &mut Commands) {
         "hello",
         "STEP",
         "keep it",
+        "keep",
+        "keep|8000",
+        "keep|99999999999999999999",
         "place",
-        "place x",
-        "poke 1",
+        "place|1002|x",
+        "poke|1100|1",
+        "poke|1",
+        "poke|5|65601",
         "begin",
-        "begin today",
+        "begin|today",
+        "begin|99999999999",
         "300",
-        "300 20230101",
-        "300 20230101|20230101|4|000|1",
-        "301 20230101|a|b|c|d|e",
-        "309 20230101 4",
+        "300|1002|20230101",
+        "300|1002|20230101|||20230101|4|000|1",
+        "301|1002|20230101|4|9999|a|b|c|d|e",
+        "309|1002|20230101|4",
         "399",
-        "399 x",
-        "room",
-        "size -1",
+        "399|1002|x",
+        "399|1101|20230101",
+        "step",
+        "show",
     ];
     let text: &str = texts[dice.below(texts.len())];
     say(commands, text);
@@ -331,18 +349,17 @@ fn odd(dice: &mut Dice, commands: &mut Commands) {
 #[cfg(test)]
 mod tests {
     use super::*;
-    use crate::wage::answer_all;
+    use crate::cases::Desk;
     use std::collections::BTreeMap;
 
     fn answers(seed: u64, count: usize) -> (Vec<Vec<u8>>, Vec<Vec<u8>>) {
-        let (mut input, mut output) = (Vec::new(), Vec::new());
+        let mut input = Vec::new();
         wage_cases(seed, count, &mut input).unwrap();
-        answer_all(&input, &mut output).unwrap();
-        let split = |bytes: &[u8]| -> Vec<Vec<u8>> {
-            let bytes = bytes.strip_suffix(b"\n").unwrap();
-            bytes.split(|&b| b == b'\n').map(<[u8]>::to_vec).collect()
-        };
-        (split(&input), split(&output))
+        let input = input.strip_suffix(b"\n").unwrap();
+        let questions: Vec<Vec<u8>> = input.split(|&b| b == b'\n').map(<[u8]>::to_vec).collect();
+        let mut desk = Desk::default();
+        let answers = questions.iter().map(|q| desk.answer(q)).collect();
+        (questions, answers)
     }
 
     /// Every refusal that a writer or a judge can give, with its field.
@@ -353,7 +370,7 @@ mod tests {
         assert_eq!(answers.len(), 60_000);
         let mut met: BTreeMap<String, usize> = BTreeMap::new();
         for (command, answer) in commands.iter().zip(&answers) {
-            let verb = command.split(|&b| b == b' ').next().unwrap();
+            let verb = command.split(|&b| b == b'|').next().unwrap();
             let verb = String::from_utf8_lossy(verb).into_owned();
             let text = String::from_utf8_lossy(answer).into_owned();
             let words: Vec<&str> = text.split(' ').collect();
@@ -366,8 +383,8 @@ mod tests {
                     };
                     format!("{verb}{lent} {field}: {number}")
                 }
-                ["accepted", ..] => format!("{verb} accepted"),
-                ["ok" | "written" | "full" | "?"] => format!("{verb} {text}"),
+                ["accepted" | "unknown", ..] => format!("{verb} {}", words[0]),
+                [""] => format!("{verb} nothing"),
                 _ => format!("{verb} text"),
             };
             *met.entry(key).or_default() += 1;
@@ -425,7 +442,7 @@ mod tests {
         for key in [
             "300 0: 11",
             "300 0: 15",
-            "300 written",
+            "300 accepted",
             "301 0: 1",
             "301 0: 5",
             "301 0: 10",
@@ -437,20 +454,20 @@ mod tests {
             "301 lent 1: 3",
             "301 lent 9: 3",
             "301 lent 23: 5",
-            "301 written",
+            "301 accepted",
             "309 0: 5",
             "309 0: 11",
             "309 0: 15",
-            "309 written",
+            "309 accepted",
             "399 0: 15",
-            "399 written",
-            "keep full",
-            "keep ok",
-            "cut ok",
+            "399 accepted",
+            "keep nothing",
+            "poke nothing",
+            "399 unknown",
             "place text",
             "show text",
             "begin 0: 11",
-            "begin ok",
+            "begin accepted",
             "step 0: 1",
             "step 0: 2",
             "step 0: 5",
@@ -458,7 +475,7 @@ mod tests {
             "step 0: 11",
             "step 0: 12",
             "step 0: 13",
-            "step ok",
+            "step accepted",
             "end 0: 14",
             "end accepted",
         ] {

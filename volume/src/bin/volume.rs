@@ -1,15 +1,15 @@
 //! `volume SEED SIZE [PROPERTY [NUMBER]]`: the properties, on inputs by dice.
-//! `volume wagecases < FILE`: the answers of the static library to wage cases.
+//! `volume cases < FILE`: the answers of the static library to the cases.
 
 use std::cell::Cell;
 use std::env;
 use std::io::{self, Read};
 use std::process::ExitCode;
 use volume::trial::{fault, Plan};
-use volume::{properties, table, wagecases};
+use volume::{cases, properties, table};
 
 const USAGE: &str = "usage: volume SEED quick|full|COUNT [PROPERTY [NUMBER]]
-       volume wagecases < FILE
+       volume cases < FILE
 COUNT is how many inputs a property gets that a full run tries a million times";
 
 /// The inputs of a quick run: some seconds.
@@ -18,8 +18,8 @@ const FULL: u64 = 1_000_000;
 
 fn main() -> ExitCode {
     let words: Vec<String> = env::args().skip(1).collect();
-    if words == ["wagecases"] {
-        return match cases() {
+    if words == ["cases"] {
+        return match answer_cases() {
             Ok(()) => ExitCode::SUCCESS,
             Err(error) => {
                 eprintln!("volume: {error}");
@@ -41,10 +41,10 @@ fn main() -> ExitCode {
     ExitCode::SUCCESS
 }
 
-fn cases() -> io::Result<()> {
+fn answer_cases() -> io::Result<()> {
     let mut input = Vec::new();
     io::stdin().lock().read_to_end(&mut input)?;
-    wagecases::answer_all(&input, io::BufWriter::new(io::stdout().lock()))
+    cases::answer_all(&input, io::BufWriter::new(io::stdout().lock()))
 }
 
 fn plan(words: &[String]) -> Option<Plan> {

@@ -1,2 +1,0 @@
--- What is proved of the definitions themselves.
-pub mod Starred

@@ -1,0 +1,2 @@
+-- The starred cases of document 01.
+pub mod Starred
