@@ -16,7 +16,7 @@ use std::io::{self, Write};
 const MEMORY: usize = 1100;
 const MOST_KEPT: usize = 8 * LINE;
 const MOST_NUMBERS: usize = 10_000;
-/// The fields of a 300, 301 or 309 stand behind room, day, kind and size.
+/// What is written stands behind room, cents or day, kind and size.
 const HEAD: usize = 4;
 
 /// Answers every line. What follows the last LF is a line unless empty.
@@ -85,7 +85,7 @@ impl Desk {
         let room = Some(fields.size(0)).filter(|&n| n <= MEMORY)?;
         let slip = Slip {
             cents: fields.number(1),
-            texts: std::array::from_fn::<_, TEXTS, _>(|k| fields.text(2 + k)),
+            texts: fields.behind::<TEXTS>(HEAD),
         };
         Some(match slip.write(room) {
             Err(refusal) => format!("{} bytes 0|", told(refusal)),
@@ -308,21 +308,21 @@ mod tests {
                 format!("slip|{}", "|".repeat(484)),
                 "refused 1 line 0 field 0 byte 0 needed 0",
             ),
-            (format!("write|74|7|{tail}"), &written),
-            (format!("write|74|7|{tail}|"), &written),
+            (format!("write|74|7|||{tail}"), &written),
+            (format!("write|74|7|||{tail}|"), &written),
             (
-                format!("write|1100|0000000000000000000007|{tail}"),
+                format!("write|1100|0000000000000000000007|||{tail}"),
                 &written,
             ),
-            (format!("write|1101|7|{tail}"), "unknown"),
+            (format!("write|1101|7|||{tail}"), "unknown"),
             (
-                format!("write|73|7|{tail}"),
+                format!("write|73|7|||{tail}"),
                 &nothing("15 line 0 field 0 byte 0 needed 74"),
             ),
-            (format!("write|0|1000000000000000|{tail}"), &much),
-            (format!("write|0|99999999999999999999|{tail}"), &much),
+            (format!("write|0|1000000000000000|||{tail}"), &much),
+            (format!("write|0|99999999999999999999|||{tail}"), &much),
             (
-                format!("write|0|7|{tail};"),
+                format!("write|0|7|||{tail};"),
                 &nothing("3 line 0 field 14 byte 3 needed 0"),
             ),
         ] {

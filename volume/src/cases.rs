@@ -62,7 +62,7 @@ impl Desk {
     }
 
     fn write_slip(&mut self, fields: &Fields) -> Option<Vec<u8>> {
-        let given = fields.given(2);
+        let given = fields.given(4);
         let written = self.lend(fields.size(0), |_, out| {
             let written = lane::slip_write(fields.number(1), lent(&given), out);
             (written, written.value)

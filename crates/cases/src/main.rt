@@ -21,7 +21,7 @@ fn main() {
     answer_all(&input[..n], &mut memory, &mut kept);
 }
 
-// Answers each line.
+// Answers each line. The judge's verbs are `judge_by`'s, all others `respond`'s.
 fn answer_all(s: &[u8], memory: &mut [u8], kept: &mut [u8]) {
     let mut r = desk_judge::lanecockle_judge_begin(0);
     let mut at = 0;
@@ -30,19 +30,19 @@ fn answer_all(s: &[u8], memory: &mut [u8], kept: &mut [u8]) {
         let e = find(&s[start..], 10);
         let end = start + e;
         at = end + 1;
-        r = answer(&s[start..end], r, memory, kept);
+        let question = &s[start..end];
+        let verb = answer(question, memory, kept);
+        r = judge_by(verb, question, r, memory);
     }
 }
 
-// Writes a question back with its answer; the record after it.
-fn answer(question: &[u8], r: Record, memory: &mut [u8], kept: &mut [u8]) -> Record {
+// Writes a question back with its answer, and gives its verb's number.
+fn answer(question: &[u8], memory: &mut [u8], kept: &mut [u8]) -> usize {
     say(question);
     say(b" -> ");
     let verb = number_of(field(question, 0));
     respond(verb, question, memory, kept);
-    let next = judge_by(verb, number(field(question, 1)), r, memory);
-    say(b"\n");
-    next
+    verb
 }
 
 // ---------------------------------------------------------------------------
@@ -89,7 +89,7 @@ fn field(s: &[u8], bars: usize) -> &[u8] {
 // A verb's number, by its place in this list; 22 where it is not there.
 fn number_of(verb: &[u8]) -> usize {
     let verbs =
-        b"iban|oib|ref|check ini|check iso|make ini|make iso|slip|list iban|list ref|write|300|301|309|399|keep|poke|place|show|begin|step|end";
+        b"iban|oib|ref|check ini|check iso|make ini|make iso|list iban|list ref|slip|write|300|301|309|399|keep|poke|place|show|begin|step|end";
     let mut k = 0;
     while k < 22 {
         if text::is_same(verb, field(verbs, k)) {
@@ -130,29 +130,31 @@ fn longer(n: usize, b: u8) -> usize {
     m + d
 }
 
-// A byte of a text whose end is a divider too; a bar that does not divide is a line feed.
-fn byte_at(s: &[u8], i: usize, divider: u8) -> u8 {
+// A byte of a text whose bars are `bar`, and whose end is a line feed.
+fn byte_at(s: &[u8], i: usize, bar: u8) -> u8 {
     if s.len() <= i {
-        return divider;
-    }
-    let b = s[i];
-    if b == divider {
-        return b;
-    }
-    if b == 124 {
         return 10;
     }
-    b
+    if s[i] == 124 {
+        return bar;
+    }
+    s[i]
 }
 
-// Puts the fields of a text one behind the other into `text`, and their sizes into `sizes`, as far as there is room.
-fn divide(s: &[u8], divider: u8, text: &mut [u8], sizes: &mut [usize]) {
+// A byte of a slip, where a bar stands for a line feed.
+fn lined(b: u8) -> u8 {
+    if b == 124 { 10 } else { b }
+}
+
+// Puts the fields of a text, which a line feed ends, one behind the other into `text`, and their sizes into `sizes`, as far
+// as there is room.
+fn divide(s: &[u8], bar: u8, text: &mut [u8], sizes: &mut [usize]) {
     let mut field = 0;
     let mut start = 0;
     let mut i = 0;
     while i <= s.len() {
-        let b = byte_at(s, i, divider);
-        if b == divider {
+        let b = byte_at(s, i, bar);
+        if b == 10 {
             if sizes.len() <= field {
                 return;
             }
@@ -165,7 +167,7 @@ fn divide(s: &[u8], divider: u8, text: &mut [u8], sizes: &mut [usize]) {
             if text.len() <= at {
                 return;
             }
-            text[at] = b;
+            text[at] = lined(b);
             i += 1;
         }
     }
@@ -216,14 +218,13 @@ fn tell_list(v: Valued, out: &[u16]) {
 // ---------------------------------------------------------------------------
 // The verbs
 
-// Answers a question by its verb's number; the judge's verbs, from 19 on, are `judge_by`'s.
+// Answers a question by its verb's number.
 fn respond(verb: usize, question: &[u8], memory: &mut [u8], kept: &mut [u8]) {
     match verb {
-        0..=4 => tell(judge_text(verb, field(question, 1), field(question, 2))),
-        5..=6 => tell_value(made(verb, field(question, 1)), b" digit "),
-        7 => tell(read_slip(behind(question, 1))),
-        8..=9 => list(verb, question),
-        10..=14 => write(verb, question, memory, kept),
+        0..=4 => tell(judge_text(verb, question)),
+        5..=6 => make(verb, question),
+        7..=8 => list(verb, question),
+        9..=14 => write(verb, question, memory, kept),
         15..=18 => handle(verb, question, memory, kept),
         22 => say(b"unknown"),
         _ => {}
@@ -231,30 +232,24 @@ fn respond(verb: usize, question: &[u8], memory: &mut [u8], kept: &mut [u8]) {
 }
 
 // iban, oib, ref, check ini, check iso.
-fn judge_text(verb: usize, a: &[u8], b: &[u8]) -> Told {
+fn judge_text(verb: usize, question: &[u8]) -> Told {
+    let a = field(question, 1);
     match verb {
         0 => desk_checks::lanecockle_iban(a),
         1 => desk_checks::lanecockle_oib(a),
-        2 => desk_checks::lanecockle_reference(a, b),
+        2 => desk_checks::lanecockle_reference(a, field(question, 2)),
         3 => desk_checks::lanecockle_check_digits(0, a),
         _ => desk_checks::lanecockle_check_digits(1, a),
     }
 }
 
 // make ini, make iso.
-fn made(verb: usize, a: &[u8]) -> Valued {
-    if verb == 5 {
-        return desk_checks::lanecockle_make_digit(0, a);
-    }
-    desk_checks::lanecockle_make_digit(1, a)
-}
-
-// slip: its bars are line feeds.
-fn read_slip(s: &[u8]) -> Told {
-    let mut text = [0u8; 1024];
-    let mut sizes = [0usize; 1];
-    divide(s, 10, &mut text, &mut sizes);
-    desk_slips::lanecockle_slip_read(front(&text, sizes[0]))
+fn make(verb: usize, question: &[u8]) {
+    let rule = if verb == 5 { 0 } else { 1 };
+    tell_value(
+        desk_checks::lanecockle_make_digit(rule, field(question, 1)),
+        b" digit ",
+    );
 }
 
 // list iban, list ref: into a room of 10,000 numbers at most.
@@ -265,7 +260,7 @@ fn list(verb: usize, question: &[u8]) {
         say(b"unknown");
         return;
     }
-    listed(
+    list_in(
         verb,
         field(question, 2),
         field(question, 3),
@@ -273,50 +268,76 @@ fn list(verb: usize, question: &[u8]) {
     );
 }
 
-fn listed(verb: usize, a: &[u8], b: &[u8], out: &mut [u16]) {
-    if verb == 8 {
+fn list_in(verb: usize, a: &[u8], b: &[u8], out: &mut [u16]) {
+    if verb == 7 {
         tell_list(desk_wet::lanecockle_list_iban(a, out), out);
         return;
     }
     tell_list(desk_wet::lanecockle_list_reference(a, b, out), out);
 }
 
-// write, 300, 301, 309, 399: into a room at the front of the memory.
+// slip, write, 300, 301, 309, 399: what has its fields in one text.
 fn write(verb: usize, question: &[u8], memory: &mut [u8], kept: &[u8]) {
+    let mut text = [0u8; 1024];
+    let mut sizes = [0usize; 16];
+    if verb == 9 {
+        tell(read_slip(behind(question, 1), &mut text, &mut sizes));
+        return;
+    }
+    write_in(verb, question, &mut text, &mut sizes, memory, kept);
+}
+
+// slip: its bars are line feeds.
+fn read_slip(s: &[u8], text: &mut [u8], sizes: &mut [usize]) -> Told {
+    divide(s, 124, text, sizes);
+    desk_slips::lanecockle_slip_read(front(text, s.len()))
+}
+
+// write, 300, 301, 309, 399: into a room at the front of the memory.
+fn write_in(
+    verb: usize,
+    question: &[u8],
+    text: &mut [u8],
+    sizes: &mut [usize],
+    memory: &mut [u8],
+    kept: &[u8],
+) {
     let room = number(field(question, 1));
     if memory.len() < room {
         say(b"unknown");
         return;
     }
+    divide(behind(question, 5), 10, text, sizes);
     if verb == 10 {
-        write_slip(question, &mut memory[0..room]);
+        write_slip(question, text, sizes, &mut memory[0..room]);
         return;
     }
     let orders = front(kept, number(field(question, 4)));
-    tell(write_line(verb, question, orders, &mut memory[0..room]));
+    tell(write_line(verb, question, text, sizes, orders, &mut memory[0..room]));
 }
 
-fn write_slip(question: &[u8], out: &mut [u8]) {
+fn write_slip(question: &[u8], text: &[u8], sizes: &[usize], out: &mut [u8]) {
     let cents = number(field(question, 2)) as u64;
-    let mut text = [0u8; 1024];
-    let mut sizes = [0usize; 16];
-    divide(behind(question, 3), 124, &mut text, &mut sizes);
-    let v = desk_slips::lanecockle_slip_write(cents, &text, &sizes, out);
+    let v = desk_slips::lanecockle_slip_write(cents, text, sizes, out);
     tell_value(v, b" bytes ");
     say(b"|");
     say(front(out, v.value));
 }
 
-fn write_line(verb: usize, question: &[u8], orders: &[u8], out: &mut [u8]) -> Told {
+fn write_line(
+    verb: usize,
+    question: &[u8],
+    text: &[u8],
+    sizes: &[usize],
+    orders: &[u8],
+    out: &mut [u8],
+) -> Told {
     let day = number(field(question, 2)) as u64;
     let kind = number(field(question, 3)) as u64;
-    let mut text = [0u8; 1024];
-    let mut sizes = [0usize; 16];
-    divide(behind(question, 5), 124, &mut text, &mut sizes);
     match verb {
-        11 => desk_writers::lanecockle_write_label(day, &text, &sizes, out),
-        12 => desk_writers::lanecockle_write_group(day, kind, &text, &sizes, orders, out),
-        13 => desk_writers::lanecockle_write_order(day, kind, &text, &sizes, out),
+        11 => desk_writers::lanecockle_write_label(day, text, sizes, out),
+        12 => desk_writers::lanecockle_write_group(day, kind, text, sizes, orders, out),
+        13 => desk_writers::lanecockle_write_order(day, kind, text, sizes, out),
         _ => desk_writers::lanecockle_write_closing(day, out),
     }
 }
@@ -333,20 +354,21 @@ fn handle(verb: usize, question: &[u8], memory: &mut [u8], kept: &mut [u8]) {
     }
 }
 
-// begin, step, end: the record after it.
-fn judge_by(verb: usize, n: usize, r: Record, memory: &[u8]) -> Record {
+// begin, step, end: the record after it. Ends the line of every answer.
+fn judge_by(verb: usize, question: &[u8], r: Record, memory: &[u8]) -> Record {
+    let n = number(field(question, 1));
     match verb {
         19 => told(desk_judge::lanecockle_judge_begin(n as u64)),
         20 => told(desk_judge::lanecockle_judge_step(r, front(memory, n))),
         21 => ended(r),
-        _ => r,
+        _ => over(r),
     }
 }
 
 fn told(r: Record) -> Record {
     let t = r.told;
     tell(t);
-    r
+    over(r)
 }
 
 fn ended(r: Record) -> Record {
@@ -356,5 +378,11 @@ fn ended(r: Record) -> Record {
     count(b" lines ", e.lines);
     count(b" groups ", e.groups);
     count(b" orders ", e.orders);
+    over(r)
+}
+
+// Ends an answer's line.
+fn over(r: Record) -> Record {
+    say(b"\n");
     r
 }

@@ -59,7 +59,8 @@ pub fn write_case(dice: &mut Dice) -> Vec<u8> {
         1 => texts.push(Vec::new()),
         _ => {}
     }
-    let mut parts = amount.into_bytes();
+    // Kind and size are a wage line's.
+    let mut parts = [amount.as_bytes(), b"||"].concat();
     for text in &texts {
         // A `|` by dice would make two fields of one.
         parts.push(b'|');

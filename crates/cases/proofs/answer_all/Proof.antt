@@ -20,14 +20,14 @@ add-end c = let s = c .before .before .before .before .before .before .before .b
 add-at : tie.Need-add-at Inv-loop μ-loop
 add-at c = let s = c .before .before .before .before .before .before .before .before .args .s .now in let at = c .before .before .before .loop .at in omega (arith, c .find .ensures, length-take (length s - at) (drop at s), length-drop at s)
 
-part-answer-end : tie.Need-part-answer-end Inv-loop μ-loop
-part-answer-end c = let s = c .before .before .before .before .before .before .before .before .args .s .now in let at = c .before .before .before .loop .at in omega (arith, c .find .ensures, length-take (length s - at) (drop at s), length-drop at s)
+part-question-end : tie.Need-part-question-end Inv-loop μ-loop
+part-question-end c = let s = c .before .before .before .before .before .before .before .before .args .s .now in let at = c .before .before .before .loop .at in omega (arith, c .find .ensures, length-take (length s - at) (drop at s), length-drop at s)
 
 loop-less : tie.Need-loop-less Inv-loop μ-loop
-loop-less c = let s = c .before .before .before .before .before .before .before .before .before .before .before .before .before .before .before .before .args .s .now in let at = c .before .before .before .before .before .before .before .before .before .before .before .loop .at in omega (arith, c .before .before .before .before .before .before .before .before .find .ensures, length-take (length s - at) (drop at s), length-drop at s)
+loop-less c = let s = c .before .before .before .before .before .before .before .before .before .before .before .before .before .before .before .before .before .before .args .s .now in let at = c .before .before .before .before .before .before .before .before .before .before .before .before .before .loop .at in omega (arith, c .before .before .before .before .before .before .before .before .before .before .find .ensures, length-take (length s - at) (drop at s), length-drop at s)
 
 loop-again : tie.Need-loop-again Inv-loop μ-loop
-loop-again c = let s = c .before .before .before .before .before .before .before .before .before .before .before .before .before .before .before .before .args .s .now in let at = c .before .before .before .before .before .before .before .before .before .before .before .loop .at in (omega (arith, c .before .before .before .before .before .before .before .before .find .ensures, length-take (length s - at) (drop at s), length-drop at s), c .before .before .before .before .answer .kept .1 .1 .0 ∙ c .before .before .before .before .before .before .before .before .before .before .before .loop .inv .1, c .before .before .before .before .answer .kept .1 .1 .1 .0 ∙ c .before .before .before .before .before .before .before .before .before .before .before .loop .inv .2)
+loop-again c = let s = c .before .before .before .before .before .before .before .before .before .before .before .before .before .before .before .before .before .before .args .s .now in let at = c .before .before .before .before .before .before .before .before .before .before .before .before .before .loop .at in (omega (arith, c .before .before .before .before .before .before .before .before .before .before .find .ensures, length-take (length s - at) (drop at s), length-drop at s), c .before .before .before .before .before .before .answer .kept .1 .0 ∙ c .before .before .before .before .before .before .before .before .before .before .before .before .before .loop .inv .1, c .before .before .before .before .before .before .answer .kept .1 .1 .0 ∙ c .before .before .before .before .before .before .before .before .before .before .before .before .before .loop .inv .2)
 
 pub answer-all-spec : {M : Type 1} → statement M
 answer-all-spec =
@@ -45,7 +45,8 @@ answer-all-spec =
     add-at
     (λ c. omega arith)
     (λ c. omega arith)
-    part-answer-end
+    part-question-end
+    (λ c κs. tt)
     (λ c κs. tt)
     loop-less
     loop-again

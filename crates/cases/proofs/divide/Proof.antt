@@ -9,10 +9,10 @@ use Rattle.cases.proofs.divide.Statement.{statement}
 use Rattle.cases.proofs.divide.Tie as tie
 
 abbrev Inv-loop : tie.InvT-loop
-Inv-loop s divider text₀ sizes₀ field₀ start₀ i₀ text sizes field start i = (i ≤ length s + 1) × (field ≤ i) × (start ≤ i) × (length text ≡ length text₀) × (length sizes ≡ length sizes₀)
+Inv-loop s bar text₀ sizes₀ field₀ start₀ i₀ text sizes field start i = (i ≤ length s + 1) × (field ≤ i) × (start ≤ i) × (length text ≡ length text₀) × (length sizes ≡ length sizes₀)
 
 abbrev μ-loop : tie.MeasureT-loop
-μ-loop s divider text₀ sizes₀ field₀ start₀ i₀ text sizes field start i = length s + 1 - i
+μ-loop s bar text₀ sizes₀ field₀ start₀ i₀ text sizes field start i = length s + 1 - i
 
 loop-holds : tie.Need-loop-holds Inv-loop μ-loop
 loop-holds c = (omega arith, omega arith, omega arith, refl, refl)
@@ -21,7 +21,7 @@ loop-again : tie.Need-loop-again Inv-loop μ-loop
 loop-again c = let inv = c .before .before .before .before .loop .inv in (omega arith, omega arith, omega arith, inv .3, simp length-set (inv .4))
 
 loop-again-2 : tie.Need-loop-again-2 Inv-loop μ-loop
-loop-again-2 c = let inv = c .before .before .before .before .loop .inv in (omega arith, omega arith, omega arith, simp length-set (inv .3), inv .4)
+loop-again-2 c = let inv = c .before .before .before .before .before .loop .inv in (omega arith, omega arith, omega arith, simp length-set (inv .3), inv .4)
 
 pub divide-spec : {M : Type 1} → statement M
 divide-spec =
@@ -45,6 +45,7 @@ divide-spec =
     (λ c. search needs)
     (λ c. search needs)
     (λ c. tt)
+    (λ c κs. search needs)
     (λ c. omega arith)
     (λ c. omega arith)
     (λ c. omega arith)
