@@ -6,9 +6,9 @@
 // memory, at whose front stands what was written last, the lines kept for a group, and the judge's record.
 ghost use Prim.Native.Nat.{_≤_};
 ghost use lib.ListN.{length};
-use desk_record::Record;
 use boundary::Told;
 use boundary::Valued;
+use desk_record::Record;
 use words::front;
 use words::say;
 use words::say_number;
