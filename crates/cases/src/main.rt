@@ -14,7 +14,7 @@ use words::say;
 use words::say_number;
 
 fn main() {
-    let mut input = [0u8; 262144];
+    let mut input = [0u8; 160000];
     let n = io::read_full(0, &mut input);
     let mut memory = [0u8; 1100];
     let mut kept = [0u8; 8016];
@@ -234,12 +234,12 @@ fn respond(verb: usize, question: &[u8], memory: &mut [u8], kept: &mut [u8]) {
 // iban, oib, ref, check ini, check iso.
 fn judge_text(verb: usize, question: &[u8]) -> Told {
     let a = field(question, 1);
+    let rule = if verb == 3 { 0 } else { 1 };
     match verb {
         0 => desk_checks::lanecockle_iban(a),
         1 => desk_checks::lanecockle_oib(a),
         2 => desk_checks::lanecockle_reference(a, field(question, 2)),
-        3 => desk_checks::lanecockle_check_digits(0, a),
-        _ => desk_checks::lanecockle_check_digits(1, a),
+        _ => desk_checks::lanecockle_check_digits(rule, a),
     }
 }
 
