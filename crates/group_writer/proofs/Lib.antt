@@ -1,3 +1,4 @@
 -- What is promised of `group_writer`.
 pub mod Refusals
 pub mod Theorems
+pub mod Laws

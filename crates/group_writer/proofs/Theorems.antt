@@ -17,7 +17,7 @@ use Rattle.line_room.specs.LineRoom.{forRoom, Writes}
 use Rattle.line_room.proofs.Laws.{noRoom, day-before, kind-before, accepted-before, room-before}
 use Rattle.line_room.proofs.Theorems.{OneOutcome, writes-only}
 use Rattle.wage_writer.proofs.Refusals.{draft-no-room}
-use Rattle.group_draft.specs.GroupDraft.{groupDraft}
+use Rattle.group_writer.specs.GroupDraft.{groupDraft}
 use Rattle.group_writer.specs.GroupWriter.{groupAnswer}
 use Rattle.group_writer.proofs.Refusals.{orders-no-room}
 

@@ -5,7 +5,7 @@ use Rattle.refusal.specs.Refusal.{firstOf}
 use Rattle.refusal.specs.declared.Answer.{Answer}
 use Rattle.wage_orders.specs.Orders.{groupOrders}
 use Rattle.line_room.specs.LineRoom.{forDay, forKind, forRoom}
-use Rattle.group_draft.specs.GroupDraft.{groupDraft}
+use Rattle.group_writer.specs.GroupDraft.{groupDraft}
 
 unfoldable pub groupAnswer : ℕ → ℕ → List (List ℕ) → List ℕ → ℕ → Answer
 groupAnswer day kind fs orders room =

@@ -1,2 +1,3 @@
 -- The definitions of the crate `group_writer`.
 pub mod GroupWriter
+pub mod GroupDraft

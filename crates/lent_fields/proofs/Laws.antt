@@ -5,17 +5,20 @@ use Prim.Native.Nat.{ℕ, zero, suc, _+_, _-_, _≤_, _<_}
 use native.Mathlib.Numerals.{add-one}
 use native.Mathlib.Omega.{arith}
 use native.Mathlib.Nat.{add-zero}
+use mathlib.Core.Bool.{Bool, true, false, cond}
+use lib.Dec.{ltb}
+use borrow.Author.Tests.{le-ltb, ltb-true, ltb-false}
 use lib.ListN.{length, take, drop, getD, length-drop, drop-of-length-le}
 use lib.Seq.{drop-cons, drop-drop, drop-length, take-all, take-nil, take-append-seam, drop-append-seam, getD-drop}
 use Rattle.text.specs.Split.{joined}
-use Rattle.lent_fields.specs.Fields.{fieldsOf, behind, FieldEnd}
+use Rattle.lent_fields.specs.Fields.{fieldsOf, behind, fieldEnd, FieldEnd}
 
 -- ---------------------------------------------------------------------------
 -- Where a field ends
 
 module _ (text : List ℕ) (at size : ℕ) where
   -- at the text's end, if there is not enough
-  pub ends-short : at ≤ length text → length text - at < size → FieldEnd text at size (length text)
+  ends-short : at ≤ length text → length text - at < size → FieldEnd text at size (length text)
   ends-short h g =
       let l = length-drop at text in
       let e : length (drop at text) ≤ size = omega arith in
@@ -27,7 +30,7 @@ module _ (text : List ℕ) (at size : ℕ) where
       }
 
   -- else behind as many bytes
-  pub ends-whole : at ≤ length text → size ≤ length text - at → FieldEnd text at size (at + size)
+  ends-whole : at ≤ length text → size ≤ length text - at → FieldEnd text at size (at + size)
   ends-whole h g =
       let e : at + size - at ≡ size = omega arith in
       record {
@@ -36,6 +39,14 @@ module _ (text : List ℕ) (at size : ℕ) where
         field = rw e;
         rest = sym (drop-drop size at text);
       }
+
+  -- so it is as claimed
+  pub field-ends : (end : ℕ) → at ≤ length text → end ≡ fieldEnd text at size → FieldEnd text at size end
+  field-ends end h e = rw e (rw (le-ltb (length text) at h) (go (ltb (length text - at) size) refl))
+    where
+      go : (b : Bool) → ltb (length text - at) size ≡ b → FieldEnd text at size (cond b (length text) (at + size))
+      go true f = ends-short h (ltb-true (length text - at) size f)
+      go false f = ends-whole h (ltb-false (length text - at) size f)
 
 -- ---------------------------------------------------------------------------
 -- The fields from one on

@@ -1,7 +1,9 @@
 -- How fields are lent to a writer: one behind the other in one text, with the size of each. "Each field is the bytes of its positions".
 use mathlib.Core.Path.{_≡_}
 use mathlib.Core.List.{List, [], _∷_}
-use Prim.Native.Nat.{ℕ, _-_, _≤_}
+use mathlib.Core.Bool.{cond}
+use Prim.Native.Nat.{ℕ, _+_, _-_, _≤_}
+use lib.Dec.{ltb}
 use lib.ListN.{length, take, drop}
 
 -- the fields: a size that runs past the text's end gives a shorter field
@@ -14,10 +16,14 @@ unfoldable pub behind : List ℕ → List ℕ → List ℕ
 behind [] text = text
 behind (n ∷ ns) text = behind ns (drop n text)
 
+-- where a field of a size ends that begins at a place: no later than the text
+abbrev pub fieldEnd : List ℕ → ℕ → ℕ → ℕ
+fieldEnd text at size = cond (ltb (length text) at) (length text) (cond (ltb (length text - at) size) (length text) (at + size))
+
 -- ---------------------------------------------------------------------------
 -- Claims
 
--- where a field of a size ends that begins at a place: no later than the text
+-- what is claimed of that end, where the field begins in the text
 pub record FieldEnd (text : List ℕ) (at size end : ℕ) : Type 0 where
   pub begins : at ≤ end
   pub within : end ≤ length text

@@ -2,9 +2,8 @@
 //
 // Document 01, "The wage file", the writer: "Each field is the bytes of its positions".
 ghost use mathlib.Core.Path.{_≡_};
-ghost use Prim.Native.Nat.{_-_, _≤_};
-ghost use lib.ListN.{getD, take, drop, length};
-ghost use Rattle.lent_fields.specs.Fields.{behind, FieldEnd};
+ghost use lib.ListN.{getD, take, drop};
+ghost use Rattle.lent_fields.specs.Fields.{behind, fieldEnd};
 
 // The size of a field; one that is not there is empty.
 pub fn size_at(sizes: &[usize], i: usize) -> usize
@@ -18,9 +17,11 @@ pub fn size_at(sizes: &[usize], i: usize) -> usize
 
 // Where a field of a size ends that begins at a place: no later than the text.
 pub fn end_of(text: &[u8], at: usize, size: usize) -> usize
-    requires { ⌜ at ≤ length (now text) ⌝ }
-    ensures { λ r. ⌜ FieldEnd (now (text .entry)) at size r ⌝ }
+    ensures { λ r. ⌜ r ≡ fieldEnd (now (text .entry)) at size ⌝ }
 {
+    if text.len() < at {
+        return text.len();
+    }
     if text.len() - at < size {
         return text.len();
     }

@@ -12,8 +12,7 @@ use refusal::Refusal;
 use wage_places::LineType;
 
 // Puts a whole line at the front of the lent room, if there is enough.
-pub fn put_line(line: &[u8], out: &mut [u8]) -> Answer
-    requires { ⌜ length (now line) ≡ 1002 ⌝ }
+pub fn put_line(line: &[u8; 1002], out: &mut [u8]) -> Answer
     ensures { λ r. ⌜ Writes (forRoom (length (now (out .entry)))) (now (line .entry)) (now (out .entry)) r (now (out .exit)) ⌝ }
 {
     if out.len() < 1002 {

@@ -7,6 +7,8 @@ use Rattle.refusal.specs.Only.{Only, defined-only}
 use Rattle.wage_places.specs.declared.LineType.{LineType}
 use Rattle.condition.specs.declared.Open.{Open}
 use Rattle.condition.specs.declared.Judge.{Judge}
+use mathlib.Core.Bool.{cond}
+use Rattle.condition.specs.Record.{isSound}
 use Rattle.standing.specs.Standing.{after, standVerdict}
 
 -- ---------------------------------------------------------------------------
@@ -15,5 +17,5 @@ use Rattle.standing.specs.Standing.{after, standVerdict}
 pub judge-standing-only : (at : ℕ) (g : Open) (t : LineType) → Only (λ (r : ℕ). r ≡ standVerdict at g t)
 judge-standing-only at g t = defined-only (standVerdict at g t)
 
-pub after-only : (j : Judge) (t : LineType) (s : List ℕ) → Only (λ (r : Judge). r ≡ after j s t)
-after-only j t s = defined-only (after j s t)
+pub after-only : (j : Judge) (t : LineType) (s : List ℕ) → Only (λ (r : Judge). r ≡ cond (isSound j) (after j s t) j)
+after-only j t s = defined-only (cond (isSound j) (after j s t) j)

@@ -3,7 +3,7 @@
 // Document 01, "The wage file": the refusals 10, 12 and 13; "A 301 or 399 straight after a 301 is 10". W5's running total is
 // changed in `after`.
 ghost use mathlib.Core.Path.{_≡_};
-ghost use mathlib.Core.Bool.{true};
+ghost use mathlib.Core.Bool.{true, cond};
 ghost use Prim.Native.Nat.{_≤_};
 ghost use Rattle.sums.specs.Sums.{numberIn};
 ghost use Rattle.wage_places.specs.Places.{partOf};
@@ -110,8 +110,8 @@ fn with_order(g: Open, s: &[u8]) -> Open
     }
 }
 
-// The record after a right line.
-pub fn after(j: Judge, t: LineType, s: &[u8]) -> Judge
+// A sound record after a right line.
+fn after_sound(j: Judge, t: LineType, s: &[u8]) -> Judge
     requires { ⌜ isSound j ≡ true ⌝ }
     ensures { λ r. ⌜ r ≡ afterLine j (now (s .entry)) t ⌝ }
 {
@@ -138,4 +138,14 @@ pub fn after(j: Judge, t: LineType, s: &[u8]) -> Judge
         }
         LineType::Closing => condition::made(day, Condition::Closed, kind, read, group),
     }
+}
+
+// The record after a right line; one that the judge did not make stays as it was.
+pub fn after(j: Judge, t: LineType, s: &[u8]) -> Judge
+    ensures { λ r. ⌜ r ≡ cond (isSound j) (afterLine j (now (s .entry)) t) j ⌝ }
+{
+    if condition::is_sound(j) {
+        return after_sound(j, t, s);
+    }
+    j
 }

@@ -38,7 +38,7 @@ use Rattle.lent_fields.proofs.Laws.{fields-joined}
 use Rattle.wage_draft.proofs.Theorems.{DraftedRight, drafted-right}
 use Rattle.wage_orders.specs.Orders.{groupOrders}
 use Rattle.wage_writer.specs.Writer.{labelDraft, orderDraft, labelAnswer, orderAnswer}
-use Rattle.group_draft.specs.GroupDraft.{groupFields, groupDraft}
+use Rattle.group_writer.specs.GroupDraft.{groupFields, groupDraft}
 use Rattle.line_room.specs.LineRoom.{forDay, forKind, forRoom, closingAnswer}
 use Rattle.group_writer.specs.GroupWriter.{groupAnswer}
 use Rattle.wage_round.specs.Round.{fiveParts, fiveSizes, readFive}

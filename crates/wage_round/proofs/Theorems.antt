@@ -36,7 +36,7 @@ use Rattle.wage_orders.specs.Orders.{groupOrders}
 use Rattle.wage_orders.proofs.Theorems.{orders-right}
 use Rattle.worked_out.proofs.Theorems.{amounts-small}
 use Rattle.wage_writer.specs.Writer.{labelDraft, orderDraft, labelAnswer, orderAnswer}
-use Rattle.group_draft.specs.GroupDraft.{groupFields, groupDraft}
+use Rattle.group_writer.specs.GroupDraft.{groupFields, groupDraft}
 use Rattle.group_writer.specs.GroupWriter.{groupAnswer}
 use Rattle.line_room.specs.LineRoom.{closingAnswer}
 use Rattle.wage_round.specs.Round.{GivenGroup, Given, noGiven, kindGiven, writtenGroup, writtenFile, AllWritten, writtenOrders, readFields, readFive, readGroup, readFile, PlainGroup, PlainFile}

@@ -1,11 +1,10 @@
 -- What is promised of what a 301 works out: a sum of at most twenty digits, and one answer. Assumes nothing.
 use mathlib.Core.Path.{_≡_}
-use mathlib.Core.List.{List, [], _∷_, _++_}
+use mathlib.Core.List.{List, [], _∷_}
 use Prim.Native.Nat.{ℕ, _*_, _/_, _%_, _≤_, _<_}
 use native.Mathlib.Omega.{arith}
 use lib.ListN.{length, take, length-take}
 use Rattle.refusal.specs.Only.{Only, defined-only}
-use Rattle.text.specs.Digits.{digitsText}
 use Rattle.sums.specs.declared.Sum.{Sum}
 use Rattle.sums.specs.Sums.{sumOf, numberIn}
 use Rattle.sums.proofs.Theorems.{text-small}
@@ -41,6 +40,3 @@ module _ (s : List ℕ) where
 
   pub total-only : Only (λ (r : Sum). r ≡ sumOf 100 (amounts (pieces s)))
   total-only = defined-only (sumOf 100 (amounts (pieces s)))
-
-  pub put-worked-only : Only (λ (digits : List ℕ). digits ≡ digitsText 5 (length s / 1002) ++ digitsText 20 (amounts (pieces s)))
-  put-worked-only = defined-only (digitsText 5 (length s / 1002) ++ digitsText 20 (amounts (pieces s)))

@@ -8,8 +8,6 @@ ghost use lib.ListN.{length};
 ghost use Rattle.sums.specs.Sums.{sumOf};
 ghost use Rattle.wage_line.specs.Pieces.{pieces};
 ghost use Rattle.wage_file.specs.Right.{amounts};
-ghost use mathlib.Core.List.{_++_};
-ghost use Rattle.text.specs.Digits.{digitsText};
 use sums::Sum;
 use wage_places::LineType;
 
@@ -36,18 +34,4 @@ pub fn total(s: &[u8]) -> Sum
         at = wage_line::next_piece(s, at);
     }
     sum
-}
-
-// The number and the sum of a group's orders, five digits and twenty.
-pub fn put_worked(orders: &[u8], digits: &mut [u8])
-    requires { ⌜ (length (now digits) ≡ 25) × (amounts (pieces (now orders)) < 100000000000000000000) ⌝ }
-    ensures { λ r. ⌜ now (digits .exit) ≡ digitsText 5 (length (now (orders .entry)) / 1002) ++ digitsText 20 (amounts (pieces (now (orders .entry)))) ⌝ }
-{
-    let number = number(orders) as u64;
-    let sum = total(orders);
-    let high = sum.high;
-    let low = sum.low;
-    room::put_digits(digits, 0, 5, number);
-    room::put_digits(digits, 5, 2, high);
-    room::put_digits(digits, 7, 18, low);
 }

@@ -1,4 +1,4 @@
--- `wage_writer::write_group` meets its contract: the day, the kind, the orders, then the line. Assumes nothing.
+-- `group_writer::write_group` meets its contract: the day, the kind, the orders, then the line. Assumes nothing.
 use mathlib.Core.Path.{sym, _∙_}
 use borrow.Author.Tests.{not-true, not-false}
 use borrow.Author.Needs.{needs}

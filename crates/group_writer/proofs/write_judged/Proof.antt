@@ -1,4 +1,4 @@
--- `wage_writer::write_judged` meets its contract: a refused draft leaves the room as it was, and another's line is put. Assumes nothing.
+-- `group_writer::write_judged` meets its contract: a refused draft leaves the room as it was, and another's line is put. Assumes nothing.
 use borrow.Author.Needs.{needs}
 use Rattle.wage_writer.proofs.Laws.{draft-refused, draft-written}
 use Rattle.group_writer.proofs.write_judged.Statement.{statement}
@@ -18,7 +18,6 @@ write-judged-spec =
     (λ c κs. search needs)
     (λ c. search needs)
     returns
-    (λ c. search needs)
     (λ c. search needs)
     (λ c κs. search needs)
     (λ c. search needs)

@@ -16,7 +16,7 @@ returns c = rw (c .refused .ensures, c .before .at-line .ensures, ← (c .before
 
 returns-2 : tie.Need-returns-2
 unfolding typeStep
-returns-2 c = rw (← (c .before .before .before .before .before .before .stage .ensures), ← (c .before .before .before .before .before .judge-standing .ensures), eq-eqb _ _ (c .before .before .before .before .if1 .left), ← (c .before .before .before .judge-places .ensures), c .before .enum-told .given .1) (c .after .ensures)
+returns-2 c = rw (← (c .before .before .before .before .before .before .stage .ensures), ← (c .before .before .before .before .before .judge-standing .ensures), eq-eqb _ _ (c .before .before .before .before .if1 .left), ← (c .before .before .before .judge-places .ensures), c .before .enum-told .given .1) (rw (c .before .before .before .before .before .before .before .before .before .before .pre) at (c .after .ensures))
 
 returns-3 : tie.Need-returns-3
 unfolding typeStep

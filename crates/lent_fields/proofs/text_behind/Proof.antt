@@ -1,4 +1,4 @@
--- `wage_draft::text_behind` meets its contract. The loop's invariant: the text behind what is left of the fields is that behind all. Assumes nothing.
+-- `lent_fields::text_behind` meets its contract. The loop's invariant: the text behind what is left of the fields is that behind all. Assumes nothing.
 use mathlib.Core.Path.{_≡_, sym, _∙_}
 use Prim.Native.Nat.{_≤_, _-_}
 use native.Mathlib.Omega.{arith}
@@ -6,7 +6,7 @@ use lib.ListN.{length, take}
 use borrow.Author.Needs.{needs}
 use Rattle.text.proofs.Laws.{to-the-end}
 use Rattle.lent_fields.specs.Fields.{behind}
-use Rattle.lent_fields.proofs.Laws.{Behind, behind-last, behind-past, behind-on}
+use Rattle.lent_fields.proofs.Laws.{Behind, behind-last, behind-past, behind-on, field-ends}
 use Rattle.lent_fields.proofs.text_behind.Statement.{statement}
 use Rattle.lent_fields.proofs.text_behind.Tie as tie
 
@@ -44,7 +44,7 @@ shared-slice-read-end-of : tie.Need-shared-slice-read-end-of Inv-loop μ-loop
 shared-slice-read-end-of c = omega arith
 
 end-of-requires : tie.Need-end-of-requires Inv-loop μ-loop
-end-of-requires c κs = omega arith
+end-of-requires c κs = search needs
 
 add-i : tie.Need-add-i Inv-loop μ-loop
 add-i c = omega arith
@@ -56,7 +56,7 @@ loop-again : tie.Need-loop-again Inv-loop μ-loop
 loop-again c =
     let a = c .before .before .before .before .before .before .before .args in
     let l = c .before .before .before .before .loop in
-    let e = c .end-of .ensures in
+    let e = field-ends (a .text .now) (l .at) _ (c .end-of .result) (omega arith) (c .end-of .ensures) in
     (e .within, l .inv .1 ∙ behind-on (a .sizes .now) (a .fields) (l .i) (a .text .now) (l .at) (c .end-of .result) e (omega arith) (omega arith))
 
 sub-result-2 : tie.Need-sub-result-2 Inv-loop μ-loop

@@ -1,4 +1,4 @@
--- `wage_writer::write_closing` meets its contract: the day, then the line, which has no fields. Assumes nothing.
+-- `line_room::write_closing` meets its contract: the day, then the line, which has no fields. Assumes nothing.
 use mathlib.Core.Path.{refl, sym, _∙_}
 use borrow.Author.Tests.{not-true, not-false}
 use borrow.Author.Needs.{needs}
@@ -28,7 +28,6 @@ write-closing-spec =
     returns
     (λ c. search needs)
     (λ c κs. search needs)
-    (λ c. search needs)
     (λ c κs. search needs)
     (λ c. search needs)
     returns-2)

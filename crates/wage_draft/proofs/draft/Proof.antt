@@ -8,6 +8,7 @@ use Rattle.wage_places.specs.Places.{spots}
 use Rattle.lent_fields.specs.Fields.{fieldsOf}
 use Rattle.wage_draft.specs.Draft.{drafted}
 use Rattle.wage_draft.proofs.Laws.{Left, draft-last, draft-past, draft-on, draft-stops}
+use Rattle.lent_fields.proofs.Laws.{field-ends}
 use Rattle.wage_draft.proofs.draft.Statement.{statement}
 use Rattle.wage_draft.proofs.draft.Tie as tie
 
@@ -27,16 +28,25 @@ size-at-requires : tie.Need-size-at-requires Inv-places μ-places
 size-at-requires c κs = tt
 
 end-of-requires : tie.Need-end-of-requires Inv-places μ-places
-end-of-requires c κs = omega arith
+end-of-requires c κs = search needs
 
 sub-place : tie.Need-sub-place Inv-places μ-places
-sub-place c = omega arith
+sub-place c =
+    let l = c .before .before .before .before .places in
+    let e = field-ends (c .before .before .before .before .before .before .before .before .before .args .text .now) (l .at) _ _ (omega arith) (c .end-of .ensures) in
+    omega (arith, e .begins)
 
 part-place-start : tie.Need-part-place-start Inv-places μ-places
-part-place-start c = search needs
+part-place-start c =
+    let l = c .before .before .before .before .places in
+    let e = field-ends (c .before .before .before .before .before .before .before .before .before .args .text .now) (l .at) _ _ (omega arith) (c .end-of .ensures) in
+    search (needs, e .begins)
 
 part-place-end : tie.Need-part-place-end Inv-places μ-places
-part-place-end c = search needs
+part-place-end c =
+    let l = c .before .before .before .before .places in
+    let e = field-ends (c .before .before .before .before .before .before .before .before .before .args .text .now) (l .at) _ _ (omega arith) (c .end-of .ensures) in
+    search (needs, e .within)
 
 place-requires : tie.Need-place-requires Inv-places μ-places
 place-requires c κs = tt
@@ -57,7 +67,7 @@ places-again : tie.Need-places-again Inv-places μ-places
 places-again c =
     let a = c .before .before .before .before .before .before .before .before .before .before .before .before .before .before .before .before .args in
     let l = c .before .before .before .before .before .before .before .before .before .before .before .places in
-    let e = rw (c .before .before .before .before .before .before .before .before .size-at .ensures) at (c .before .before .before .before .before .before .before .end-of .ensures) in
+    let e = field-ends (a .text .now) (l .at) _ _ (omega arith) (rw (c .before .before .before .before .before .before .before .before .size-at .ensures) at (c .before .before .before .before .before .before .before .end-of .ensures)) in
     (e .within, (omega arith, (c .before .before .before .line .given ∙ l .inv .1 .1 .0, l .inv .1 .1 .1 ∙ draft-on (a .day) (a .kind) (a .t) (spots (a .t)) (a .last) (l .k) (a .sizes .now) (l .i) (a .text .now) (l .at) (l .line) (c .before .before .before .before .before .before .before .end-of .result) e (omega arith) (omega (arith, c .before .before .before .before .before .before .before .before .before .before .before .before .count .ensures)) (c .before .before .before .before .place .result) (c .before .before .before .before .place .last .1 .1 .1 .1 .1 .0) (c .before .before .before .before .place .ensures) (c .enum-told .given .1))))
 
 enum-known-r : tie.Need-enum-known-r Inv-places μ-places
@@ -88,7 +98,7 @@ returns-3 : tie.Need-returns-3 Inv-places μ-places
 returns-3 c =
     let a = c .before .before .before .before .before .before .before .before .before .before .before .before .before .before .before .before .before .args in
     let l = c .before .before .before .before .before .before .before .before .before .before .before .before .places in
-    let e = rw (c .before .before .before .before .before .before .before .before .before .size-at .ensures) at (c .before .before .before .before .before .before .before .before .end-of .ensures) in
+    let e = field-ends (a .text .now) (l .at) _ _ (omega arith) (rw (c .before .before .before .before .before .before .before .before .before .size-at .ensures) at (c .before .before .before .before .before .before .before .before .end-of .ensures)) in
     rw (l .inv .1 .1 .1) (draft-stops (a .day) (a .kind) (a .t) (spots (a .t)) (a .last) (l .k) (a .sizes .now) (l .i) (a .text .now) (l .at) (l .line) (c .before .before .before .before .before .before .before .before .end-of .result) e (omega arith) (omega (arith, c .before .before .before .before .before .before .before .before .before .before .before .before .before .count .ensures)) (c .before .before .before .before .before .place .result) (c .before .before .before .before .before .place .last .1 .1 .1 .1 .1 .0) (c .before .before .before .before .before .place .ensures) (c .before .r .given .0 .0) (c .before .r .given .1))
 
 pub draft-spec : {M : Type 1} → statement M

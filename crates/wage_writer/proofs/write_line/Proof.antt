@@ -19,7 +19,6 @@ write-line-spec =
     (λ c. search needs)
     returns
     (λ c. search needs)
-    (λ c. search needs)
     (λ c κs. search needs)
     (λ c. search needs)
     returns-2)

@@ -1,4 +1,4 @@
--- `wage_orders::total` meets its contract. The loop's invariant: the whole sum is `sum` with the amounts from `at` on. Assumes nothing.
+-- `worked_out::total` meets its contract. The loop's invariant: the whole sum is `sum` with the amounts from `at` on. Assumes nothing.
 use mathlib.Core.Path.{_≡_, sym, _∙_}
 use Prim.Native.Nat.{_+_, _-_}
 use native.Mathlib.Omega.{arith}

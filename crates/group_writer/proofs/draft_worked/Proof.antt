@@ -1,9 +1,9 @@
--- `wage_writer::draft_worked` meets its contract: the digits are two fields, one behind the other. Assumes nothing.
+-- `group_writer::draft_worked` meets its contract: the digits are two fields, one behind the other. Assumes nothing.
 use borrow.Author.Needs.{needs}
 use Rattle.room.proofs.Digits.{digits-length}
-use Rattle.group_draft.proofs.Laws.{two-fields}
-use Rattle.group_draft.proofs.draft_worked.Statement.{statement}
-use Rattle.group_draft.proofs.draft_worked.Tie as tie
+use Rattle.group_writer.proofs.Laws.{two-fields}
+use Rattle.group_writer.proofs.draft_worked.Statement.{statement}
+use Rattle.group_writer.proofs.draft_worked.Tie as tie
 
 returns : tie.Need-returns
 returns c = rw (c .before .before .before .before .before .before .before .put-worked .ensures, two-fields _ _ (digits-length 5 _) (digits-length 20 _)) at (c .before .before .draft .ensures)

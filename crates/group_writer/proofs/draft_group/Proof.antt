@@ -1,10 +1,10 @@
--- `wage_writer::draft_group` meets its contract: a 301 is drafted in three runs of fields. Assumes nothing.
+-- `group_writer::draft_group` meets its contract: a 301 is drafted in three runs of fields. Assumes nothing.
 use borrow.Author.Needs.{needs}
 use Rattle.wage_places.specs.declared.LineType.the-variants.{Group}
 use Rattle.bare_line.proofs.Theorems.{bare}
-use Rattle.group_draft.proofs.Laws.{group-first, group-worked, group-last}
-use Rattle.group_draft.proofs.draft_group.Statement.{statement}
-use Rattle.group_draft.proofs.draft_group.Tie as tie
+use Rattle.group_writer.proofs.Laws.{group-first, group-worked, group-last}
+use Rattle.group_writer.proofs.draft_group.Statement.{statement}
+use Rattle.group_writer.proofs.draft_group.Tie as tie
 
 returns : tie.Need-returns
 returns c =

@@ -1,20 +1,60 @@
--- Laws of a 301 in three runs of fields: four given, the number and the sum, one given. Assumes nothing.
-use mathlib.Core.Path.{_≡_, refl, sym, ap, _∙_}
-use mathlib.Core.List.{List, [], _∷_, _++_}
-use Prim.Native.Nat.{ℕ, zero, suc, _-_, _<_}
+-- The number and the sum of a 301 in digits, and lent as two fields.
+-- Assumes nothing.
+use mathlib.Core.Path.{_≡_, sym, ap, _∙_, refl}
+use mathlib.Core.List.{List, _++_, append-assoc, [], _∷_}
+use Prim.Native.Nat.{ℕ, _<_, _*_, _/_, _%_, zero, suc, _-_, _+_, _≤_}
 use native.Mathlib.Omega.{arith}
-use lib.ListN.{length, take, drop, getD}
-use lib.Seq.{take-at, drop-at, take-all, getD-drop}
+use lib.ListN.{length, take, drop, getD, length-append}
+use Rattle.sums.specs.Sums.{sumOf, limb}
+use Rattle.sums.specs.declared.Sum.{Sum}
+use Rattle.sums.proofs.Laws.{sum-small, in-limbs, low-small}
+use Rattle.wage_places.specs.declared.LineType.the-variants.{Group}
+use Rattle.wage_places.specs.Places.{spots}
+use lib.Seq.{sets, length-sets, take-at, take-all, drop-at, getD-drop, sets-eq, length-take-le}
+use Rattle.text.specs.Digits.{digitsText}
+use Rattle.room.proofs.Digits.{digits-length, digits-two-limbs}
 use Rattle.refusal.specs.declared.Answer.{Answer}
 use Rattle.refusal.specs.declared.Answer.the-variants.{Accepted, Refused}
 use Rattle.refusal.specs.declared.Refusal.{Refusal}
-use Rattle.wage_places.specs.declared.LineType.the-variants.{Group}
-use Rattle.wage_places.specs.Places.{spots}
 use Rattle.bare_line.specs.Bare.{bareLine}
 use Rattle.lent_fields.specs.Fields.{fieldsOf, behind}
 use Rattle.lent_fields.proofs.Laws.{fields-behind}
 use Rattle.wage_draft.specs.Draft.{Draft, drafted, goingOn, Drafts}
 use Rattle.wage_draft.proofs.Theorems.{drafted-append, drafted-by-fields}
+
+-- what stands up to the end of what was just written
+written-up-to : (s : List ℕ) (at : ℕ) (f : List ℕ) (end : ℕ) → at + length f ≡ end → end ≤ length s → take end (sets s at f) ≡ take at s ++ f
+written-up-to s at f end e h =
+    let l : length (take at s ++ f) ≡ end = omega (arith, length-append (take at s) f, length-take-le at s (omega arith)) in
+    rw (sets-eq f s at (omega arith)) (take-at (take at s ++ f) (drop (at + length f) s) end l)
+
+-- five digits, two and eighteen, one behind the other
+pub three-written :
+    (s a b c : List ℕ) → length s ≡ 25 → length a ≡ 5 → length b ≡ 2 → length c ≡ 18 → sets (sets (sets s 0 a) 5 b) 7 c ≡ a ++ (b ++ c)
+three-written s a b c l e f g =
+    let s1 = sets s 0 a in
+    let s2 = sets s1 5 b in
+    let l1 : length s1 ≡ 25 = length-sets s 0 a ∙ l in
+    let l2 : length s2 ≡ 25 = length-sets s1 5 b ∙ l1 in
+    let e1 : take 5 s1 ≡ a = written-up-to s 0 a 5 (omega arith) (omega arith) in
+    let e2 : take 7 s2 ≡ a ++ b = written-up-to s1 5 b 7 (omega arith) (omega arith) ∙ ap (λ (x : List ℕ). x ++ b) e1 in
+    let e3 : take 25 (sets s2 7 c) ≡ (a ++ b) ++ c = written-up-to s2 7 c 25 (omega arith) (omega arith) ∙ ap (λ (x : List ℕ). x ++ c) e2 in
+    sym (take-all 25 (sets s2 7 c) (omega (arith, length-sets s2 7 c))) ∙ e3 ∙ append-assoc a b c
+
+-- a sum of at most twenty digits, its two parts one behind the other
+pub sum-digits : (n : ℕ) (s : Sum) → n < 100 * limb → s ≡ sumOf 100 n → digitsText 2 (s .high) ++ digitsText 18 (s .low) ≡ digitsText 20 n
+sum-digits n s h e =
+    rw (e, ← (sum-small 100 n h)) (sym (digits-two-limbs (n / limb) (n % limb) (low-small n)) ∙ ap (digitsText 20) (in-limbs n))
+
+-- the number and the sum of a group's orders, one behind the other
+pub worked-digits :
+    (digits : List ℕ) (m n : ℕ) (s : Sum) (k : ℕ) (first second third : List ℕ) → length digits ≡ 25 → n < 100 * limb → k ≡ m → s ≡ sumOf 100 n
+    → first ≡ sets digits 0 (digitsText 5 k) → second ≡ sets first 5 (digitsText 2 (s .high)) → third ≡ sets second 7 (digitsText 18 (s .low))
+    → third ≡ digitsText 5 m ++ digitsText 20 n
+worked-digits digits m n s k first second third l h i e w1 w2 w3 =
+    w3 ∙ rw (w2, w1, i)
+    (three-written digits (digitsText 5 m) (digitsText 2 (s .high)) (digitsText 18 (s .low)) l (digits-length 5 m) (digits-length 2 (s .high)) (digits-length 18 (s .low)) ∙
+    ap (λ (x : List ℕ). digitsText 5 m ++ x) (sum-digits n s h e))
 
 -- two texts, one behind the other, are two fields
 pub two-fields : (a b : List ℕ) → length a ≡ 5 → length b ≡ 20 → fieldsOf (5 ∷ (20 ∷ [])) (a ++ b) ≡ a ∷ (b ∷ [])

@@ -1,8 +1,8 @@
--- `wage_writer::put_worked` meets its contract: three runs of digits fill the room, and the last two are the sum's. Assumes nothing.
+-- `group_writer::put_worked` meets its contract: three runs of digits fill the room, and the last two are the sum's. Assumes nothing.
 use borrow.Author.Needs.{needs}
-use Rattle.worked_out.proofs.Laws.{worked-digits}
-use Rattle.worked_out.proofs.put_worked.Statement.{statement}
-use Rattle.worked_out.proofs.put_worked.Tie as tie
+use Rattle.group_writer.proofs.Laws.{worked-digits}
+use Rattle.group_writer.proofs.put_worked.Statement.{statement}
+use Rattle.group_writer.proofs.put_worked.Tie as tie
 
 returns : tie.Need-returns
 returns c =

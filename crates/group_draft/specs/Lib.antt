@@ -1,2 +1,0 @@
--- The definitions of the crate `group_draft`.
-pub mod GroupDraft
