@@ -1,9 +1,5 @@
 -- Document 01, "Check digits": an IBAN's form and check, and an OIB's.
-use Prim.Native.Nat.{ℕ, _%_}
-use mathlib.Core.Bool.{Bool, _&&_}
-use mathlib.Core.List.{List, _∷_, _++_}
-use lib.Dec.{eqb, leb}
-use lib.ListN.{length, take, drop, getD}
+use Rattle.refusal.specs.Basics.{ℕ, _%_, Bool, _&&_, List, _∷_, _++_, eqb, leb, length, getD, take, drop}
 use Rattle.text.specs.Bytes.{allOf}
 use Rattle.text.specs.Digits.{digitsOf, valueOf}
 use Rattle.classes.specs.declared.Class.the-variants.{Digits}

@@ -1,9 +1,5 @@
 -- What is said of a text where an IBAN or an OIB should stand: a verdict, 3 with its byte, 4, 5, 6.
-use Prim.Native.Nat.{ℕ}
-use mathlib.Core.Bool.{Bool, _&&_}
-use mathlib.Core.List.{List}
-use lib.Dec.{eqb}
-use lib.ListN.{length}
+use Rattle.refusal.specs.Basics.{ℕ, Bool, _&&_, List, eqb, length}
 use Rattle.verdict.specs.Verdict.{onlyIf, andThen}
 use Rattle.text.specs.Bytes.{bytesVerdict}
 use Rattle.classes.specs.declared.Class.the-variants.{Digits, Account}

@@ -1,7 +1,5 @@
 -- Document 01, "The wage file", the writer: "It puts blanks in places not read (zeros in 540–542)".
-use mathlib.Core.List.{List, [], _∷_}
-use Prim.Native.Nat.{ℕ}
-use lib.ListN.{replicate}
+use Rattle.refusal.specs.Basics.{ℕ, List, [], _∷_, replicate}
 use lib.Seq.{sets}
 use Rattle.wage_places.specs.declared.LineType.{LineType}
 use Rattle.wage_places.specs.declared.LineType.the-variants.{Label, Group, Order, Closing}

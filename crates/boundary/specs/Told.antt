@@ -1,6 +1,6 @@
 -- How answers stand at the boundary: document 01's number, line, field and byte, the needed number, and what an acceptance tells. Number 0 is
 -- acceptance; then all else but what it tells is 0.
-use Prim.Native.Nat.{ℕ}
+use Rattle.refusal.specs.Basics.{ℕ}
 use Rattle.refusal.specs.Refusal.{none, numberOf, placeOf, neededOf}
 use Rattle.verdict.specs.Verdict.{answerIn}
 use Rattle.refusal.specs.declared.Answer.{Answer}

@@ -1,7 +1,5 @@
 -- What judging a text field of at most n characters answers: 3 with its byte, then 4.
-use Prim.Native.Nat.{ℕ}
-use mathlib.Core.List.{List}
-use lib.Dec.{leb}
+use Rattle.refusal.specs.Basics.{ℕ, List, leb}
 use Rattle.verdict.specs.Verdict.{onlyIf, andThen}
 use Rattle.text.specs.Bytes.{found}
 use Rattle.characters.specs.Characters.{firstWrong, characters}

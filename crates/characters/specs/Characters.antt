@@ -1,9 +1,5 @@
 -- Document 01, "The slip's fourteen fields", last paragraph: the characters that a text permits, of one byte or of two, and their number.
-use Prim.Native.Nat.{ℕ, suc}
-use mathlib.Core.Bool.{Bool, cond, not, _&&_, _||_}
-use mathlib.Core.List.{List, [], _∷_}
-use lib.Dec.{eqb, leb, ltb}
-use lib.ListN.{length, getD}
+use Rattle.refusal.specs.Basics.{ℕ, suc, Bool, cond, not, _&&_, _||_, List, [], _∷_, eqb, leb, ltb, length, getD}
 use Rattle.classes.specs.Classes.{isDigit, isLetter}
 use Rattle.text.specs.Bytes.{later}
 use Rattle.text.specs.declared.Found.{Found}

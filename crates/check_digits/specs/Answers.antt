@@ -1,9 +1,5 @@
 -- Document 01, "Check digits", last paragraph: what checking and making a check digit answer. No place is told.
-use Prim.Native.Nat.{ℕ}
-use mathlib.Core.Bool.{Bool, cond, _&&_}
-use mathlib.Core.List.{List}
-use lib.Dec.{leb}
-use lib.ListN.{length}
+use Rattle.refusal.specs.Basics.{ℕ, Bool, cond, _&&_, List, leb, length}
 use Rattle.refusal.specs.Refusal.{none}
 use Rattle.refusal.specs.declared.Answer.{Answer}
 use Rattle.refusal.specs.declared.Answer.the-variants.{Accepted, Refused}

@@ -1,9 +1,5 @@
 -- Document 01, "Check digits": MOD 11,10 and INI.
-use Prim.Native.Nat.{ℕ, _+_, _-_, _*_, _%_}
-use mathlib.Core.Bool.{Bool, cond, _&&_}
-use mathlib.Core.List.{List, [], _∷_}
-use lib.Dec.{eqb, ltb}
-use lib.ListN.{length, take, getD}
+use Rattle.refusal.specs.Basics.{ℕ, _+_, _-_, _*_, _%_, Bool, cond, _&&_, List, [], _∷_, eqb, ltb, length, getD, take}
 use Rattle.text.specs.Digits.{digitsOf}
 use Rattle.check_digits.specs.declared.Rule.{Rule}
 use Rattle.check_digits.specs.declared.Rule.the-variants.{Ini, Mod1110}

@@ -1,8 +1,6 @@
 -- How the code reads a check digit's digits, from left to right: it mirrors src/, and proofs/Laws.antt leads from it to the definitions
 -- of CheckDigit.antt. No contract of a public call cites it.
-use Prim.Native.Nat.{ℕ, _+_, _-_, _%_, _<_}
-use mathlib.Core.Bool.{cond}
-use mathlib.Core.List.{List, [], _∷_}
+use Rattle.refusal.specs.Basics.{ℕ, _+_, _-_, _%_, _<_, cond, List, [], _∷_}
 use Rattle.classes.specs.Classes.{isDigit}
 use Rattle.check_digits.specs.CheckDigit.{carry, digitFor}
 use Rattle.check_digits.specs.declared.Rule.{Rule}

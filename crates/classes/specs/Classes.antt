@@ -1,7 +1,5 @@
 -- Which bytes the fields of document 01 permit.
-use Prim.Native.Nat.{ℕ}
-use mathlib.Core.Bool.{Bool, not, _&&_, _||_}
-use lib.Dec.{eqb, leb}
+use Rattle.refusal.specs.Basics.{ℕ, Bool, not, _&&_, _||_, eqb, leb}
 use Rattle.classes.specs.declared.Class.{Class}
 use Rattle.classes.specs.declared.Class.the-variants.{Digits, Account, Reference, WetAccount, WetReference, Dry, Part, Line, Letters, Blanks, Zeros, Place, Description}
 

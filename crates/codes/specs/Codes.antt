@@ -1,8 +1,5 @@
 -- Source 004, the list of kinds of personal income: the 55 codes, in its order.
-use Prim.Native.Nat.{ℕ}
-use mathlib.Core.Bool.{cond}
-use mathlib.Core.List.{List, [], _∷_}
-use lib.Dec.{eqb}
+use Rattle.refusal.specs.Basics.{ℕ, cond, List, [], _∷_, eqb}
 use Rattle.text.specs.Bytes.{later}
 use Rattle.text.specs.declared.Found.{Found}
 use Rattle.text.specs.declared.Found.the-variants.{At, Nothing}

@@ -1,8 +1,6 @@
 -- Document 01, "The wage file": the judge's record. "The judge stands in one condition: fresh, after the label, inside a group, closed, or
 -- refused with its first refusal inside".
-use mathlib.Core.Bool.{Bool, cond, _&&_}
-use Prim.Native.Nat.{ℕ, _+_}
-use lib.Dec.{eqb, leb}
+use Rattle.refusal.specs.Basics.{ℕ, _+_, Bool, cond, _&&_, eqb, leb}
 use Rattle.refusal.specs.Refusal.{refusalOf}
 use Rattle.refusal.specs.declared.Refusal.{Refusal}
 use Rattle.sums.specs.Sums.{noCents, fits}

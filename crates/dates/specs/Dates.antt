@@ -1,7 +1,5 @@
 -- Document 01, "The wage file": "Dates are YYYYMMDD, Gregorian, years 2023 to 9999". A date is the number that its eight digits write.
-use Prim.Native.Nat.{ℕ, _/_, _%_}
-use mathlib.Core.Bool.{Bool, cond, not, _&&_, _||_}
-use lib.Dec.{eqb, leb}
+use Rattle.refusal.specs.Basics.{ℕ, _/_, _%_, Bool, cond, not, _&&_, _||_, eqb, leb}
 
 -- the Gregorian calendar's leap years
 abbrev pub isLeap : ℕ → Bool

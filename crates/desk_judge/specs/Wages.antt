@@ -1,6 +1,5 @@
 -- What the judge's calls tell at the boundary, and where a place of a wage line stands.
-use mathlib.Core.List.{List}
-use Prim.Native.Nat.{ℕ}
+use Rattle.refusal.specs.Basics.{ℕ, List}
 use Rattle.text.specs.declared.Part.{Part}
 use Rattle.wage_line.specs.declared.Typed.{Typed}
 use Rattle.wage_line.specs.declared.Typed.the-variants.{Line, Refused}

@@ -1,7 +1,5 @@
 -- The judge's record as plain numbers, and what a record of any numbers stands for.
-use mathlib.Core.Bool.{cond}
-use Prim.Native.Nat.{ℕ}
-use lib.Dec.{eqb}
+use Rattle.refusal.specs.Basics.{ℕ, cond, eqb}
 use Rattle.refusal.specs.Refusal.{refusalOf}
 use Rattle.condition.specs.Record.{stageOf, isRefused, refusalIn, beyond}
 use Rattle.condition.specs.declared.Condition.{Condition}

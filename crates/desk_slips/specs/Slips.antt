@@ -1,8 +1,5 @@
 -- What the calls of slips tell at the boundary, and what a call that writes answers and leaves.
-use mathlib.Core.List.{List, []}
-use mathlib.Core.Path.{_≡_}
-use Prim.Native.Nat.{ℕ}
-use lib.ListN.{getD, length}
+use Rattle.refusal.specs.Basics.{ℕ, _≡_, List, [], length, getD}
 use Rattle.slip_handed.specs.declared.Amount.{Amount}
 use Rattle.slip_handed.specs.declared.Amount.the-variants as amount
 use Rattle.slip_writer.specs.declared.Written.{Written}

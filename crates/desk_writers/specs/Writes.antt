@@ -1,7 +1,5 @@
 -- What a call that writes a wage line answers and leaves.
-use mathlib.Core.Path.{_≡_}
-use mathlib.Core.List.{List}
-use Prim.Native.Nat.{ℕ}
+use Rattle.refusal.specs.Basics.{ℕ, _≡_, List}
 use Rattle.refusal.specs.declared.Answer.{Answer}
 use Rattle.line_room.specs.LineRoom as wage
 use Rattle.boundary.specs.Told.{toldOf}

@@ -1,10 +1,5 @@
 -- What is claimed of the fillings of one text (proofs/Theorems.antt): which texts fill it, and by which number.
-use mathlib.Core.Path.{_≡_}
-use mathlib.Core.Bool.{cond}
-use mathlib.Core.List.{List, [], _∷_}
-use Prim.Native.Nat.{ℕ, _+_, _*_, _-_, _^_, _≤_, _<_}
-use lib.Dec.{eqb}
-use lib.ListN.{length, getD}
+use Rattle.refusal.specs.Basics.{ℕ, _+_, _-_, _*_, _^_, _<_, _≤_, _≡_, cond, List, [], _∷_, eqb, length, getD}
 use Rattle.text.specs.Bytes.{marks}
 
 -- t fills s: it is s where s has no mark, and has a digit where s has one

@@ -1,9 +1,5 @@
 -- Document 01, "Wet slips": a text filled by a number, and what filling it answers and leaves in the lent slice.
-use mathlib.Core.Bool.{cond}
-use mathlib.Core.List.{List, [], _∷_, _++_}
-use Prim.Native.Nat.{ℕ, _+_, _/_, _%_, _^_}
-use lib.Dec.{eqb, ltb}
-use lib.ListN.{length, drop}
+use Rattle.refusal.specs.Basics.{ℕ, _+_, _/_, _%_, _^_, cond, List, [], _∷_, _++_, eqb, ltb, length, drop}
 use Rattle.refusal.specs.Refusal.{none}
 use Rattle.refusal.specs.declared.Refusal.the-variants.{Room}
 use Rattle.refusal.specs.declared.Answer.{Answer}

@@ -1,8 +1,6 @@
 -- What the listing asks of each filling of a text: of an IBAN its rule, of a reference what its model asks by the ends of its parts, which are
 -- found once. (wet/proofs/Accepts.antt says that this is all that the rules ask of it.)
-use mathlib.Core.Bool.{Bool, cond, _&&_}
-use mathlib.Core.List.{List}
-use Prim.Native.Nat.{ℕ}
+use Rattle.refusal.specs.Basics.{ℕ, Bool, cond, _&&_, List}
 use Rattle.account.specs.Answers.{isIban}
 use Rattle.groups.specs.Stretches.{obeysAt}
 use Rattle.fillings.specs.declared.Aim.{Aim}

@@ -1,9 +1,5 @@
 -- Document 01, "Wet slips": what a listing answers, and what it leaves in the lent slice.
-use mathlib.Core.Bool.{Bool, cond}
-use mathlib.Core.List.{List, _++_}
-use Prim.Native.Nat.{ℕ}
-use lib.Dec.{leb, ltb}
-use lib.ListN.{length, drop}
+use Rattle.refusal.specs.Basics.{ℕ, Bool, cond, List, _++_, leb, ltb, length, drop}
 use Rattle.refusal.specs.Refusal.{none}
 use Rattle.refusal.specs.declared.Refusal.the-variants.{Room, Size, Marks}
 use Rattle.text.specs.Bytes.{marks}

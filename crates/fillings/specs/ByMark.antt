@@ -1,7 +1,5 @@
 -- The listing mark by mark: the fillings that stand in one part of the numbers.
-use mathlib.Core.Bool.{Bool}
-use mathlib.Core.List.{List}
-use Prim.Native.Nat.{ℕ, _*_, _^_}
+use Rattle.refusal.specs.Basics.{ℕ, _*_, _^_, Bool, List}
 use Rattle.text.specs.Bytes.{marks}
 use Rattle.filling.specs.Filling.{fill}
 use Rattle.fillings.specs.Fillings.{among}

@@ -1,7 +1,5 @@
 -- Document 01, "Wet slips": the fillings of a text, over any rule p that says which filled texts are accepted.
-use mathlib.Core.Bool.{Bool, cond}
-use mathlib.Core.List.{List, [], _∷_}
-use Prim.Native.Nat.{ℕ, zero, suc, _^_}
+use Rattle.refusal.specs.Basics.{ℕ, zero, suc, _^_, Bool, cond, List, [], _∷_}
 use Rattle.text.specs.Bytes.{marks}
 use Rattle.filling.specs.Filling.{fill}
 

@@ -1,10 +1,6 @@
 -- What is claimed of a listing (proofs/Theorems.antt): its members, their order and their number.
-use mathlib.Core.Path.{_≡_}
-use mathlib.Core.Bool.{Bool, cond}
+use Rattle.refusal.specs.Basics.{ℕ, zero, suc, _<_, _≡_, Bool, cond, List, [], _∷_, length, getD}
 use mathlib.Core.Logic.{_⊎_}
-use mathlib.Core.List.{List, [], _∷_}
-use Prim.Native.Nat.{ℕ, zero, suc, _<_}
-use lib.ListN.{length, getD}
 
 -- k stands in the list
 unfoldable pub Member : ℕ → List ℕ → Type 0

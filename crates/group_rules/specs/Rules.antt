@@ -1,8 +1,5 @@
 -- Document 01, "The wage file", its list for 301: the rule of each place, by its field's number. f are the place's own bytes.
-use mathlib.Core.Bool.{true, false, cond}
-use mathlib.Core.List.{List}
-use Prim.Native.Nat.{ℕ}
-use lib.Dec.{eqb}
+use Rattle.refusal.specs.Basics.{ℕ, true, false, cond, List, eqb}
 use Rattle.text.specs.Bytes.{bytesVerdict}
 use Rattle.classes.specs.declared.Class.the-variants.{Digits}
 use Rattle.wage_contents.specs.Contents.{dateVerdict, ibanPlaceVerdict, currencyVerdict}

@@ -1,12 +1,10 @@
 -- Document 01, "The wage file", the writer: "a 301 from its fields and its group's lent 309 lines, whose number and sum it works out".
-use mathlib.Core.List.{List, [], _∷_}
-use Prim.Native.Nat.{ℕ, _/_}
-use lib.ListN.{length, getD}
+use Rattle.refusal.specs.Basics.{ℕ, _/_, List, [], _∷_, length, getD}
 use Rattle.text.specs.Digits.{digitsText}
 use Rattle.wage_places.specs.declared.LineType.the-variants.{Group}
 use Rattle.wage_places.specs.Places.{spots}
 use Rattle.wage_line.specs.Pieces.{pieces}
-use Rattle.wage_file.specs.Right.{amounts}
+use Rattle.worked_out.specs.Amounts.{amounts}
 use Rattle.bare_line.specs.Bare.{bareLine}
 use Rattle.wage_draft.specs.Draft.{Draft, drafted}
 

@@ -1,6 +1,5 @@
 -- Document 01, "The wage file", the writer of a 301: its refusals in their order.
-use mathlib.Core.List.{List}
-use Prim.Native.Nat.{ℕ}
+use Rattle.refusal.specs.Basics.{ℕ, List}
 use Rattle.refusal.specs.Refusal.{firstOf}
 use Rattle.refusal.specs.declared.Answer.{Answer}
 use Rattle.wage_orders.specs.Orders.{groupOrders}

@@ -5,7 +5,7 @@ ghost use Prim.Native.Nat.{_<_, _/_};
 ghost use lib.ListN.{length, take, drop, replicate};
 ghost use Rattle.refusal.specs.Refusal.{firstOf};
 ghost use Rattle.wage_line.specs.Pieces.{pieces};
-ghost use Rattle.wage_file.specs.Right.{amounts};
+ghost use Rattle.worked_out.specs.Amounts.{amounts};
 ghost use Rattle.lent_fields.specs.Fields.{fieldsOf};
 ghost use Rattle.group_writer.specs.GroupDraft.{groupDraft};
 ghost use Rattle.line_room.specs.LineRoom.{forRoom, Writes};

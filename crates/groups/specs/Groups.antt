@@ -1,8 +1,5 @@
 -- Document 01, "Reference models": the parts of a reference, a model's lengths, and its check groups.
-use mathlib.Core.Bool.{Bool, true, _&&_}
-use mathlib.Core.List.{List, [], _∷_}
-use Prim.Native.Nat.{ℕ}
-use lib.ListN.{take, drop}
+use Rattle.refusal.specs.Basics.{ℕ, Bool, true, _&&_, List, [], _∷_, take, drop}
 use Rattle.text.specs.Split.{joined}
 use Rattle.check_digits.specs.CheckDigit.{passes}
 use Rattle.models.specs.declared.Group.{Group}

@@ -1,10 +1,6 @@
 -- Where the parts of a text end, packed into one number, and what is asked of the text by them: it mirrors src/. proofs/Readers.antt leads
 -- from what is read to `formed` of Parts.antt, and proofs/Stretches.antt from `obeysAt` to `partsRight`.
-use mathlib.Core.Bool.{Bool, true, false, cond, _&&_, _||_}
-use mathlib.Core.List.{List, [], _∷_}
-use Prim.Native.Nat.{ℕ, _+_, _-_}
-use lib.Dec.{eqb, leb}
-use lib.ListN.{length, take, drop}
+use Rattle.refusal.specs.Basics.{ℕ, _+_, _-_, Bool, true, false, cond, _&&_, _||_, List, [], _∷_, eqb, leb, length, take, drop}
 use Rattle.check_digits.specs.declared.Rule.{Rule}
 use Rattle.check_digits.specs.CheckDigit.{passes}
 use Rattle.models.specs.declared.Group.{Group}

@@ -1,9 +1,6 @@
 -- Document 01, "The wage file": the judge, which stands in one condition and reads a line at a step. "Order in a line: 17, 1, 2, 5 (type), 10,
 -- 12, 13, then the fields in order".
-use mathlib.Core.Bool.{cond, _&&_}
-use mathlib.Core.List.{List, [], _∷_}
-use Prim.Native.Nat.{ℕ}
-use lib.Dec.{eqb, ltb}
+use Rattle.refusal.specs.Basics.{ℕ, cond, _&&_, List, [], _∷_, eqb, ltb}
 use Rattle.refusal.specs.Refusal.{inLine}
 use Rattle.refusal.specs.declared.Answer.{Answer}
 use Rattle.refusal.specs.declared.Answer.the-variants as answer

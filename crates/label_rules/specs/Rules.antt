@@ -1,9 +1,6 @@
 -- Document 01, "The wage file", its list for 300: the rule of each place, by its field's number. f are the place's own bytes, s the line that it
 -- stands in.
-use mathlib.Core.Bool.{true, false, cond}
-use mathlib.Core.List.{List}
-use Prim.Native.Nat.{ℕ}
-use lib.Dec.{eqb}
+use Rattle.refusal.specs.Basics.{ℕ, true, false, cond, List, eqb}
 use Rattle.text.specs.Bytes.{bytesVerdict}
 use Rattle.classes.specs.declared.Class.the-variants.{Digits}
 use Rattle.wage_places.specs.declared.LineType.the-variants.{Label}

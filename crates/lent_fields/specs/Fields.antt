@@ -1,10 +1,5 @@
 -- How fields are lent to a writer: one behind the other in one text, with the size of each. "Each field is the bytes of its positions".
-use mathlib.Core.Path.{_≡_}
-use mathlib.Core.List.{List, [], _∷_}
-use mathlib.Core.Bool.{cond}
-use Prim.Native.Nat.{ℕ, _+_, _-_, _≤_}
-use lib.Dec.{ltb}
-use lib.ListN.{length, take, drop}
+use Rattle.refusal.specs.Basics.{ℕ, _+_, _-_, _≤_, _≡_, cond, List, [], _∷_, ltb, length, take, drop}
 
 -- the fields: a size that runs past the text's end gives a shorter field
 unfoldable pub fieldsOf : List ℕ → List ℕ → List (List ℕ)

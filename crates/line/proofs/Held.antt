@@ -11,7 +11,8 @@ use lib.Seq.{take-all, take-suc-set, take-append-le, take-nil}
 use borrow.Author.Tests.{ltb-true, ltb-false}
 use Rattle.line.specs.Kept.{Kept, took, feed}
 use Rattle.line.specs.Line.{before, after, has, lineOf, headOf, tailOf}
-use Rattle.line.proofs.Laws.{taken, left, took-feed, took-behind, took-space, took-ahead, feed-ended}
+use Rattle.classes.proofs.Choices.{taken, left}
+use Rattle.line.proofs.Laws.{took-feed, took-behind, took-space, took-ahead, feed-ended}
 
 -- ---------------------------------------------------------------------------
 -- One side

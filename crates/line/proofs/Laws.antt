@@ -1,4 +1,4 @@
--- Laws that the proofs here cite: of choices on a test, of one byte, and of the bytes that the loop feeds. Assumes nothing.
+-- Laws that the proofs here cite: of one byte, and of the bytes that the loop feeds. Assumes nothing.
 use mathlib.Core.Path.{_≡_, refl, ap}
 use mathlib.Core.Bool.{Bool, true, false, cond}
 use mathlib.Core.List.{List, [], _∷_}
@@ -8,27 +8,9 @@ use native.Mathlib.Omega.{arith}
 use lib.Dec.{eqb}
 use lib.ListN.{length, drop, getD}
 use lib.Seq.{drop-cons, drop-length}
+use Rattle.classes.proofs.Choices.{taken, left, entered}
 use Rattle.line.specs.Kept.{Kept, keptOf, took, feed}
 use Rattle.line.specs.Sides.{tookTail, tookHead}
-
--- ---------------------------------------------------------------------------
--- Choices on a test
-
-module _ {A : Type 0} where
-  -- the test held: the first answer
-  pub taken : (b : Bool) (x y : A) → b ≡ true → x ≡ cond b x y
-  taken true x y e = refl
-  taken false x y e = let z : _≡_ {A = ℕ} 0 1 = cc in absurd (omega arith)
-
-  -- the test failed: what answers the rest answers the whole
-  pub left : (b : Bool) (x y r : A) → b ≡ false → r ≡ y → r ≡ cond b x y
-  left false x y r e h = h
-  left true x y r e h = let z : _≡_ {A = ℕ} 0 1 = cc in absurd (omega arith)
-
-  -- the test held: what answers the first part answers the whole
-  pub entered : (b : Bool) (x y r : A) → b ≡ true → r ≡ x → r ≡ cond b x y
-  entered true x y r e h = h
-  entered false x y r e h = let z : _≡_ {A = ℕ} 0 1 = cc in absurd (omega arith)
 
 -- ---------------------------------------------------------------------------
 -- What one byte does, by the tests that lead there

@@ -1,10 +1,5 @@
 -- Document 01, "The wage file", the writer: one line into lent room. The refusals of the day, the kind and the room, and what is left there.
-use mathlib.Core.Path.{_≡_}
-use mathlib.Core.Bool.{cond, _||_}
-use mathlib.Core.List.{List, _++_}
-use Prim.Native.Nat.{ℕ}
-use lib.Dec.{eqb, leb}
-use lib.ListN.{drop}
+use Rattle.refusal.specs.Basics.{ℕ, _≡_, cond, _||_, List, _++_, eqb, leb, drop}
 use Rattle.refusal.specs.Refusal.{none}
 use Rattle.refusal.specs.declared.Answer.{Answer}
 use Rattle.refusal.specs.declared.Answer.the-variants.{Accepted, Refused}

@@ -1,9 +1,5 @@
 -- Document 01, "Reference models": a model's text, and what judging it answers.
-use Prim.Native.Nat.{ℕ}
-use mathlib.Core.Bool.{cond, _&&_}
-use mathlib.Core.List.{List}
-use lib.Dec.{eqb}
-use lib.ListN.{length, getD}
+use Rattle.refusal.specs.Basics.{ℕ, cond, _&&_, List, eqb, length, getD}
 use Rattle.verdict.specs.Verdict.{onlyIf}
 use Rattle.text.specs.Digits.{twoDigits}
 use Rattle.text.specs.declared.Found.{Found}

@@ -1,8 +1,5 @@
 -- Document 01, "Reference models": the sixteen models, each as one value.
-use Prim.Native.Nat.{ℕ, _+_, _-_}
-use mathlib.Core.Bool.{true, false, cond}
-use mathlib.Core.List.{List, [], _∷_}
-use lib.Dec.{eqb}
+use Rattle.refusal.specs.Basics.{ℕ, _+_, _-_, true, false, cond, List, [], _∷_, eqb}
 use Rattle.check_digits.specs.declared.Rule.{Rule}
 use Rattle.check_digits.specs.declared.Rule.the-variants.{Ini, Mod1110}
 use Rattle.models.specs.declared.Group.{Group}

@@ -1,10 +1,6 @@
 -- Document 01, "The wage file": what only a 309 holds, each kind of content once, as a verdict. Within a field 3 with its byte, 5, 7, 8, 9.
 -- "3 is also given .. in a reference for one not digit, hyphen or trailing blank; in a description. Every other wrong byte or content is 5."
-use Prim.Native.Nat.{ℕ}
-use mathlib.Core.Bool.{Bool, true, false, cond, not, _&&_, _||_}
-use mathlib.Core.List.{List}
-use lib.Dec.{eqb}
-use lib.ListN.{length, getD}
+use Rattle.refusal.specs.Basics.{ℕ, Bool, true, false, cond, not, _&&_, _||_, List, eqb, length, getD}
 use Rattle.verdict.specs.Verdict.{onlyIf}
 use Rattle.text.specs.Bytes.{allOf, trimmed}
 use Rattle.classes.specs.declared.Class.the-variants.{Digits, Reference, Letters, Blanks, Description}

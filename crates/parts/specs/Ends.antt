@@ -1,10 +1,6 @@
 -- Where the parts of a text end, packed into one number, and what is asked of the text by them: it mirrors src/. proofs/Readers.antt leads
 -- from what is read to `formed` of Parts.antt, and proofs/Stretches.antt from `obeysAt` to `partsRight`.
-use mathlib.Core.Bool.{Bool, cond, not, _&&_, _||_}
-use mathlib.Core.List.{List, [], _∷_}
-use Prim.Native.Nat.{ℕ, _+_, _-_, _*_, _/_, _%_, _^_}
-use lib.Dec.{eqb}
-use lib.ListN.{length}
+use Rattle.refusal.specs.Basics.{ℕ, _+_, _-_, _*_, _/_, _%_, _^_, Bool, cond, not, _&&_, _||_, List, [], _∷_, eqb, length}
 use Rattle.text.specs.Bytes.{allOf}
 use Rattle.classes.specs.declared.Class.the-variants.{Digits}
 use Rattle.text.specs.declared.Found.{Found}

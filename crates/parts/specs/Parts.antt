@@ -1,9 +1,5 @@
 -- Document 01, "Reference models": the parts of a reference, a model's lengths, and its check groups.
-use mathlib.Core.Bool.{Bool, true, false, _&&_}
-use mathlib.Core.List.{List, [], _∷_}
-use Prim.Native.Nat.{ℕ}
-use lib.Dec.{leb, ltb}
-use lib.ListN.{length}
+use Rattle.refusal.specs.Basics.{ℕ, Bool, true, false, _&&_, List, [], _∷_, leb, ltb, length}
 use Rattle.text.specs.Bytes.{allOf}
 use Rattle.text.specs.Split.{split}
 use Rattle.classes.specs.declared.Class.the-variants.{Digits}

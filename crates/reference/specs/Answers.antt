@@ -1,10 +1,6 @@
 -- What judging a reference answers: 5 and 7 of its model, 3 and 4 of its bytes, 8 and 9 of its parts and groups, in the order of the
 -- slip's fields 11 and 12.
-use mathlib.Core.Bool.{Bool, _&&_}
-use mathlib.Core.List.{List}
-use Prim.Native.Nat.{ℕ}
-use lib.Dec.{leb}
-use lib.ListN.{length}
+use Rattle.refusal.specs.Basics.{ℕ, Bool, _&&_, List, leb, length}
 use Rattle.verdict.specs.Verdict.{onlyIf, andThen}
 use Rattle.text.specs.Bytes.{bytesVerdict}
 use Rattle.classes.specs.declared.Class.the-variants.{Reference}

@@ -1,3 +1,4 @@
 -- The definitions of the crate `refusal`.
+pub mod Basics
 pub mod Refusal
 pub mod Only

@@ -1,5 +1,6 @@
 -- "How far an answer is determined" (document 01): a contract leaves one answer where any two answers that it allows are equal.
-use mathlib.Core.Path.{_≡_, _∙_, sym}
+use Rattle.refusal.specs.Basics.{_≡_}
+use mathlib.Core.Path.{_∙_, sym}
 
 -- P allows at most one answer
 abbrev pub Only : {A : Type 0} → (A → Type 0) → Type 0

@@ -1,9 +1,5 @@
 -- Document 01, "The slip's fourteen fields": what reading a slip answers, and its fields.
-use mathlib.Core.Bool.{Bool, cond, _&&_}
-use mathlib.Core.List.{List, [], _∷_}
-use Prim.Native.Nat.{ℕ, _+_, _-_}
-use lib.Dec.{eqb, leb}
-use lib.ListN.{length, getD}
+use Rattle.refusal.specs.Basics.{ℕ, _+_, _-_, Bool, cond, _&&_, List, [], _∷_, eqb, leb, length, getD}
 use Rattle.refusal.specs.Refusal.{none, firstOf}
 use Rattle.verdict.specs.Verdict.{answerAt}
 use Rattle.refusal.specs.declared.Answer.{Answer}

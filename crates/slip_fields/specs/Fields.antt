@@ -1,9 +1,5 @@
 -- Document 01, "The slip's fourteen fields": what each field must be. Within a field 3 with its byte, 4, 5, then 6 to 9.
-use Prim.Native.Nat.{ℕ}
-use mathlib.Core.Bool.{cond, _||_}
-use mathlib.Core.List.{List, [], _∷_}
-use lib.Dec.{eqb}
-use lib.ListN.{length}
+use Rattle.refusal.specs.Basics.{ℕ, cond, _||_, List, [], _∷_, eqb, length}
 use Rattle.verdict.specs.Verdict.{onlyIf, andThen}
 use Rattle.text.specs.Bytes.{bytesVerdict, same, eur}
 use Rattle.classes.specs.declared.Class.{Class}

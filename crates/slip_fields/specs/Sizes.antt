@@ -1,8 +1,6 @@
 -- The most bytes of each field of a slip, as document 01, "The slip's fourteen fields", leaves them: with their line feeds the fourteen
 -- are at most 483 bytes.
-use Prim.Native.Nat.{ℕ, _*_}
-use mathlib.Core.Bool.{cond}
-use lib.Dec.{eqb}
+use Rattle.refusal.specs.Basics.{ℕ, _*_, cond, eqb}
 use Rattle.slip_fields.specs.Fields.{mostOf}
 
 -- the most bytes of field n; a text's characters have at most two bytes each, so 60, 54, 54, 50, 50, 54 for 4 to 9 and 70 for 14

@@ -1,6 +1,5 @@
 -- Document 01, "The slip's fourteen fields": what a writer of slips answers of the fields that it is given.
-use mathlib.Core.List.{List, [], _∷_}
-use Prim.Native.Nat.{ℕ, _+_}
+use Rattle.refusal.specs.Basics.{ℕ, _+_, List, [], _∷_}
 use Rattle.refusal.specs.Refusal.{firstOf}
 use Rattle.verdict.specs.Verdict.{answerIn}
 use Rattle.refusal.specs.declared.Answer.{Answer}

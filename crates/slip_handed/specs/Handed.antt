@@ -1,9 +1,5 @@
 -- Document 01, "The slip's fourteen fields": what an accepted slip hands back.
-use mathlib.Core.Bool.{Bool, cond, _&&_}
-use mathlib.Core.List.{List, [], _∷_}
-use Prim.Native.Nat.{ℕ, zero, suc, _+_, _-_}
-use lib.Dec.{leb}
-use lib.ListN.{length}
+use Rattle.refusal.specs.Basics.{ℕ, zero, suc, _+_, _-_, Bool, cond, _&&_, List, [], _∷_, leb, length}
 use Rattle.refusal.specs.Refusal.{isAccepted}
 use Rattle.refusal.specs.declared.Answer.{Answer}
 use Rattle.refusal.specs.declared.Answer.the-variants.{Accepted, Refused}

@@ -1,9 +1,5 @@
 -- What is claimed of slips written and read (proofs/Theorems.antt): lines, a slip's amount and fields, and what is read back.
-use mathlib.Core.Path.{_≡_}
-use mathlib.Core.Bool.{true}
-use mathlib.Core.List.{List, [], _∷_}
-use Prim.Native.Nat.{ℕ, _-_, _^_, _≤_, _<_}
-use lib.ListN.{length, getD}
+use Rattle.refusal.specs.Basics.{ℕ, _-_, _^_, _<_, _≤_, _≡_, true, List, [], _∷_, length, getD}
 use Rattle.refusal.specs.declared.Answer.the-variants.{Accepted}
 use Rattle.text.specs.Bytes.{allOf}
 use Rattle.classes.specs.declared.Class.the-variants.{Line}

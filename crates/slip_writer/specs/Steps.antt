@@ -1,8 +1,5 @@
 -- What is promised of a slip written: the answer, and what is left in the lent room.
-use mathlib.Core.Path.{_≡_}
-use mathlib.Core.List.{List}
-use Prim.Native.Nat.{ℕ}
-use lib.ListN.{length}
+use Rattle.refusal.specs.Basics.{ℕ, _≡_, List, length}
 use Rattle.slip_writer.specs.declared.Written.{Written}
 use Rattle.slip_writer.specs.Writer.{slipText, roomAnswer, writeAnswer, leftBy}
 

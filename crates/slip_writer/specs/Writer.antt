@@ -1,9 +1,5 @@
 -- Document 01, "The slip's fourteen fields": what the writer of slips answers, and what it leaves in the lent room.
-use mathlib.Core.Bool.{cond}
-use mathlib.Core.List.{List, [], _∷_, _++_}
-use Prim.Native.Nat.{ℕ, _^_}
-use lib.Dec.{ltb}
-use lib.ListN.{length, drop}
+use Rattle.refusal.specs.Basics.{ℕ, _^_, cond, List, [], _∷_, _++_, ltb, length, drop}
 use Rattle.refusal.specs.Refusal.{none}
 use Rattle.refusal.specs.declared.Answer.{Answer}
 use Rattle.refusal.specs.declared.Answer.the-variants as answer

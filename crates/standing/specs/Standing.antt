@@ -1,8 +1,5 @@
 -- Document 01, "The wage file": what 10, 12 and 13 say of a line where the judge stands, and the record after a right line.
-use mathlib.Core.Bool.{cond, _&&_}
-use mathlib.Core.List.{List}
-use Prim.Native.Nat.{ℕ, _+_}
-use lib.Dec.{eqb, ltb}
+use Rattle.refusal.specs.Basics.{ℕ, _+_, cond, _&&_, List, eqb, ltb}
 use Rattle.verdict.specs.Verdict.{onlyIf, andThen}
 use Rattle.sums.specs.Sums.{noCents, sumOf, added, sameSum, numberOf, numberIn}
 use Rattle.wage_places.specs.declared.LineType.{LineType}

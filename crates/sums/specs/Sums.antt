@@ -1,10 +1,6 @@
 -- Exact sums of cents: "sums exact to twenty digits". A sum is two numbers, `high` times 10^18 and `low`. It is kept under a limit of `most`
 -- times 10^18, 100 for twenty digits; the limit stands for itself and all above.
-use Prim.Native.Nat.{ℕ, _+_, _*_, _/_, _%_}
-use mathlib.Core.Bool.{Bool, cond}
-use mathlib.Core.List.{List}
-use lib.Dec.{eqb, ltb}
-use lib.ListN.{take}
+use Rattle.refusal.specs.Basics.{ℕ, _+_, _*_, _/_, _%_, Bool, cond, List, eqb, ltb, take}
 use Rattle.text.specs.Digits.{digitsOf, valueOf}
 use Rattle.sums.specs.declared.Sum.{Sum}
 

@@ -1,8 +1,5 @@
 -- The first byte of a text that a field does not permit, and what else is asked of its bytes.
-use Prim.Native.Nat.{ℕ, suc}
-use mathlib.Core.Bool.{Bool, true, false, cond, _&&_}
-use mathlib.Core.List.{List, [], _∷_}
-use lib.Dec.{eqb}
+use Rattle.refusal.specs.Basics.{ℕ, suc, Bool, true, false, cond, _&&_, List, [], _∷_, eqb}
 use Rattle.verdict.specs.Verdict.{wrongAt}
 use Rattle.classes.specs.declared.Class.{Class}
 use Rattle.classes.specs.declared.Class.the-variants.{Blanks}

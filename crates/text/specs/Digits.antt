@@ -1,7 +1,5 @@
 -- The digits of a text, and the number that digits write.
-use Prim.Native.Nat.{ℕ, zero, suc, _+_, _-_, _*_, _/_, _%_, _^_}
-use mathlib.Core.Bool.{cond, _&&_}
-use mathlib.Core.List.{List, [], _∷_}
+use Rattle.refusal.specs.Basics.{ℕ, zero, suc, _+_, _-_, _*_, _/_, _%_, _^_, cond, _&&_, List, [], _∷_}
 use Rattle.text.specs.declared.Found.{Found}
 use Rattle.text.specs.declared.Found.the-variants.{At, Nothing}
 use Rattle.classes.specs.Classes.{isDigit}

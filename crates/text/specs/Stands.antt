@@ -1,8 +1,5 @@
 -- A list written at a place of a lent slice, as far as there is room: what writers and listings leave, step by step.
-use Prim.Native.Nat.{ℕ, _+_}
-use mathlib.Core.Path.{_≡_}
-use mathlib.Core.List.{List}
-use lib.ListN.{length}
+use Rattle.refusal.specs.Basics.{ℕ, _+_, _≡_, List, length}
 use lib.Seq.{sets}
 
 -- xs was written from the place `at` on, and `next` is the place behind it

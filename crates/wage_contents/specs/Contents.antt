@@ -2,11 +2,7 @@
 -- a field 3 with its byte, 5, 6, 11.
 -- "Numeric fields are digits only (else 3), zeros for absent, unless stated. 3 is also given in an IBAN place for a byte not A to Z, digit or
 -- blank .. Every other wrong byte or content is 5."
-use Prim.Native.Nat.{ℕ}
-use mathlib.Core.Bool.{Bool, cond, not, _&&_, _||_}
-use mathlib.Core.List.{List}
-use lib.Dec.{eqb, leb}
-use lib.ListN.{take, drop}
+use Rattle.refusal.specs.Basics.{ℕ, Bool, cond, not, _&&_, _||_, List, eqb, leb, take, drop}
 use Rattle.verdict.specs.Verdict.{andThen, onlyIf}
 use Rattle.text.specs.Bytes.{bytesVerdict, allOf, same, eur}
 use Rattle.classes.specs.declared.Class.{Class}

@@ -1,10 +1,5 @@
 -- Document 01, "The wage file", the writer: "the judge's for the fields, 4 (another length) first in each".
-use mathlib.Core.Path.{_≡_}
-use mathlib.Core.Bool.{cond}
-use mathlib.Core.List.{List, [], _∷_, map}
-use Prim.Native.Nat.{ℕ}
-use lib.Dec.{eqb}
-use lib.ListN.{length, replicate}
+use Rattle.refusal.specs.Basics.{ℕ, _≡_, cond, List, [], _∷_, map, eqb, length, replicate}
 use lib.Seq.{sets}
 use Rattle.refusal.specs.declared.Answer.{Answer}
 use Rattle.refusal.specs.declared.Answer.the-variants.{Accepted, Refused}

@@ -1,2 +1,3 @@
 -- The definitions of the crate `wage_fields`.
 pub mod Rules
+pub mod Right

@@ -1,10 +1,6 @@
 -- Document 01, "The wage file": the rule of a place, by its line's type and its field's number, and a line's places in order. f are the
 -- place's own bytes, s the line that it stands in.
-use mathlib.Core.Bool.{cond}
-use mathlib.Core.List.{List, [], _∷_}
-use Prim.Native.Nat.{ℕ, zero, suc}
-use lib.Dec.{eqb}
-use lib.ListN.{length, getD}
+use Rattle.refusal.specs.Basics.{ℕ, zero, suc, cond, List, [], _∷_, eqb, length, getD}
 use Rattle.refusal.specs.Refusal.{none, firstOf}
 use Rattle.verdict.specs.Verdict.{answerAt}
 use Rattle.refusal.specs.declared.Answer.{Answer}

@@ -17,15 +17,17 @@ use Rattle.wage_places.specs.declared.LineType.the-variants.{Label, Group, Orde
 use Rattle.wage_line.specs.declared.Typed.{Typed}
 use Rattle.wage_line.specs.declared.Typed.the-variants as typed
 use Rattle.wage_line.specs.Line.{typedOf}
+use Rattle.wage_line.proofs.PieceLaws.{Each, each-more}
 use Rattle.wage_fields.specs.Rules.{placesAnswer}
+use Rattle.wage_fields.specs.Right.{RightLine}
 use Rattle.condition.specs.declared.Counts.{Counts}
 use Rattle.condition.specs.declared.Ending.the-variants as ending
 use Rattle.condition.specs.declared.Judge.{Judge}
 use Rattle.condition.specs.Record.{isSound, fresh, begun, ended}
 use Rattle.standing.specs.Standing.{after, standVerdict}
 use Rattle.judge.specs.Judge.{stepped, steps}
-use Rattle.wage_file.specs.Right.{Payments, File, groupLines, linesOf, ordersIn, tally, RightLine, kindOf, RightGroup, RightFile}
-use Rattle.wage_file.proofs.RunLaws.{Each, each-more, Ends, chosen, came, told, goes, same-counts, noGroup, inGroup, Rest, right-group, rest-run, run-rest}
+use Rattle.wage_file.specs.Right.{Payments, File, groupLines, linesOf, ordersIn, tally, kindOf, RightGroup, RightFile}
+use Rattle.wage_file.proofs.RunLaws.{Ends, chosen, came, told, goes, same-counts, noGroup, inGroup, Rest, right-group, rest-run, run-rest}
 
 -- ---------------------------------------------------------------------------
 -- The first two lines

@@ -24,7 +24,10 @@ use Rattle.wage_line.specs.declared.Typed.{Typed}
 use Rattle.wage_line.specs.declared.Typed.the-variants as typed
 use Rattle.wage_places.specs.Places.{spots, spotIn, partOf}
 use Rattle.wage_line.specs.Line.{typedOf}
+use Rattle.wage_line.proofs.PieceLaws.{Each, each-more}
 use Rattle.wage_fields.specs.Rules.{placesAnswer}
+use Rattle.wage_fields.specs.Right.{RightLine}
+use Rattle.worked_out.specs.Amounts.{amounts}
 use Rattle.wage_fields.proofs.Theorems.{closing-has-none}
 use Rattle.condition.specs.declared.Condition.the-variants.{Grouped}
 use Rattle.condition.specs.declared.Counts.{Counts}
@@ -36,20 +39,7 @@ use Rattle.judge.specs.Judge.{afterPlaces, typeStep, typedStep, stepped, steps}
 use Rattle.condition.proofs.Laws.{sound-within}
 use Rattle.judge.proofs.Theorems.{refusal-stays-on}
 use Rattle.condition.proofs.Theorems.{refusal-ends, closed-accepts}
-use Rattle.wage_file.specs.Right.{Payments, groupLines, ordersIn, RightLine, RightGroup, amounts}
-
--- ---------------------------------------------------------------------------
--- What holds of each in a list
-
-module _ {A : Type 0} (P : A → Type 0) (d : A) where
-  -- it holds at each place
-  abbrev pub Each : List A → Type 0
-  Each xs = (k : ℕ) → k < length xs → P (getD xs k d)
-
-  -- of one more in front
-  pub each-more : (x : A) (xs : List A) → P x → Each xs → Each (x ∷ xs)
-  each-more x xs p f zero h = p
-  each-more x xs p f (suc k) h = f k (omega arith)
+use Rattle.wage_file.specs.Right.{Payments, groupLines, ordersIn, RightGroup}
 
 -- ---------------------------------------------------------------------------
 -- A run that ends accepted

@@ -1,19 +1,14 @@
 -- Document 01, "The wage file": which lines are a right file, said without a judge. "One 300; then one or more groups, each one 301 and one or
 -- more 309; then one 399 and nothing after", each line's fields right, each group's number and exact sum as declared.
-use Prim.Native.Nat.{ℕ, _+_, _≤_, _<_}
-use mathlib.Core.Path.{_≡_}
-use mathlib.Core.Bool.{true}
-use mathlib.Core.List.{List, [], _∷_, _++_}
-use lib.ListN.{length, getD}
-use Rattle.refusal.specs.declared.Answer.the-variants.{Accepted}
+use Rattle.refusal.specs.Basics.{ℕ, _+_, _<_, _≤_, _≡_, true, List, [], _∷_, _++_, length, getD}
 use Rattle.dates.specs.Dates.{isDate}
 use Rattle.sums.specs.Sums.{numberOf, numberIn}
-use Rattle.wage_places.specs.declared.LineType.{LineType}
 use Rattle.wage_places.specs.declared.LineType.the-variants.{Label, Group, Order, Closing}
 use Rattle.wage_line.specs.declared.Typed.the-variants.{Line}
 use Rattle.wage_line.specs.Line.{typedOf}
 use Rattle.wage_places.specs.Places.{partOf}
-use Rattle.wage_fields.specs.Rules.{placesAnswer}
+use Rattle.wage_fields.specs.Right.{RightLine}
+use Rattle.worked_out.specs.Amounts.{amounts}
 use Rattle.condition.specs.declared.Counts.{Counts}
 
 -- ---------------------------------------------------------------------------
@@ -51,19 +46,9 @@ tally f = record { lines = length (linesOf f); groups = length (f .groups); orde
 -- ---------------------------------------------------------------------------
 -- What is right
 
--- a line of a type with its fields right, under a day and a kind
-pub record RightLine (day kind : ℕ) (t : LineType) (s : List ℕ) : Type 0 where
-  pub typed : typedOf s ≡ Line t
-  pub fields : placesAnswer day kind t s ≡ Accepted
-
 -- the kind that the label tells
 abbrev pub kindOf : List ℕ → ℕ
 kindOf s = numberIn (partOf Label 2 s)
-
--- the exact sum of orders' amounts
-unfoldable pub amounts : List (List ℕ) → ℕ
-amounts [] = 0
-amounts (s ∷ ss) = numberIn (partOf Order 10 s) + amounts ss
 
 -- one or more orders, each right, their number and sum as the group's first line declares
 pub record RightGroup (day kind : ℕ) (g : Payments) : Type 0 where

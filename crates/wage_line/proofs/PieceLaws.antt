@@ -1,4 +1,4 @@
--- Laws of the pieces of a file: one by one from a place on, joined again, and of whole lines. Assumes nothing.
+-- Laws of the pieces of a file: one by one from a place on, joined again, of whole lines, and of what holds of each. Assumes nothing.
 use mathlib.Core.Path.{_≡_, refl, sym, ap, _∙_}
 use mathlib.Core.Bool.{Bool, true, false, cond}
 use mathlib.Core.List.{List, [], _∷_, _++_}
@@ -131,3 +131,16 @@ pub whole-pieces :
     (s : List ℕ) → length s % 1002 ≡ 0
     → (length (pieces s) ≡ length s / 1002) × ((k : ℕ) → k < length (pieces s) → length (getD (pieces s) k []) ≡ 1002)
 whole-pieces s e = whole-of (length s) s (omega arith) e
+
+-- ---------------------------------------------------------------------------
+-- What holds of each in a list
+
+module _ {A : Type 0} (P : A → Type 0) (d : A) where
+  -- it holds at each place
+  abbrev pub Each : List A → Type 0
+  Each xs = (k : ℕ) → k < length xs → P (getD xs k d)
+
+  -- of one more in front
+  pub each-more : (x : A) (xs : List A) → P x → Each xs → Each (x ∷ xs)
+  each-more x xs p f zero h = p
+  each-more x xs p f (suc k) h = f k (omega arith)

@@ -1,9 +1,5 @@
 -- Document 01, "The wage file": a line's size, ends and type, and its parts.
-use Prim.Native.Nat.{ℕ}
-use mathlib.Core.Bool.{Bool, cond, _&&_}
-use mathlib.Core.List.{List, [], _∷_}
-use lib.Dec.{eqb}
-use lib.ListN.{length, getD}
+use Rattle.refusal.specs.Basics.{ℕ, Bool, cond, _&&_, List, [], _∷_, eqb, length, getD}
 use Rattle.refusal.specs.Refusal.{none}
 use Rattle.refusal.specs.declared.Refusal.the-variants.{Size, Ends, Form}
 use Rattle.wage_places.specs.declared.LineType.{LineType}

@@ -1,9 +1,5 @@
 -- Document 01, "The wage file": "A whole lent file gives the answer of its 1,002-byte pieces, one by one; a short last piece is 1".
-use Prim.Native.Nat.{ℕ, zero, suc, _+_}
-use mathlib.Core.Bool.{cond}
-use mathlib.Core.List.{List, [], _∷_}
-use lib.Dec.{leb}
-use lib.ListN.{length, take, drop}
+use Rattle.refusal.specs.Basics.{ℕ, zero, suc, _+_, cond, List, [], _∷_, leb, length, take, drop}
 
 -- at most n pieces
 unfoldable pub piecesOf : ℕ → List ℕ → List (List ℕ)

@@ -19,9 +19,10 @@ use Rattle.wage_line.specs.declared.Typed.{Typed}
 use Rattle.wage_line.specs.declared.Typed.the-variants as typed
 use Rattle.wage_line.specs.Line.{typedOf}
 use Rattle.wage_line.specs.Pieces.{pieces}
+use Rattle.wage_line.proofs.PieceLaws.{Each, each-more}
 use Rattle.wage_fields.specs.Rules.{placesAnswer}
-use Rattle.wage_file.specs.Right.{RightLine, amounts}
-use Rattle.wage_file.proofs.RunLaws.{Each, each-more}
+use Rattle.wage_fields.specs.Right.{RightLine}
+use Rattle.worked_out.specs.Amounts.{amounts}
 use Rattle.worked_out.proofs.Theorems.{amounts-small}
 use Rattle.lent_order.specs.Order.{answerIn, orderFrom, orderAnswer}
 use Rattle.wage_orders.specs.Orders.{ordersFrom, groupOrders}

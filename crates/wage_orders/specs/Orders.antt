@@ -1,10 +1,6 @@
 -- Document 01, "The wage file", the writer of a 301: its group's lent 309 lines. "1 if the lent lines are not whole, 10 if there are none, 12
 -- above 99,999, then the first refusal in them, 10 for another type, with its line in the group".
-use mathlib.Core.Bool.{cond}
-use mathlib.Core.List.{List, [], _∷_}
-use Prim.Native.Nat.{ℕ, _+_, _/_, _%_}
-use lib.Dec.{eqb, leb}
-use lib.ListN.{length}
+use Rattle.refusal.specs.Basics.{ℕ, _+_, _/_, _%_, cond, List, [], _∷_, eqb, leb, length}
 use Rattle.refusal.specs.Refusal.{none, firstOf}
 use Rattle.refusal.specs.declared.Answer.{Answer}
 use Rattle.refusal.specs.declared.Answer.the-variants as answer

@@ -1,10 +1,6 @@
 -- Document 01, "The wage file", its lists for 300, 301 and 309: the places of a line and their bytes, as 004's layout tables number them. "Places not named
 -- are not read; 35–174 (name, address, seat), one field 2, are not judged."
-use Prim.Native.Nat.{ℕ, _+_, _-_}
-use mathlib.Core.Bool.{cond}
-use mathlib.Core.List.{List, [], _∷_}
-use lib.Dec.{eqb}
-use lib.ListN.{take, drop}
+use Rattle.refusal.specs.Basics.{ℕ, _+_, _-_, cond, List, [], _∷_, eqb, take, drop}
 use Rattle.wage_places.specs.declared.LineType.{LineType}
 use Rattle.wage_places.specs.declared.LineType.the-variants.{Label, Group, Order, Closing}
 use Rattle.wage_places.specs.declared.Spot.{Spot}

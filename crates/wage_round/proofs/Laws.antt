@@ -32,7 +32,9 @@ use Rattle.wage_contents.proofs.Accepted.{among-accepted}
 use Rattle.wage_fields.specs.Rules.{placesAnswer}
 use Rattle.verdict.proofs.Verdicts.{first-both}
 use Rattle.wage_fields.proofs.Theorems.{label-kind, group-number-digits, group-sum-digits}
-use Rattle.wage_file.specs.Right.{Payments, RightLine, kindOf, amounts, RightGroup}
+use Rattle.wage_fields.specs.Right.{RightLine}
+use Rattle.worked_out.specs.Amounts.{amounts}
+use Rattle.wage_file.specs.Right.{Payments, kindOf, RightGroup}
 use Rattle.wage_draft.specs.Draft.{partsOf}
 use Rattle.lent_fields.proofs.Laws.{fields-joined}
 use Rattle.wage_draft.proofs.Theorems.{DraftedRight, drafted-right}

@@ -18,14 +18,16 @@ use Rattle.wage_line.specs.declared.Typed.the-variants.{Line}
 use Rattle.wage_places.specs.Places.{spots, spotIn, partOf}
 use Rattle.wage_line.specs.Line.{typedOf, placeOf}
 use Rattle.wage_line.specs.Pieces.{pieces}
-use Rattle.wage_line.proofs.PieceLaws.{AllWhole, whole-pieces, pieces-of-lines, pieces-joined}
+use Rattle.wage_line.proofs.PieceLaws.{Each, AllWhole, whole-pieces, pieces-of-lines, pieces-joined}
 use Rattle.wage_places.proofs.Theorems.{placeAt, found-spot}
 use Rattle.wage_line.proofs.Theorems.{place-typed, typed-exactly}
 use Rattle.condition.specs.declared.Counts.{Counts}
 use Rattle.condition.specs.declared.Ending.the-variants as ending
-use Rattle.wage_file.specs.Right.{Payments, File, groupLines, linesOf, tally, RightLine, kindOf, amounts, RightGroup, RightFile}
+use Rattle.wage_fields.specs.Right.{RightLine}
+use Rattle.worked_out.specs.Amounts.{amounts}
+use Rattle.wage_file.specs.Right.{Payments, File, groupLines, linesOf, tally, kindOf, RightGroup, RightFile}
 use Rattle.wage_file.specs.File.{fileAnswer}
-use Rattle.wage_file.proofs.RunLaws.{Each, noGroup}
+use Rattle.wage_file.proofs.RunLaws.{noGroup}
 use Rattle.wage_file.proofs.Exactly.{accepted-exactly}
 use Rattle.wage_file.proofs.Theorems.{of-lines, file-accepted-exactly}
 use Rattle.wage_draft.specs.Draft.{Draft, drafted, blanked, plainElsewhere}

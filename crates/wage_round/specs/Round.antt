@@ -1,9 +1,6 @@
 -- Document 01, "The wage file", the writer: what the writer was given for a whole file and which file its lines are; and what it is given when
 -- a line, or a whole file, is read and written again.
-use Prim.Native.Nat.{ℕ, _≤_, _<_}
-use mathlib.Core.Path.{_≡_}
-use mathlib.Core.List.{List, [], _∷_, map}
-use lib.ListN.{length, getD}
+use Rattle.refusal.specs.Basics.{ℕ, _<_, _≤_, _≡_, List, [], _∷_, map, length, getD}
 use Rattle.refusal.specs.declared.Answer.the-variants.{Accepted}
 use Rattle.text.specs.Split.{joined}
 use Rattle.wage_places.specs.declared.LineType.{LineType}

@@ -1,6 +1,5 @@
 -- Document 01, "The wage file", the writer: "one line into lent room: a 300, 309 or 399 from its fields".
-use mathlib.Core.List.{List}
-use Prim.Native.Nat.{ℕ}
+use Rattle.refusal.specs.Basics.{ℕ, List}
 use Rattle.refusal.specs.Refusal.{firstOf}
 use Rattle.refusal.specs.declared.Answer.{Answer}
 use Rattle.wage_places.specs.declared.LineType.the-variants.{Label, Order}

@@ -1,9 +1,5 @@
 -- Document 01, "Wet slips": what the listings of IBANs and of references answer. No place is told.
-use mathlib.Core.Bool.{Bool, true, false, cond, _&&_}
-use mathlib.Core.List.{List, []}
-use Prim.Native.Nat.{ℕ}
-use lib.Dec.{eqb, leb}
-use lib.ListN.{length, drop, getD}
+use Rattle.refusal.specs.Basics.{ℕ, Bool, true, false, cond, _&&_, List, [], eqb, leb, length, getD, drop}
 use Rattle.refusal.specs.Refusal.{none}
 use Rattle.refusal.specs.declared.Refusal.the-variants.{Size, Byte, Form, Model, Marks}
 use Rattle.text.specs.Bytes.{allOf, marks}

@@ -12,7 +12,7 @@ use Rattle.wage_places.specs.declared.LineType.the-variants.{Order}
 use Rattle.wage_places.specs.Places.{partOf}
 use Rattle.wage_line.specs.Pieces.{pieces, nextPiece}
 use Rattle.wage_line.proofs.PieceLaws.{pieces-more, pieces-end}
-use Rattle.wage_file.specs.Right.{amounts}
+use Rattle.worked_out.specs.Amounts.{amounts}
 
 -- ---------------------------------------------------------------------------
 -- The sum from a place on

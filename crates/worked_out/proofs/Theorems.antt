@@ -12,7 +12,7 @@ use Rattle.wage_places.specs.declared.LineType.the-variants.{Order}
 use Rattle.wage_places.specs.Places.{partOf, spots, spotIn}
 use Rattle.wage_line.specs.Pieces.{pieces}
 use Rattle.wage_line.proofs.PieceLaws.{whole-pieces}
-use Rattle.wage_file.specs.Right.{amounts}
+use Rattle.worked_out.specs.Amounts.{amounts}
 
 -- ---------------------------------------------------------------------------
 -- The sum of at most 99,999 orders, whatever their bytes are

@@ -7,7 +7,7 @@ ghost use Prim.Native.Nat.{_/_, _<_};
 ghost use lib.ListN.{length};
 ghost use Rattle.sums.specs.Sums.{sumOf};
 ghost use Rattle.wage_line.specs.Pieces.{pieces};
-ghost use Rattle.wage_file.specs.Right.{amounts};
+ghost use Rattle.worked_out.specs.Amounts.{amounts};
 use sums::Sum;
 use wage_places::LineType;
 

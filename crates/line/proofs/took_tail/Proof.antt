@@ -1,7 +1,7 @@
 -- `line::took_tail` meets its contract: each return is the definition's choice on the test that led there. Assumes nothing.
 use mathlib.Core.Path.{refl}
 use borrow.Author.Tests.{lt-ltb, le-ltb}
-use Rattle.line.proofs.Laws.{taken, left}
+use Rattle.classes.proofs.Choices.{taken, left}
 use borrow.Author.Needs.{needs}
 use Rattle.line.proofs.took_tail.Statement.{statement}
 use Rattle.line.proofs.took_tail.Tie as tie

@@ -9,7 +9,7 @@ use Rattle.wage_places.specs.declared.LineType.the-variants.{Order}
 use Rattle.wage_places.specs.Places.{partOf}
 use Rattle.wage_line.specs.Pieces.{pieces}
 use Rattle.wage_line.proofs.PieceLaws.{piece-advances}
-use Rattle.wage_file.specs.Right.{amounts}
+use Rattle.worked_out.specs.Amounts.{amounts}
 use Rattle.worked_out.proofs.Laws.{kept, amounts-first, amounts-on, amounts-end}
 use Rattle.worked_out.proofs.total.Statement.{statement}
 use Rattle.worked_out.proofs.total.Tie as tie

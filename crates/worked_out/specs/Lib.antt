@@ -1,0 +1,2 @@
+-- The definitions of the crate `worked_out`.
+pub mod Amounts
