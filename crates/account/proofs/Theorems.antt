@@ -1,4 +1,4 @@
--- What is promised of accounts: nothing is refused exactly when, where a 3's byte lies, and one answer.
+-- What is promised of accounts: nothing is refused exactly when, and where a 3's byte lies.
 -- Assumes nothing.
 use mathlib.Core.Path.{_≡_, refl, sym}
 use mathlib.Core.Logic.{_↔_}
@@ -9,7 +9,6 @@ use native.Mathlib.Omega.{arith}
 use lib.Dec.{eqb}
 use lib.ListN.{length}
 use borrow.Author.Tests.{eq-eqb}
-use Rattle.refusal.specs.Only.{Only, defined-only}
 use Rattle.verdict.specs.Verdict.{onlyIf, andThen, Within}
 use Rattle.verdict.proofs.Verdicts.{passed, met, both-pass, pass-both, test-holds, then-within, only-within}
 use Rattle.text.specs.Bytes.{allOf, bytesVerdict}
@@ -66,24 +65,3 @@ pub oib-within : (s : List ℕ) → Within (length s) (oibVerdict s)
 oib-within s =
     let n = length s in
     then-within n _ _ (bytes-within Digits s) (then-within n _ _ (only-within n (eqb n 11) 4 (omega arith)) (only-within n (oibPasses s) 6 (omega arith)))
-
--- ---------------------------------------------------------------------------
--- Any two answers that a contract allows are equal
-
-pub iban-formed-only : (s : List ℕ) → Only (λ (r : Bool). r ≡ ibanFormed s)
-iban-formed-only s = defined-only (ibanFormed s)
-
-pub iban-passes-only : (s : List ℕ) → Only (λ (r : Bool). r ≡ isIban s)
-iban-passes-only s = defined-only (isIban s)
-
-pub check-iban-only : (s : List ℕ) → Only (λ (r : ℕ). r ≡ ibanCheckVerdict s)
-check-iban-only s = defined-only (ibanCheckVerdict s)
-
-pub iban-only : (s : List ℕ) → Only (λ (r : ℕ). r ≡ ibanVerdict s)
-iban-only s = defined-only (ibanVerdict s)
-
-pub oib-passes-only : (s : List ℕ) → Only (λ (r : Bool). r ≡ oibPasses s)
-oib-passes-only s = defined-only (oibPasses s)
-
-pub oib-only : (s : List ℕ) → Only (λ (r : ℕ). r ≡ oibVerdict s)
-oib-only s = defined-only (oibVerdict s)

@@ -1,2 +1,3 @@
 -- What is promised of `bare_line`.
 pub mod Theorems
+pub mod One

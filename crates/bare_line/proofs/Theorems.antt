@@ -1,9 +1,8 @@
--- What is promised of a line without fields: its type, its size, and one answer. Assumes nothing.
+-- What is promised of a line without fields: its type and its size. Assumes nothing.
 use mathlib.Core.Path.{_≡_, refl, ap, _∙_}
 use mathlib.Core.List.{List}
 use Prim.Native.Nat.{ℕ}
 use lib.ListN.{length, replicate}
-use Rattle.refusal.specs.Only.{Only, defined-only}
 use Rattle.wage_places.specs.declared.LineType.{LineType}
 use Rattle.wage_places.specs.declared.LineType.the-variants.{Label, Group, Order, Closing}
 use Rattle.wage_line.specs.declared.Typed.the-variants.{Line}
@@ -27,9 +26,3 @@ bare-length t = typed-exactly t (bareLine t) .0 (bare-line t) .whole
 pub bare : (t : LineType) (before after : List ℕ) → before ≡ replicate 1002 32 → after ≡ dressed t before → after ≡ bareLine t
 unfolding bareLine
 bare t before after e w = w ∙ ap (dressed t) e
-
--- ---------------------------------------------------------------------------
--- Any two contents of the lent slice at exit that a contract allows are equal
-
-pub dress-only : (t : LineType) (line : List ℕ) → Only (λ (after : List ℕ). after ≡ dressed t line)
-dress-only t line = defined-only (dressed t line)

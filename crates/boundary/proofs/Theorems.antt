@@ -1,8 +1,7 @@
--- What is promised of the boundary: nothing is lost on the way through numbers, and each call leaves one answer.
+-- What is promised of the boundary: nothing is lost on the way through numbers.
 -- Assumes nothing.
 use mathlib.Core.Path.{_≡_, refl, sym, ap, _∙_}
-use mathlib.Core.List.{List}
-use Prim.Native.Nat.{ℕ, _<_}
+use Prim.Native.Nat.{_<_}
 use native.Mathlib.Omega.{arith}
 use Rattle.refusal.specs.Refusal.{numberOf, refusalOf}
 use Rattle.refusal.specs.declared.Answer.{Answer}
@@ -51,16 +50,3 @@ told-apart Accepted Accepted e = refl
 told-apart Accepted (Refused q) e = let z : 0 ≡ numberOf q = ap (λ (t : Told). t .number) e in absurd (omega (arith, number-not-zero q))
 told-apart (Refused r) Accepted e = let z : numberOf r ≡ 0 = ap (λ (t : Told). t .number) e in absurd (omega (arith, number-not-zero r))
 told-apart (Refused r) (Refused q) e = ap Refused (sym (refusal-told-back r) ∙ (ap refusalIn e ∙ refusal-told-back q))
-
--- ---------------------------------------------------------------------------
--- One answer
-
--- of a call that writes nothing: its contract is `r ≡ x`
-pub answer-only : {A : Type 0} (x r r′ : A) → r ≡ x → r′ ≡ x → r ≡ r′
-answer-only x r r′ p q = p ∙ sym q
-
--- of a listing, and of a text filled: answer and lent slice together
-pub outcome-only :
-    {A : Type 0} (x r r′ : A) (y after after′ : List ℕ)
-    → (r ≡ x) × (after ≡ y) → (r′ ≡ x) × (after′ ≡ y) → (r ≡ r′) × (after ≡ after′)
-outcome-only x r r′ y after after′ p q = (p .0 ∙ sym (q .0), p .1 ∙ sym (q .1))

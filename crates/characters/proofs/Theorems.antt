@@ -1,4 +1,4 @@
--- What is promised of text fields: which texts are permitted, accepted exactly when, characters against bytes, one answer.
+-- What is promised of text fields: which texts are permitted, accepted exactly when, characters against bytes.
 -- Assumes nothing.
 use mathlib.Core.Path.{_≡_, refl, ap, _∙_}
 use mathlib.Core.Logic.{_↔_}
@@ -9,7 +9,6 @@ use native.Mathlib.Omega.{arith}
 use lib.Dec.{eqb}
 use lib.ListN.{length, getD}
 use borrow.Author.Tests.{leb-true, le-leb, eqb-true}
-use Rattle.refusal.specs.Only.{Only, defined-only}
 use Rattle.verdict.proofs.Verdicts.{both-pass, test-holds}
 use Rattle.text.specs.Bytes.{later, found}
 use Rattle.text.proofs.Laws.{nothing-found}
@@ -139,13 +138,6 @@ line-feed-in-none = record { alone = refl; first = λ c. refl; second = λ b. rw
 -- no line feed stands in a text in which nothing is wrong
 pub no-line-feed : (s : List ℕ) → firstWrong s ≡ Nothing → (i : ℕ) → i < length s → getD s i 0 ≡ 10 → ⊥
 no-line-feed = stands-nowhere 10 line-feed-in-none
-
--- ---------------------------------------------------------------------------
--- Any two answers that the contract allows are equal
-
--- of a text field
-pub judge-only : (most : ℕ) (s : List ℕ) → Only (λ (r : ℕ). r ≡ charactersVerdict most s)
-judge-only most s = defined-only (charactersVerdict most s)
 
 -- ---------------------------------------------------------------------------
 -- "Thirty Ž in field 4 pass; thirty-one give 4"

@@ -11,14 +11,10 @@ use lib.Dec.{eqb, ltb, lit<}
 use lib.ListN.{length, length-append}
 use lib.Seq.{take-append-seam, getD-append-seam}
 use borrow.Author.Tests.{lt-ltb, eq-eqb, eqb-true, ltb-false}
-use Rattle.refusal.specs.Only.{Only, defined-only}
-use Rattle.refusal.specs.declared.Answer.{Answer}
 use Rattle.text.specs.Digits.{digitsOf}
 use Rattle.check_digits.specs.declared.Rule.{Rule}
 use Rattle.check_digits.specs.declared.Rule.the-variants.{Ini, Mod1110}
-use Rattle.check_digits.specs.declared.Made.{Made}
 use Rattle.check_digits.specs.CheckDigit.{checkDigit, digitFor, remainder, passes}
-use Rattle.check_digits.specs.Answers.{checkAnswer, makeAnswer}
 
 -- ---------------------------------------------------------------------------
 -- One digit completes any digits
@@ -52,18 +48,3 @@ made-digit-passes rule s = passes-snoc rule s (48 + checkDigit rule (digitsOf s)
 -- and no other byte does
 pub only-made-digit-passes : (rule : Rule) (s : List ℕ) (c : ℕ) → passes rule (s ++ (c ∷ [])) ≡ true → c ≡ 48 + checkDigit rule (digitsOf s)
 only-made-digit-passes rule s c e = eqb-true c (48 + checkDigit rule (digitsOf s)) (sym (passes-snoc rule s c) ∙ e)
-
--- ---------------------------------------------------------------------------
--- Any two answers that a contract allows are equal
-
-pub checked-only : (rule : Rule) (s : List ℕ) → Only (λ (r : Answer). r ≡ checkAnswer rule s)
-checked-only rule s = defined-only (checkAnswer rule s)
-
-pub make-only : (rule : Rule) (s : List ℕ) → Only (λ (r : Made). r ≡ makeAnswer rule s)
-make-only rule s = defined-only (makeAnswer rule s)
-
-pub check-digit-only : (rule : Rule) (s : List ℕ) → Only (λ (r : ℕ). r ≡ checkDigit rule (digitsOf s))
-check-digit-only rule s = defined-only (checkDigit rule (digitsOf s))
-
-pub ends-right-only : (rule : Rule) (s : List ℕ) → Only (λ (r : Bool). r ≡ passes rule s)
-ends-right-only rule s = defined-only (passes rule s)

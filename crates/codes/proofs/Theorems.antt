@@ -1,4 +1,4 @@
--- What is promised of the codes: 55 of three digits, ascending; each is found at its place, and nothing else is found; one answer.
+-- What is promised of the codes: 55 of three digits, ascending; each is found at its place, and nothing else is found.
 -- Assumes nothing.
 use mathlib.Core.Path.{_≡_, refl}
 use mathlib.Core.Logic.{_↔_}
@@ -9,7 +9,6 @@ use native.Mathlib.Omega.{arith}
 use lib.Dec.{ltb, leb}
 use lib.ListN.{length, getD}
 use borrow.Author.Tests.{ltb-true, leb-true, eq-eqb, ne-eqb}
-use Rattle.refusal.specs.Only.{Only, defined-only}
 use Rattle.text.specs.declared.Found.{Found}
 use Rattle.text.specs.declared.Found.the-variants.{At, Nothing}
 use Rattle.classes.proofs.Choices.{both-true}
@@ -101,9 +100,3 @@ module _ (n : ℕ) where
 -- each code is found at its place
 pub each-code-found : (i : ℕ) → i < 55 → codePlace (getD codes i 0) ≡ At i
 each-code-found i h = place-exactly (getD codes i 0) i .1 (h, refl)
-
--- ---------------------------------------------------------------------------
--- Any two answers that a contract allows are equal
-
-pub place-only : (code : ℕ) → Only (λ (r : Found). r ≡ codePlace code)
-place-only code = defined-only (codePlace code)

@@ -1,2 +1,3 @@
 -- What is promised of dates.
 pub mod Theorems
+pub mod One

@@ -1,4 +1,4 @@
--- What is promised of dates: the calendar's leap years, eight digits, and one answer.
+-- What is promised of dates: the calendar's leap years, and eight digits.
 -- Assumes nothing.
 use mathlib.Core.Path.{_≡_, refl}
 use mathlib.Core.Logic.{_↔_}
@@ -7,7 +7,6 @@ use Prim.Native.Nat.{ℕ, _+_, _*_, _≤_, _<_}
 use native.Mathlib.Omega.{arith}
 use lib.Dec.{eqb, leb}
 use borrow.Author.Tests.{leb-true, le-leb}
-use Rattle.refusal.specs.Only.{Only, defined-only}
 use Rattle.classes.proofs.Choices.{both-true}
 use Rattle.dates.specs.Dates.{isLeap, daysOf, yearOf, monthOf, dayOf, isDate}
 
@@ -120,9 +119,3 @@ leap-day-exactly y g h =
 -- dates have eight digits
 pub date-bounds : (n : ℕ) → isDate n ≡ true → (20230101 ≤ n) × (n ≤ 99991231)
 date-bounds n e = let d = date-told n e in (omega arith, omega (arith, days-few (yearOf n) (monthOf n)))
-
--- ---------------------------------------------------------------------------
--- Any two answers that a contract allows are equal
-
-pub is-date-only : (n : ℕ) → Only (λ (r : Bool). r ≡ isDate n)
-is-date-only n = defined-only (isDate n)

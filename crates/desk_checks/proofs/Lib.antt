@@ -1,2 +1,3 @@
 -- The laws of the crate `desk_checks`.
 pub mod Laws
+pub mod One

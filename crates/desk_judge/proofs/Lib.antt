@@ -1,2 +1,3 @@
 -- The laws of the crate `desk_judge`.
 pub mod Theorems
+pub mod One

@@ -1,2 +1,3 @@
 -- The laws of the crate `desk_record`.
 pub mod Theorems
+pub mod One

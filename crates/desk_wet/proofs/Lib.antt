@@ -1,1 +1,2 @@
 -- The laws of the crate `desk_wet`.
+pub mod One

@@ -1,3 +1,3 @@
 -- The laws of the crate `desk_writers`.
 pub mod Laws
-pub mod Theorems
+pub mod One

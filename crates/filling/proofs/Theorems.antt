@@ -10,9 +10,8 @@ use lib.Arith.{digits-lt, digits-div, mod-mul}
 use lib.Dec.{eqb}
 use lib.ListN.{length, getD, drop}
 use borrow.Author.Tests.{eq-eqb, ne-eqb, eqb-true, eqb-false}
-use Rattle.refusal.specs.declared.Answer.{Answer}
 use Rattle.text.specs.Bytes.{countOf, marks}
-use Rattle.filling.specs.Filling.{filledAnswer, filledBy, fill}
+use Rattle.filling.specs.Filling.{fill}
 use Rattle.filling.specs.Claims.{Fills, numberIn}
 
 -- ---------------------------------------------------------------------------
@@ -115,12 +114,3 @@ fill-dry (b ∷ s) k e = go (eqb b 63) (fill-dry s k) e
     go : (t : Bool) → (marks s ≡ 0 → fill s k ≡ s) → cond t (suc (marks s)) (marks s) ≡ 0 → cond t (48 + (k / 10 ^ marks s) % 10) b ∷ fill s k ≡ b ∷ s
     go true ih e = absurd (omega arith)
     go false ih e = rw (ih e)
-
--- ---------------------------------------------------------------------------
--- "one possible answer and one content of the lent slices"
-
--- a filled text's answer and what it leaves
-pub filled-only :
-    (s out : List ℕ) (k : ℕ) (r r′ : Answer) (o o′ : List ℕ) → (r ≡ filledAnswer s (length out)) × (o ≡ filledBy r s k out)
-    → (r′ ≡ filledAnswer s (length out)) × (o′ ≡ filledBy r′ s k out) → (r ≡ r′) × (o ≡ o′)
-filled-only s out k r r′ o o′ h g = let e : r ≡ r′ = h .0 ∙ sym (g .0) in (e, h .1 ∙ ap (λ (r : Answer). filledBy r s k out) e ∙ sym (g .1))

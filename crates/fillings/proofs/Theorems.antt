@@ -14,8 +14,6 @@ use lib.ListN.{length, getD, length-append}
 use borrow.Author.Tests.{eqb-true, eqb-false, ltb-true, ltb-false}
 use Rattle.text.specs.Bytes.{marks}
 use Rattle.filling.specs.Filling.{fill}
-use Rattle.fillings.specs.declared.Listed.{Listed}
-use Rattle.fillings.specs.Answers.{leftBy, listing}
 use Rattle.fillings.specs.ByMark.{between}
 use Rattle.fillings.specs.Fillings.{among, fillings}
 use Rattle.fillings.specs.Listing.{Member, Ascending, acceptedBelow}
@@ -148,18 +146,3 @@ changed-rule p p′ s h = among-ext (λ (k : ℕ). p (fill s k)) (λ (k : ℕ). 
 pub no-mark-listed : (p : List ℕ → Bool) (s : List ℕ) → marks s ≡ 0 → fillings p s ≡ cond (p s) (0 ∷ []) []
 unfolding fillings between
 no-mark-listed p s e = rw zero-mul at (block-dry p s 0 e)
-
--- ---------------------------------------------------------------------------
--- "one possible answer and one content of the lent slices"
-
--- a listing's answer, whatever its definition d, and what it leaves of the accepted fillings xs
-pub listed-only :
-    (d : Listed) (xs out : List ℕ) (r r′ : Listed) (o o′ : List ℕ) → (r ≡ d) × (o ≡ leftBy r xs out) → (r′ ≡ d) × (o′ ≡ leftBy r′ xs out)
-    → (r ≡ r′) × (o ≡ o′)
-listed-only d xs out r r′ o o′ h g = let e : r ≡ r′ = h .0 ∙ sym (g .0) in (e, h .1 ∙ ap (λ (r : Listed). leftBy r xs out) e ∙ sym (g .1))
-
--- of `list_into`
-pub list-into-only :
-    (p : List ℕ → Bool) (s out : List ℕ) (r r′ : Listed) (o o′ : List ℕ) → (r ≡ listing p s (length out)) × (o ≡ leftBy r (fillings p s) out)
-    → (r′ ≡ listing p s (length out)) × (o′ ≡ leftBy r′ (fillings p s) out) → (r ≡ r′) × (o ≡ o′)
-list-into-only p s out = listed-only (listing p s (length out)) (fillings p s) out

@@ -1,2 +1,3 @@
 -- The laws of the crate `group_rules`.
 pub mod Theorems
+pub mod One

@@ -1,19 +1,15 @@
--- What is promised of the rules of a 301: the byte that a verdict tells lies within its place, and one answer.
+-- What is promised of the rules of a 301: the byte that a verdict tells lies within its place.
 -- Assumes nothing.
-use mathlib.Core.Path.{_≡_}
 use mathlib.Core.Bool.{true, false}
 use mathlib.Core.List.{List}
 use Prim.Native.Nat.{ℕ}
 use native.Mathlib.Omega.{arith}
 use lib.Dec.{eqb}
-use lib.ListN.{length, getD}
+use lib.ListN.{length}
 use Rattle.verdict.specs.Verdict.{Within}
-use Rattle.refusal.specs.Only.{Only, defined-only}
 use Rattle.verdict.proofs.Verdicts.{choice-within}
 use Rattle.classes.specs.declared.Class.the-variants.{Digits}
 use Rattle.text.proofs.Laws.{bytes-within}
-use Rattle.wage_places.specs.declared.LineType.the-variants.{Group}
-use Rattle.wage_places.specs.Places.{spots, noSpot, partAt}
 use Rattle.wage_contents.proofs.Within.{date-within, iban-place-within, currency-within}
 use Rattle.group_rules.specs.Rules.{groupRule}
 
@@ -28,7 +24,3 @@ group-within day n f =
     (or (eqb n 5) _ _ (bytes-within Digits f)
     (or (eqb n 6) _ _ (bytes-within Digits f)
     (or (eqb n 7) _ _ (date-within day 99991231 f) (omega arith)))))))
-
--- any two answers that the contract allows are equal
-pub group-rule-only : (day k : ℕ) (s : List ℕ) → Only (λ (r : ℕ). r ≡ groupRule day (getD (spots Group) k noSpot .field) (partAt (getD (spots Group) k noSpot) s))
-group-rule-only day k s = defined-only (groupRule day (getD (spots Group) k noSpot .field) (partAt (getD (spots Group) k noSpot) s))

@@ -2,3 +2,4 @@
 pub mod Refusals
 pub mod Theorems
 pub mod Laws
+pub mod One

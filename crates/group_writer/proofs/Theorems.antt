@@ -1,4 +1,4 @@
--- What is promised of the writer of a 301: one answer and one content of the lent room; 15 exactly when all else is right and the room is under
+-- What is promised of the writer of a 301: 15 exactly when all else is right and the room is under
 -- 1,002. Assumes nothing.
 use mathlib.Core.Path.{_≡_}
 use mathlib.Core.Logic.{_↔_}
@@ -6,28 +6,18 @@ use mathlib.Core.Bool.{true, _||_}
 use mathlib.Core.List.{List}
 use Prim.Native.Nat.{ℕ, _<_}
 use lib.Dec.{eqb}
-use lib.ListN.{length}
 use borrow.Author.Tests.{lt-leb}
 use Rattle.refusal.specs.declared.Answer.the-variants.{Accepted}
 use Rattle.dates.specs.Dates.{isDate}
 use Rattle.wage_places.specs.declared.LineType.the-variants.{Group}
 use Rattle.bare_line.specs.Bare.{bareLine}
 use Rattle.wage_orders.specs.Orders.{groupOrders}
-use Rattle.line_room.specs.LineRoom.{forRoom, Writes}
+use Rattle.line_room.specs.LineRoom.{forRoom}
 use Rattle.line_room.proofs.Laws.{noRoom, day-before, kind-before, accepted-before, room-before}
-use Rattle.line_room.proofs.Theorems.{OneOutcome, writes-only}
 use Rattle.wage_writer.proofs.Refusals.{draft-no-room}
 use Rattle.group_writer.specs.GroupDraft.{groupDraft}
 use Rattle.group_writer.specs.GroupWriter.{groupAnswer}
 use Rattle.group_writer.proofs.Refusals.{orders-no-room}
-
--- ---------------------------------------------------------------------------
--- Any two answers that a contract allows, with what is in the lent room at exit, are equal
-
-module _ (day : ℕ) (out : List ℕ) where
-  pub write-group-only :
-      (kind : ℕ) (fs : List (List ℕ)) (orders : List ℕ) → OneOutcome (Writes (groupAnswer day kind fs orders (length out)) (groupDraft day kind fs orders .line) out)
-  write-group-only kind fs orders = writes-only (groupAnswer day kind fs orders (length out)) (groupDraft day kind fs orders .line) out
 
 -- ---------------------------------------------------------------------------
 -- 15 exactly when all else is right and the room is under 1,002

@@ -1,3 +1,4 @@
 -- The laws of the crate `groups`.
 pub mod Stretches
 pub mod Theorems
+pub mod One

@@ -2,18 +2,15 @@
 -- Assumes nothing.
 use mathlib.Core.Path.{_≡_, refl, sym}
 use mathlib.Core.Logic.{_↔_, ⊎-elim}
-use mathlib.Core.Bool.{Bool, true}
+use mathlib.Core.Bool.{true}
 use mathlib.Core.List.{List, [], _∷_, List·Memᴰ, List·Memᴰ·head, List·Memᴰ·tail, List·Memᴰ·not-nil, List·Memᴰ·cases-cons}
 use Prim.Native.Nat.{ℕ}
 use native.Mathlib.Omega.{arith}
-use Rattle.refusal.specs.Only.{Only, defined-only}
 use Rattle.text.specs.Split.{joined}
 use Rattle.classes.proofs.Choices.{both-true, and-second}
 use Rattle.check_digits.specs.CheckDigit.{passes}
 use Rattle.models.specs.declared.Group.{Group}
-use Rattle.models.specs.declared.Model.{Model}
 use Rattle.groups.specs.Groups.{present, groupRight, groupsRight}
-use Rattle.groups.specs.Stretches.{obeysAt}
 
 -- ---------------------------------------------------------------------------
 -- Every group
@@ -45,9 +42,3 @@ every-groups-right [] ps h = refl
 every-groups-right (g ∷ gs) ps h =
     sym (and-second (groupRight g (present g ps)) (groupsRight gs ps) true (group-ends g ps .1 (h g (List·Memᴰ·head refl)))
     (sym (every-groups-right gs ps (λ k m. h k (List·Memᴰ·tail m)))))
-
--- ---------------------------------------------------------------------------
--- Any two answers that a contract allows are equal
-
-pub obeys-at-only : (model : Model) (ends : ℕ) (s : List ℕ) → Only (λ (r : Bool). r ≡ obeysAt model ends s)
-obeys-at-only model ends s = defined-only (obeysAt model ends s)

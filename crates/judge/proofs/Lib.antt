@@ -1,2 +1,3 @@
 -- What is promised of `judge`.
 pub mod Theorems
+pub mod One

@@ -1,11 +1,9 @@
--- What is promised of the judge: a refusal stays, a record that it did not make and a line too many get 17, and one answer, also for records
--- that it did not make.
+-- What is promised of the judge: a refusal stays, a record that it did not make and a line too many get 17.
 -- Assumes nothing.
 use mathlib.Core.Path.{_≡_, refl, ap, _∙_}
 use mathlib.Core.Bool.{true, false}
 use mathlib.Core.List.{List, [], _∷_, _++_}
 use Prim.Native.Nat.{ℕ}
-use Rattle.refusal.specs.Only.{Only, defined-only}
 use Rattle.refusal.specs.Refusal.{none}
 use Rattle.refusal.specs.declared.Refusal.the-variants.{Date, Beyond}
 use Rattle.dates.specs.Dates.{isDate}
@@ -61,9 +59,3 @@ module _ (j : Judge) (unrefused : isRefused (j .condition) ≡ false) where
   pub line-limit : isSound j ≡ true → j .read .lines ≡ 1000000 → (s : List ℕ) → stepped j s .condition ≡ Refused (Beyond (record { line = 1000001; field = 0; byte = 0 }))
   unfolding stepped
   line-limit e f s = rw (unrefused, e, f)
-
--- ---------------------------------------------------------------------------
--- Any two answers that a contract allows are equal, also for records that the judge did not make
-
-pub step-only : (j : Judge) (s : List ℕ) → Only (λ (r : Judge). r ≡ stepped j s)
-step-only j s = defined-only (stepped j s)

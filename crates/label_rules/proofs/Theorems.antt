@@ -1,19 +1,17 @@
--- What is promised of the rules of a 300: the byte that a verdict tells lies within its place, and one answer.
+-- What is promised of the rules of a 300: the byte that a verdict tells lies within its place.
 -- Assumes nothing.
-use mathlib.Core.Path.{_≡_}
 use mathlib.Core.Bool.{true, false}
 use mathlib.Core.List.{List}
 use Prim.Native.Nat.{ℕ}
 use native.Mathlib.Omega.{arith}
 use lib.Dec.{eqb}
-use lib.ListN.{length, getD}
+use lib.ListN.{length}
 use Rattle.verdict.specs.Verdict.{Within}
-use Rattle.refusal.specs.Only.{Only, defined-only}
 use Rattle.verdict.proofs.Verdicts.{choice-within}
 use Rattle.classes.specs.declared.Class.the-variants.{Digits}
 use Rattle.text.proofs.Laws.{bytes-within}
 use Rattle.wage_places.specs.declared.LineType.the-variants.{Label}
-use Rattle.wage_places.specs.Places.{spots, noSpot, partAt, partOf}
+use Rattle.wage_places.specs.Places.{partOf}
 use Rattle.wage_contents.proofs.Within.{among-within, oib-within, employer-within, date-within}
 use Rattle.label_rules.specs.Rules.{labelRule}
 
@@ -29,7 +27,3 @@ label-within day n f s =
     (or (eqb n 6) _ _ (bytes-within Digits f)
     (or (eqb n 7) _ _ (employer-within (partOf Label 5 s) (partOf Label 6 s) f)
     (or (eqb n 8) _ _ (oib-within false f) (omega arith))))))))
-
--- any two answers that the contract allows are equal
-pub label-rule-only : (day k : ℕ) (s : List ℕ) → Only (λ (r : ℕ). r ≡ labelRule day (getD (spots Label) k noSpot .field) (partAt (getD (spots Label) k noSpot) s) s)
-label-rule-only day k s = defined-only (labelRule day (getD (spots Label) k noSpot .field) (partAt (getD (spots Label) k noSpot) s) s)

@@ -1,3 +1,3 @@
 -- What is promised of `lent_fields`, and the laws that its proofs share.
 pub mod Laws
-pub mod Theorems
+pub mod One

@@ -1,2 +1,2 @@
 -- What is promised of `lent_order`.
-pub mod Theorems
+pub mod One

@@ -1,5 +1,5 @@
 -- What the crate's definitions say of a line, over plain lists: chunks do not matter, and what is kept is the line's. Assumes nothing.
-use mathlib.Core.Path.{_≡_, refl, sym, _∙_}
+use mathlib.Core.Path.{_≡_, refl}
 use mathlib.Core.List.{List, [], _∷_, _++_}
 use Prim.Native.Nat.{ℕ, _≤_}
 use lib.ListN.{length, take}
@@ -43,12 +43,6 @@ line-is-kept m n s head₀ tail₀ g h =
 -- ---------------------------------------------------------------------------
 -- Any two answers that a contract allows are equal, the lent arrays included
 
-pub fresh-only : (r r′ : Seen) → r ≡ starting → r′ ≡ starting → r ≡ r′
-fresh-only r r′ e f = e ∙ sym f
-
 -- what `fed` ensures, of what was seen and of the two arrays
 abbrev pub Fed : Kept → List ℕ → Seen → List ℕ → List ℕ → Type 0
 Fed k s r head tail = (r ≡ feed k s .seen) × (head ≡ feed k s .head) × (tail ≡ feed k s .tail)
-
-pub fed-only : (k : Kept) (s : List ℕ) (r r′ : Seen) (h h′ t t′ : List ℕ) → Fed k s r h t → Fed k s r′ h′ t′ → (r ≡ r′) × (h ≡ h′) × (t ≡ t′)
-fed-only k s r r′ h h′ t t′ e f = (e .0 ∙ sym (f .0), e .1 ∙ sym (f .1), e .2 ∙ sym (f .2))

@@ -1,9 +1,7 @@
--- What is promised of a model's text: one answer, and no byte told.
+-- What is promised of a model's text: no byte is told.
 -- Assumes nothing.
-use mathlib.Core.Path.{_≡_}
 use mathlib.Core.List.{List}
 use Prim.Native.Nat.{ℕ}
-use Rattle.refusal.specs.Only.{Only, defined-only}
 use Rattle.verdict.specs.Verdict.{Within}
 use Rattle.verdict.proofs.Verdicts.{only-within}
 use native.Mathlib.Omega.{arith}
@@ -11,15 +9,6 @@ use Rattle.text.specs.declared.Found.{Found}
 use Rattle.text.specs.declared.Found.the-variants.{At, Nothing}
 use Rattle.model_text.specs.Texts.{modelNumber, modelFrom, modelVerdict}
 use Rattle.models.specs.Models.{modelOf}
-
--- ---------------------------------------------------------------------------
--- Any two answers that a contract allows are equal
-
-pub number-only : (s : List ℕ) → Only (λ (r : Found). r ≡ modelNumber s)
-number-only s = defined-only (modelNumber s)
-
-pub judge-only : (s : List ℕ) → Only (λ (r : ℕ). r ≡ modelVerdict s)
-judge-only s = defined-only (modelVerdict s)
 
 -- ---------------------------------------------------------------------------
 -- A model's refusal tells no byte

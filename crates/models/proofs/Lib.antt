@@ -1,2 +1,2 @@
 -- What is promised of models.
-pub mod Theorems
+pub mod One

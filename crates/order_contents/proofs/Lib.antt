@@ -1,5 +1,5 @@
 -- The laws of the crate `order_contents`.
 pub mod Accepted
 pub mod Laws
-pub mod Theorems
 pub mod Within
+pub mod One

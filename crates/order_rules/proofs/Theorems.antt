@@ -1,19 +1,17 @@
--- What is promised of the rules of a 309: the byte that a verdict tells lies within its place, and one answer.
+-- What is promised of the rules of a 309: the byte that a verdict tells lies within its place.
 -- Assumes nothing.
-use mathlib.Core.Path.{_≡_}
 use mathlib.Core.Bool.{true, false, not}
 use mathlib.Core.List.{List}
 use Prim.Native.Nat.{ℕ}
 use native.Mathlib.Omega.{arith}
 use lib.Dec.{eqb}
-use lib.ListN.{length, getD}
+use lib.ListN.{length}
 use Rattle.verdict.specs.Verdict.{Within}
-use Rattle.refusal.specs.Only.{Only, defined-only}
 use Rattle.verdict.proofs.Verdicts.{choice-within}
 use Rattle.classes.specs.declared.Class.the-variants.{Digits}
 use Rattle.text.proofs.Laws.{bytes-within}
 use Rattle.wage_places.specs.declared.LineType.the-variants.{Order}
-use Rattle.wage_places.specs.Places.{spots, noSpot, partAt, partOf}
+use Rattle.wage_places.specs.Places.{partOf}
 use Rattle.wage_contents.proofs.Within.{among-within, oib-within, iban-place-within, currency-within}
 use Rattle.order_contents.specs.Contents.{heldIn, heldBlank}
 use Rattle.order_contents.proofs.Within.{purpose-within, sign-within, held-within, reference-within, description-within, code-within}
@@ -38,7 +36,3 @@ order-within kind n f s =
     (or (eqb n 21) _ _ (sign-within 32 48 48 f)
     (or (eqb n 22) _ _ (code-within kind (heldBlank (heldIn (partOf Order 11 s))) f)
     (or (eqb n 23) _ _ (oib-within (not (eqb kind 5)) f) (omega arith)))))))))))))))
-
--- any two answers that the contract allows are equal
-pub order-rule-only : (kind k : ℕ) (s : List ℕ) → Only (λ (r : ℕ). r ≡ orderRule kind (getD (spots Order) k noSpot .field) (partAt (getD (spots Order) k noSpot) s) s)
-order-rule-only kind k s = defined-only (orderRule kind (getD (spots Order) k noSpot .field) (partAt (getD (spots Order) k noSpot) s) s)

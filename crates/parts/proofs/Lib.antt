@@ -4,4 +4,4 @@ pub mod Laws
 pub mod Pieces
 pub mod Readers
 pub mod Shape
-pub mod Theorems
+pub mod One

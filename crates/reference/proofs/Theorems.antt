@@ -2,13 +2,12 @@
 -- Assumes nothing.
 use mathlib.Core.Path.{_≡_, refl}
 use mathlib.Core.Logic.{_↔_}
-use mathlib.Core.Bool.{Bool, true, _&&_}
+use mathlib.Core.Bool.{true, _&&_}
 use mathlib.Core.List.{List}
 use Prim.Native.Nat.{ℕ}
 use native.Mathlib.Omega.{arith}
 use lib.Dec.{leb}
 use lib.ListN.{length}
-use Rattle.refusal.specs.Only.{Only, defined-only}
 use Rattle.verdict.specs.Verdict.{onlyIf, Within}
 use Rattle.verdict.proofs.Verdicts.{both-pass, test-holds, then-within, only-within}
 use Rattle.text.specs.Bytes.{bytesVerdict}
@@ -63,15 +62,3 @@ number-within s Nothing = omega arith
 
 pub reference-within : (m s : List ℕ) → Within (length s) (referenceVerdict m s)
 reference-within m s = number-within s (modelNumber m)
-
--- ---------------------------------------------------------------------------
--- Any two answers that a contract allows are equal
-
-pub reference-only : (m s : List ℕ) → Only (λ (r : ℕ). r ≡ referenceVerdict m s)
-reference-only m s = defined-only (referenceVerdict m s)
-
-pub numbered-only : (n : ℕ) (s : List ℕ) → Only (λ (r : ℕ). r ≡ modelledVerdict (modelOf n) s)
-numbered-only n s = defined-only (modelledVerdict (modelOf n) s)
-
-pub obeys-only : (model : Model) (s : List ℕ) → Only (λ (r : Bool). r ≡ obeys model s)
-obeys-only model s = defined-only (obeys model s)

@@ -1,2 +1,3 @@
 -- What is promised of refusals.
 pub mod Theorems
+pub mod One

@@ -1,4 +1,4 @@
 -- The definitions of the crate `refusal`.
 pub mod Basics
 pub mod Refusal
-pub mod Only
+pub mod One

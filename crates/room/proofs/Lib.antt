@@ -2,4 +2,4 @@
 pub mod Laws
 pub mod Digits
 pub mod Places
-pub mod Theorems
+pub mod One

@@ -1,4 +1,4 @@
--- What is promised of a slip: accepted exactly when, and one answer.
+-- What is promised of a slip: accepted exactly when.
 -- Assumes nothing.
 use mathlib.Core.Path.{_≡_, refl, sym}
 use mathlib.Core.Logic.{_↔_}
@@ -10,7 +10,6 @@ use native.Mathlib.Nat.{add-zero}
 use lib.Dec.{eqb, leb}
 use lib.ListN.{length, getD}
 use borrow.Author.Tests.{eq-eqb, eqb-true, leb-true}
-use Rattle.refusal.specs.Only.{Only, defined-only}
 use Rattle.refusal.specs.Refusal.{none}
 use Rattle.verdict.specs.Verdict.{answerAt}
 use Rattle.refusal.specs.declared.Answer.{Answer}
@@ -92,9 +91,3 @@ module _ (s : List ℕ) where
   -- a slip is accepted exactly when it is right
   pub accepted-exactly : (slipAnswer s ≡ Accepted) ↔ Right s
   accepted-exactly = (accepted-right, right-accepted)
-
--- ---------------------------------------------------------------------------
--- Any two answers that a contract allows are equal
-
-pub read-only : (s : List ℕ) → Only (λ (r : Answer). r ≡ slipAnswer s)
-read-only s = defined-only (slipAnswer s)

@@ -1,4 +1,4 @@
--- What is promised of the fields of a slip: which bytes an accepted field has, how many, what it depends on, and one answer.
+-- What is promised of the fields of a slip: which bytes an accepted field has, how many, and what it depends on.
 -- Assumes nothing.
 use mathlib.Core.Path.{_≡_, refl, ap}
 use mathlib.Core.Bool.{Bool, true, false, cond, _||_}
@@ -8,7 +8,6 @@ use native.Mathlib.Omega.{arith}
 use lib.Dec.{eqb, leb}
 use lib.ListN.{length}
 use borrow.Author.Tests.{ne-eqb}
-use Rattle.refusal.specs.Only.{Only, defined-only}
 use Rattle.verdict.specs.Verdict.{Within}
 use Rattle.verdict.proofs.Verdicts.{choice-within, then-within, only-within}
 use Rattle.classes.specs.Classes.{permits}
@@ -142,10 +141,3 @@ field-within n m s =
 
     sized : (k : Class) (a b : ℕ) → Within (length s) (sizedVerdict k a b s)
     sized k a b = then-within (length s) _ _ (bytes-within k s) (only-within (length s) (eqb (length s) a || eqb (length s) b) 4 (omega arith))
-
--- ---------------------------------------------------------------------------
--- Any two answers that a contract allows are equal
-
--- of a field
-pub judge-field-only : (n : ℕ) (m s : List ℕ) → Only (λ (r : ℕ). r ≡ fieldVerdict n m s)
-judge-field-only n m s = defined-only (fieldVerdict n m s)

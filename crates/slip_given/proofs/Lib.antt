@@ -1,3 +1,3 @@
 -- The laws of the crate `slip_given`.
 pub mod Laws
-pub mod Theorems
+pub mod One

@@ -1,4 +1,4 @@
 -- The laws of the crate `slip_handed`.
 pub mod Amounts
 pub mod Laws
-pub mod Theorems
+pub mod One

@@ -3,3 +3,4 @@ pub mod Laws
 pub mod Sizes
 pub mod Lines
 pub mod Theorems
+pub mod One

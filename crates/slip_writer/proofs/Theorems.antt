@@ -1,5 +1,5 @@
 -- What is promised of slips written and read: what the writer writes the reader accepts, field by field; what the reader accepts is
--- written again byte for byte; one answer and one content of the lent room. Assumes nothing.
+-- written again byte for byte. Assumes nothing.
 use mathlib.Core.Path.{_≡_, refl, sym, ap, _∙_}
 use mathlib.Core.Bool.{Bool, true, false, cond}
 use mathlib.Core.List.{List, [], _∷_, _++_}
@@ -29,8 +29,7 @@ use Rattle.slip_handed.specs.Handed.{fieldOf, amountOf}
 use Rattle.slip_given.specs.Given.{givenAnswer}
 use Rattle.slip_writer.specs.declared.Written.{Written}
 use Rattle.slip_writer.specs.declared.Written.the-variants.{Bytes}
-use Rattle.slip_writer.specs.Writer.{joinLines, slipText, afterFields, writeAnswer, leftBy}
-use Rattle.slip_writer.specs.Steps.{WritesSlip}
+use Rattle.slip_writer.specs.Writer.{joinLines, slipText, afterFields, writeAnswer}
 use Rattle.slip_writer.specs.Claims.{EachLine, none as no-line, more, linesOf, fieldsOf, ReadsBack, WritesBack}
 use Rattle.slip_writer.proofs.Laws.{slip-length}
 use Rattle.slip_writer.proofs.Sizes.{given-first, given-size, sizes, sizes-eleven}
@@ -262,14 +261,3 @@ unfolding writeAnswer
 accepted-is-written s room e h =
     let w = read-and-written-again s e in
     rw (lt-ltb (amountOf s) (10 ^ 15) (w .small), w .given, w .same, le-ltb room (length s) h)
-
--- ---------------------------------------------------------------------------
--- "one possible answer and one content of the lent slices"
-
--- of `write`
-pub write-only :
-    (cents : ℕ) (fields : List (List ℕ)) (out : List ℕ) (r r′ : Written) (o o′ : List ℕ) → WritesSlip cents fields out r o → WritesSlip cents fields out r′ o′
-    → (r ≡ r′) × (o ≡ o′)
-write-only cents fields out r r′ o o′ h g =
-    let e : r ≡ r′ = h .0 ∙ sym (g .0) in
-    (e, h .1 ∙ ap (λ (r : Written). leftBy r (slipText cents fields) out) e ∙ sym (g .1))

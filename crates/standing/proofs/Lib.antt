@@ -1,2 +1,2 @@
 -- What is promised of `standing`.
-pub mod Theorems
+pub mod One

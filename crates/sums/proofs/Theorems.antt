@@ -1,4 +1,4 @@
--- What is promised of sums and of numbers read from digits: sums exact below any limit and told apart, and one answer.
+-- What is promised of sums and of numbers read from digits: sums exact below any limit and told apart.
 -- Assumes nothing.
 use mathlib.Core.Path.{_≡_, refl, sym, ap, _∙_}
 use mathlib.Core.Logic.{_↔_}
@@ -11,11 +11,10 @@ use lib.Dec.{ltb}
 use lib.ListN.{length}
 use lib.Seq.{take-all}
 use borrow.Author.Tests.{lt-ltb, le-ltb, ltb-true, ltb-false, eq-eqb, ne-eqb, eqb-true}
-use Rattle.refusal.specs.Only.{Only, defined-only}
 use Rattle.text.specs.Digits.{digitsOf}
 use Rattle.text.proofs.Values.{value-below, digits-few}
 use Rattle.sums.specs.declared.Sum.{Sum}
-use Rattle.sums.specs.Sums.{limb, centsOf, noCents, sumOf, fits, added, sameSum, numberOf, numberIn}
+use Rattle.sums.specs.Sums.{limb, centsOf, sumOf, fits, added, sameSum, numberOf, numberIn}
 use Rattle.sums.proofs.Laws.{cents-small, cents-large}
 
 -- ---------------------------------------------------------------------------
@@ -73,26 +72,3 @@ text-small k s h = number-small k s (omega (arith, digits-few s))
 -- a text of eighteen bytes is read whole
 pub number-of-all : (s : List ℕ) → length s ≤ 18 → numberIn s ≡ numberOf s
 number-of-all s h = ap numberOf (take-all 18 s h)
-
--- ---------------------------------------------------------------------------
--- Any two answers that a contract allows are equal
-
-pub nothing-only : Only (λ (r : Sum). r ≡ noCents)
-nothing-only = defined-only noCents
-
-module _ (s : Sum) where
-  pub fits-only : (most : ℕ) → Only (λ (r : Bool). r ≡ fits most s)
-  fits-only most = defined-only (fits most s)
-
-  pub add-only : (cents most : ℕ) → Only (λ (r : Sum). r ≡ added most s cents)
-  add-only cents most = defined-only (added most s cents)
-
-  pub is-same-only : (t : Sum) → Only (λ (r : Bool). r ≡ sameSum s t)
-  is-same-only t = defined-only (sameSum s t)
-
-module _ (s : List ℕ) where
-  pub written-only : (most : ℕ) → Only (λ (r : Sum). r ≡ sumOf most (numberOf s))
-  written-only most = defined-only (sumOf most (numberOf s))
-
-  pub number-only : Only (λ (r : ℕ). r ≡ numberIn s)
-  number-only = defined-only (numberIn s)

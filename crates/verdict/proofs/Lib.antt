@@ -1,3 +1,3 @@
 -- The laws of verdicts, and what is promised of them.
 pub mod Verdicts
-pub mod Theorems
+pub mod One

@@ -1,14 +1,12 @@
--- What is promised of a wage line drafted from its fields: drafts joined, what an accepted draft is, a line drafted
--- from its own parts, and one answer. Assumes nothing.
+-- What is promised of a wage line drafted from its fields: drafts joined, what an accepted draft is, and a line
+-- drafted from its own parts. Assumes nothing.
 use mathlib.Core.Path.{_≡_, refl, sym, ap, _∙_}
 use mathlib.Core.Logic.{_↔_}
 use mathlib.Core.List.{List, [], _∷_, _++_}
-use Prim.Native.Nat.{ℕ, suc, _-_, _<_}
+use Prim.Native.Nat.{ℕ, suc, _<_}
 use native.Mathlib.Omega.{arith}
 use lib.ListN.{length, take, drop, getD, replicate, List·getD-map}
 use lib.Seq.{drop-drop}
-use Rattle.refusal.specs.Only.{Only}
-use Rattle.refusal.specs.declared.Answer.{Answer}
 use Rattle.refusal.specs.declared.Answer.the-variants.{Accepted}
 use Rattle.text.specs.Split.{joined}
 use Rattle.wage_places.specs.declared.LineType.{LineType}
@@ -24,7 +22,7 @@ use Rattle.bare_line.specs.Bare.{bareLine}
 use Rattle.bare_line.proofs.Theorems.{bare-line}
 use Rattle.lent_fields.specs.Fields.{fieldsOf}
 use Rattle.lent_fields.proofs.Laws.{fields-joined}
-use Rattle.wage_draft.specs.Draft.{Draft, placed, goingOn, drafted, partsOf, sizesOf, blanked, plainElsewhere, Drafts}
+use Rattle.wage_draft.specs.Draft.{Draft, placed, goingOn, drafted, partsOf, sizesOf, blanked, plainElsewhere}
 use Rattle.wage_draft.proofs.Laws.{drafted-first, going-twice, no-places, later-field, empty-fields, places-rising, drafted-kept, drafted-accepted, drafted-plain, parts-drafted, parts-sized}
 
 -- ---------------------------------------------------------------------------
@@ -139,16 +137,3 @@ module _ (t : LineType) (s : List ℕ) where
   -- one behind the other, with the places' sizes, they are lent as themselves
   pub fields-of-parts : length s ≡ 1002 → fieldsOf (sizesOf t) (joined (partsOf t s)) ≡ partsOf t s
   fields-of-parts h = rw (← (parts-sized t 0 (spots t) (places-rising t) s h)) (fields-joined (partsOf t s))
-
--- ---------------------------------------------------------------------------
--- Any two answers that a contract allows, with what is in the lent slice at exit, are equal
-
-pub draft-only :
-    (day kind : ℕ) (t : LineType) (first last : ℕ) (text sizes line : List ℕ)
-    → Only (λ (x : Draft). Drafts (drafted day kind t (take (last - first) (drop first (spots t))) (fieldsOf sizes text) line) (x .answer) (x .line))
-draft-only day kind t first last text sizes line a b p q = same (p .answers ∙ sym (q .answers)) (p .leaves ∙ sym (q .leaves))
-  where
-    same : a .answer ≡ b .answer → a .line ≡ b .line → a ≡ b
-    same e f =
-        ap (λ (x : Answer). let d : Draft = record { answer = x; line = a .line } in d) e ∙
-        ap (λ (s : List ℕ). let d : Draft = record { answer = b .answer; line = s } in d) f

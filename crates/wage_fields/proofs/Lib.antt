@@ -1,3 +1,4 @@
 -- What the proofs here share, and what is promised of a line's places.
 pub mod Laws
 pub mod Theorems
+pub mod One

@@ -1,4 +1,4 @@
--- What is promised of a line's places: accepted exactly when each is, what a refusal tells, and one answer.
+-- What is promised of a line's places: accepted exactly when each is, and what a refusal tells.
 -- Assumes nothing.
 use mathlib.Core.Path.{_≡_, refl, ap}
 use mathlib.Core.Logic.{_↔_}
@@ -9,10 +9,8 @@ use native.Mathlib.Omega.{arith}
 use lib.Dec.{ltb}
 use lib.ListN.{length, getD}
 use borrow.Author.Tests.{ltb-true}
-use Rattle.refusal.specs.Only.{Only, defined-only}
 use Rattle.refusal.specs.Refusal.{placeOf}
 use Rattle.verdict.specs.Verdict.{verdictByte}
-use Rattle.refusal.specs.declared.Answer.{Answer}
 use Rattle.refusal.specs.declared.Answer.the-variants.{Accepted, Refused}
 use Rattle.refusal.specs.declared.Place.{Place}
 use Rattle.refusal.specs.declared.Refusal.{Refusal}
@@ -165,12 +163,3 @@ module _ (day kind : ℕ) (t : LineType) (s : List ℕ) (r : Refusal) where
         ends = omega arith;
         small = omega arith;
       }
-
--- ---------------------------------------------------------------------------
--- Any two answers that a contract allows are equal
-
-pub judge-place-only : (day kind : ℕ) (t : LineType) (k : ℕ) (s : List ℕ) → Only (λ (r : Answer). r ≡ placeAnswer day kind t (getD (spots t) k noSpot) s)
-judge-place-only day kind t k s = defined-only (placeAnswer day kind t (getD (spots t) k noSpot) s)
-
-pub judge-places-only : (day kind : ℕ) (t : LineType) (s : List ℕ) → Only (λ (r : Answer). r ≡ placesAnswer day kind t s)
-judge-places-only day kind t s = defined-only (placesAnswer day kind t s)

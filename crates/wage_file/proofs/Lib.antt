@@ -3,3 +3,4 @@ pub mod Laws
 pub mod RunLaws
 pub mod Exactly
 pub mod Theorems
+pub mod One

@@ -1,5 +1,5 @@
 -- What is promised of a whole wage file: accepted exactly when its pieces are the lines of a right file, the same answer when it is read in parts
--- of whole lines, the answer of the lines that it is made of, 14 for an empty one, and one answer.
+-- of whole lines, the answer of the lines that it is made of, and 14 for an empty one.
 -- Assumes nothing.
 use mathlib.Core.Path.{_≡_, ap, _∙_}
 use mathlib.Core.Logic.{_↔_}
@@ -7,7 +7,6 @@ use mathlib.Core.Bool.{true}
 use mathlib.Core.List.{List, [], _++_}
 use Prim.Native.Nat.{ℕ, _%_, _<_}
 use lib.ListN.{length, getD}
-use Rattle.refusal.specs.Only.{Only, defined-only}
 use Rattle.text.specs.Split.{joined}
 use Rattle.refusal.specs.declared.Refusal.the-variants.{Unfinished}
 use Rattle.dates.specs.Dates.{isDate}
@@ -15,7 +14,6 @@ use Rattle.sums.specs.Sums.{sumOf}
 use Rattle.wage_line.specs.Pieces.{piecesOf, pieces}
 use Rattle.wage_line.proofs.PieceLaws.{pieces-of-lines}
 use Rattle.condition.specs.declared.Counts.{Counts}
-use Rattle.condition.specs.declared.Ending.{Ending}
 use Rattle.condition.specs.declared.Ending.the-variants.{Accepted, Refused}
 use Rattle.condition.specs.declared.Judge.{Judge}
 use Rattle.condition.specs.Record.{isSound, begun, ended}
@@ -45,13 +43,3 @@ of-lines day ls f = ap (λ (ss : List (List ℕ)). ended (steps (begun day) ss))
 pub empty-file : (day : ℕ) → isDate day ≡ true → fileAnswer day [] ≡ Refused (Unfinished (record { line = 1; field = 0; byte = 0 }))
 unfolding fileAnswer piecesOf begun steps ended isSound sumOf
 empty-file day e = rw e
-
--- ---------------------------------------------------------------------------
--- Any two answers that a contract allows are equal
-
-module _ (s : List ℕ) where
-  pub lines-only : (from : Judge) → Only (λ (r : Judge). r ≡ steps from (pieces s))
-  lines-only from = defined-only (steps from (pieces s))
-
-  pub whole-only : (day : ℕ) → Only (λ (r : Ending). r ≡ fileAnswer day s)
-  whole-only day = defined-only (fileAnswer day s)

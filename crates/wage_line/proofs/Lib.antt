@@ -2,3 +2,4 @@
 pub mod Laws
 pub mod PieceLaws
 pub mod Theorems
+pub mod One

@@ -1,4 +1,4 @@
--- What is promised of a line of the wage file: its type exactly when, what it hands back, and one answer.
+-- What is promised of a line of the wage file: its type exactly when, and what it hands back.
 -- Assumes nothing.
 use mathlib.Core.Path.{_≡_, refl, sym, _∙_}
 use mathlib.Core.Logic.{_↔_}
@@ -9,7 +9,6 @@ use native.Mathlib.Omega.{arith}
 use lib.Dec.{eqb}
 use lib.ListN.{length, take, drop, getD}
 use borrow.Author.Tests.{eq-eqb, eqb-true}
-use Rattle.refusal.specs.Only.{Only, defined-only}
 use Rattle.refusal.specs.Refusal.{none}
 use Rattle.refusal.specs.declared.Refusal.{Refusal}
 use Rattle.refusal.specs.declared.Refusal.the-variants.{Size, Ends}
@@ -19,7 +18,6 @@ use Rattle.wage_places.specs.declared.LineType.the-variants.{Label, Group, Orde
 use Rattle.wage_line.specs.declared.Typed.{Typed}
 use Rattle.wage_line.specs.declared.Typed.the-variants.{Line, Refused}
 use Rattle.wage_places.specs.Places.{spots, spotOf, partOf}
-use Rattle.wage_line.specs.Pieces.{nextPiece}
 use Rattle.wage_line.specs.Line.{endsRight, wrongType, typeFrom, typeText, typeOf, typedOf, placeOf}
 use Rattle.wage_line.proofs.Laws.{last-three, last-two}
 use Rattle.wage_places.proofs.Theorems.{field-size, placeAt, unknown-spot}
@@ -121,18 +119,3 @@ module _ (s : List ℕ) (n : ℕ) where
   -- of an unknown number, nothing
   pub place-unknown : (t : LineType) → typedOf s ≡ Line t → ((k : ℕ) → k < length (spots t) → placeAt t k .field ≡ n → ⊥) → placeOf s n ≡ []
   place-unknown t e f = place-typed t e ∙ rw (unknown-spot t n f)
-
--- ---------------------------------------------------------------------------
--- Any two answers that a contract allows are equal
-
-pub read-type-only : (s : List ℕ) → Only (λ (r : Typed). r ≡ typedOf s)
-read-type-only s = defined-only (typedOf s)
-
-pub place-only : (s : List ℕ) (n : ℕ) → Only (λ (r : List ℕ). r ≡ placeOf s n)
-place-only s n = defined-only (placeOf s n)
-
-pub piece-only : (s : List ℕ) (at : ℕ) → Only (λ (r : List ℕ). r ≡ take 1002 (drop at s))
-piece-only s at = defined-only (take 1002 (drop at s))
-
-pub next-piece-only : (s : List ℕ) (at : ℕ) → Only (λ (r : ℕ). r ≡ nextPiece (length s) at)
-next-piece-only s at = defined-only (nextPiece (length s) at)

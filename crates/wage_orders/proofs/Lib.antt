@@ -1,3 +1,4 @@
 -- What is promised of `wage_orders`, and the laws that its proofs share.
 pub mod Laws
 pub mod Theorems
+pub mod One

@@ -1,5 +1,4 @@
--- What is promised of a group's lent orders: accepted exactly when they are whole, some, not too many and each right,
--- and one answer. Assumes nothing.
+-- What is promised of a group's lent orders: accepted exactly when they are whole, some, not too many and each right. Assumes nothing.
 use mathlib.Core.Path.{_≡_, refl}
 use mathlib.Core.Logic.{_↔_}
 use mathlib.Core.Bool.{Bool, true, false, cond}
@@ -9,7 +8,6 @@ use native.Mathlib.Omega.{arith}
 use lib.Dec.{eqb, leb}
 use lib.ListN.{length, getD}
 use borrow.Author.Tests.{leb-true, eqb-true, eqb-false, le-leb, eq-eqb, ne-eqb}
-use Rattle.refusal.specs.Only.{Only, defined-only}
 use Rattle.refusal.specs.Refusal.{none, firstOf}
 use Rattle.refusal.specs.declared.Answer.{Answer}
 use Rattle.refusal.specs.declared.Answer.the-variants as answer
@@ -112,9 +110,3 @@ module _ (day kind : ℕ) where
 -- so the sum of accepted orders has at most twenty digits
 pub accepted-small : (day kind : ℕ) (s : List ℕ) → groupOrders day kind s ≡ answer.Accepted → amounts (pieces s) < 100000000000000000000
 accepted-small day kind s e = let h = orders-right day kind s .0 e in amounts-small s (h .2) (h .0)
-
--- ---------------------------------------------------------------------------
--- Any two answers that a contract allows are equal
-
-pub judge-only : (day kind : ℕ) (s : List ℕ) → Only (λ (r : Answer). r ≡ groupOrders day kind s)
-judge-only day kind s = defined-only (groupOrders day kind s)

@@ -1,4 +1,4 @@
--- What is promised of the places of a wage line: apart and small, found by their number, their parts, and one answer.
+-- What is promised of the places of a wage line: apart and small, found by their number, and their parts.
 -- Assumes nothing.
 use mathlib.Core.Path.{_≡_, refl, sym}
 use mathlib.Core.Bool.{Bool, true, _&&_}
@@ -8,7 +8,6 @@ use native.Mathlib.Omega.{arith}
 use lib.Dec.{eqb, leb, ltb}
 use lib.ListN.{length, getD}
 use borrow.Author.Tests.{ne-eqb, eqb-true, leb-true, ltb-true}
-use Rattle.refusal.specs.Only.{Only, defined-only}
 use Rattle.classes.proofs.Choices.{both-true}
 use Rattle.wage_places.specs.declared.LineType.{LineType}
 use Rattle.wage_places.specs.declared.LineType.the-variants.{Label, Group, Order, Closing}
@@ -135,21 +134,3 @@ module _ (t : LineType) (s : List ℕ) (whole : length s ≡ 1002) where
   -- so has the part of any field's number
   pub field-size : (n : ℕ) → length (partOf t n s) ≡ spotOf t n .size
   field-size n = let w = field-small t n .within in part-length (spotOf t n) s (omega arith)
-
--- ---------------------------------------------------------------------------
--- Any two answers that a contract allows are equal
-
-pub spot-at-only : (t : LineType) (k : ℕ) → Only (λ (r : Spot). r ≡ getD (spots t) k noSpot)
-spot-at-only t k = defined-only (getD (spots t) k noSpot)
-
-pub count-only : (t : LineType) → Only (λ (r : ℕ). r ≡ length (spots t))
-count-only t = defined-only (length (spots t))
-
-pub find-only : (t : LineType) (n : ℕ) → Only (λ (r : Spot). r ≡ spotOf t n)
-find-only t n = defined-only (spotOf t n)
-
-pub part-only : (p : Spot) (s : List ℕ) → Only (λ (r : List ℕ). r ≡ partAt p s)
-part-only p s = defined-only (partAt p s)
-
-pub part-at-only : (t : LineType) (k : ℕ) (s : List ℕ) → Only (λ (r : List ℕ). r ≡ partAt (getD (spots t) k noSpot) s)
-part-at-only t k s = defined-only (partAt (getD (spots t) k noSpot) s)

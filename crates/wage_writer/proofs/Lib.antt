@@ -2,3 +2,4 @@
 pub mod Laws
 pub mod Refusals
 pub mod Theorems
+pub mod One

@@ -1,4 +1,4 @@
--- What is promised of the writer of a 300 and a 309: one answer and one content of the lent room; 15 exactly when all else is right and the
+-- What is promised of the writer of a 300 and a 309: 15 exactly when all else is right and the
 -- room is under 1,002. Assumes nothing.
 use mathlib.Core.Path.{_≡_}
 use mathlib.Core.Logic.{_↔_}
@@ -6,27 +6,15 @@ use mathlib.Core.Bool.{true, _||_}
 use mathlib.Core.List.{List}
 use Prim.Native.Nat.{ℕ, _<_}
 use lib.Dec.{eqb}
-use lib.ListN.{length}
 use borrow.Author.Tests.{lt-leb}
 use Rattle.refusal.specs.declared.Answer.the-variants.{Accepted}
 use Rattle.dates.specs.Dates.{isDate}
 use Rattle.wage_places.specs.declared.LineType.the-variants.{Label, Order}
 use Rattle.bare_line.specs.Bare.{bareLine}
-use Rattle.line_room.specs.LineRoom.{forRoom, Writes}
+use Rattle.line_room.specs.LineRoom.{forRoom}
 use Rattle.line_room.proofs.Laws.{noRoom, day-before, kind-before, accepted-before, room-before}
-use Rattle.line_room.proofs.Theorems.{OneOutcome, writes-only}
 use Rattle.wage_writer.specs.Writer.{labelDraft, orderDraft, labelAnswer, orderAnswer}
 use Rattle.wage_writer.proofs.Refusals.{draft-no-room}
-
--- ---------------------------------------------------------------------------
--- Any two answers that a contract allows, with what is in the lent room at exit, are equal
-
-module _ (day : ℕ) (out : List ℕ) where
-  pub write-label-only : (fs : List (List ℕ)) → OneOutcome (Writes (labelAnswer day fs (length out)) (labelDraft day fs .line) out)
-  write-label-only fs = writes-only (labelAnswer day fs (length out)) (labelDraft day fs .line) out
-
-  pub write-order-only : (kind : ℕ) (fs : List (List ℕ)) → OneOutcome (Writes (orderAnswer day kind fs (length out)) (orderDraft day kind fs .line) out)
-  write-order-only kind fs = writes-only (orderAnswer day kind fs (length out)) (orderDraft day kind fs .line) out
 
 -- ---------------------------------------------------------------------------
 -- 15 exactly when all else is right and the room is under 1,002

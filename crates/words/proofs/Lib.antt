@@ -1,2 +1,2 @@
 -- What is promised of `words`.
-pub mod Theorems
+pub mod One

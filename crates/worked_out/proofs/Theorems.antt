@@ -1,12 +1,10 @@
--- What is promised of what a 301 works out: a sum of at most twenty digits, and one answer. Assumes nothing.
+-- What is promised of what a 301 works out: a sum of at most twenty digits. Assumes nothing.
 use mathlib.Core.Path.{_≡_}
 use mathlib.Core.List.{List, [], _∷_}
 use Prim.Native.Nat.{ℕ, _*_, _/_, _%_, _≤_, _<_}
 use native.Mathlib.Omega.{arith}
 use lib.ListN.{length, take, length-take}
-use Rattle.refusal.specs.Only.{Only, defined-only}
-use Rattle.sums.specs.declared.Sum.{Sum}
-use Rattle.sums.specs.Sums.{sumOf, numberIn}
+use Rattle.sums.specs.Sums.{numberIn}
 use Rattle.sums.proofs.Theorems.{text-small}
 use Rattle.wage_places.specs.declared.LineType.the-variants.{Order}
 use Rattle.wage_places.specs.Places.{partOf, spots, spotIn}
@@ -30,13 +28,3 @@ amounts-at-most (s ∷ ss) = omega (arith, amount-small s, amounts-at-most ss)
 -- twenty digits write it
 pub amounts-small : (s : List ℕ) → length s / 1002 ≤ 99999 → length s % 1002 ≡ 0 → amounts (pieces s) < 100000000000000000000
 amounts-small s h e = omega (arith, amounts-at-most (pieces s), whole-pieces s e .0)
-
--- ---------------------------------------------------------------------------
--- Any two answers that a contract allows are equal
-
-module _ (s : List ℕ) where
-  pub number-only : Only (λ (r : ℕ). r ≡ length s / 1002)
-  number-only = defined-only (length s / 1002)
-
-  pub total-only : Only (λ (r : Sum). r ≡ sumOf 100 (amounts (pieces s)))
-  total-only = defined-only (sumOf 100 (amounts (pieces s)))

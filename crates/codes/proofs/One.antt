@@ -1,0 +1,7 @@
+-- Any two answers that the contract of a public call allows are equal, and so is what they leave in lent memory. Assumes nothing.
+use mathlib.Core.Path.{sym, _∙_}
+use Rattle.refusal.specs.One.{One}
+use Rattle.codes.proofs as here
+
+pub place-one : One _ here.place.Kinds.ps here.place.Kinds.r here.place.Reads.Post
+place-one κs a z z′ w w′ p q = p ∙ sym q

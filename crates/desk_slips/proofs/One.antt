@@ -1,0 +1,16 @@
+-- Any two answers that the contract of a public call allows are equal, and so is what they leave in lent memory. Assumes nothing.
+use mathlib.Core.Path.{sym, _∙_}
+use Rattle.refusal.specs.One.{One}
+use Rattle.desk_slips.proofs as here
+
+pub slip-read-one : One _ here.lanecockle_slip_read.Kinds.ps here.lanecockle_slip_read.Kinds.r here.lanecockle_slip_read.Reads.Post
+slip-read-one κs a z z′ w w′ p q = p ∙ sym q
+
+pub slip-field-one : One _ here.lanecockle_slip_field.Kinds.ps here.lanecockle_slip_field.Kinds.r here.lanecockle_slip_field.Reads.Post
+slip-field-one κs a z z′ w w′ p q = p ∙ sym q
+
+pub slip-cents-one : One _ here.lanecockle_slip_cents.Kinds.ps here.lanecockle_slip_cents.Kinds.r here.lanecockle_slip_cents.Reads.Post
+slip-cents-one κs a z z′ w w′ p q = p ∙ sym q
+
+pub slip-write-one : One _ here.lanecockle_slip_write.Kinds.ps here.lanecockle_slip_write.Kinds.r here.lanecockle_slip_write.Reads.Post
+slip-write-one κs a z z′ w w′ p q = (p .answers ∙ sym (q .answers), p .leaves ∙ sym (q .leaves))

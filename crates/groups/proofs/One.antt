@@ -1,0 +1,7 @@
+-- Any two answers that the contract of a public call allows are equal, and so is what they leave in lent memory. Assumes nothing.
+use mathlib.Core.Path.{sym, _∙_}
+use Rattle.refusal.specs.One.{One}
+use Rattle.groups.proofs as here
+
+pub obeys-at-one : One _ here.obeys_at.Kinds.ps here.obeys_at.Kinds.r here.obeys_at.Reads.Post
+obeys-at-one κs a z z′ w w′ p q = p ∙ sym q

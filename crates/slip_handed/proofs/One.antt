@@ -1,0 +1,13 @@
+-- Any two answers that the contract of a public call allows are equal, and so is what they leave in lent memory. Assumes nothing.
+use mathlib.Core.Path.{sym, _∙_}
+use Rattle.refusal.specs.One.{One, OneSeen}
+use Rattle.slip_handed.proofs as here
+
+pub part-one : One _ here.part.Kinds.ps here.part.Kinds.r here.part.Reads.Post
+part-one κs a z z′ w w′ p q = p ∙ sym q
+
+pub field-one : OneSeen _ here.field.Kinds.ps here.field.Kinds.r (λ κs z. z .now) here.field.Reads.Post
+field-one κs a z z′ w w′ p q = p ∙ sym q
+
+pub cents-one : One _ here.cents.Kinds.ps here.cents.Kinds.r here.cents.Reads.Post
+cents-one κs a z z′ w w′ p q = p ∙ sym q
