@@ -3,7 +3,7 @@
 use mathlib.Core.Path.{_≡_, refl, sym}
 use mathlib.Core.Logic.{_↔_}
 use mathlib.Core.Bool.{Bool, true, false, _&&_}
-use mathlib.Core.List.{List}
+use mathlib.Core.List.{List, _∷_}
 use Prim.Native.Nat.{ℕ}
 use native.Mathlib.Omega.{arith}
 use lib.Dec.{eqb}
@@ -12,10 +12,11 @@ use borrow.Author.Tests.{eq-eqb}
 use Rattle.verdict.specs.Verdict.{onlyIf, andThen, Within}
 use Rattle.verdict.proofs.Verdicts.{passed, met, both-pass, pass-both, test-holds, then-within, only-within}
 use Rattle.text.specs.Bytes.{allOf, bytesVerdict}
+use Rattle.text.specs.Digits.{digitsOf, valueFrom, valueOf}
 use Rattle.classes.specs.declared.Class.the-variants.{Digits, Account}
 use Rattle.classes.proofs.Choices.{both-true, and-second}
 use Rattle.text.proofs.Laws.{all-passes, passes-all, bytes-within}
-use Rattle.account.specs.Account.{ibanFormed, ibanPasses, oibPasses}
+use Rattle.account.specs.Account.{ibanFormed, checkDigits, inRange, ibanPasses, oibPasses}
 use Rattle.account.specs.Answers.{isIban, ibanCheckVerdict, ibanVerdict, oibVerdict}
 use Rattle.account.proofs.Laws.{formed-length, formed-permitted}
 
@@ -49,6 +50,27 @@ pub oib-accepted-exactly : (s : List ℕ) → (oibVerdict s ≡ 0) ↔ ((allOf D
 oib-accepted-exactly s =
     both-exactly _ _ (allOf Digits s) _ (passes-all Digits s, all-passes Digits s)
     (both-exactly _ _ (eqb (length s) 11) (oibPasses s) (test-exactly (eqb (length s) 11) 4 refl) (test-exactly (oibPasses s) 6 refl))
+
+-- ---------------------------------------------------------------------------
+-- "the two check digits lie in 02 to 98"
+
+-- a text whose check digits lie elsewhere is not accepted
+range-asked : (s : List ℕ) → inRange (valueOf (checkDigits s)) ≡ false → ibanVerdict s ≡ 0 → ⊥
+unfolding ibanPasses
+range-asked s e h =
+    let p = both-true (ibanFormed s) (ibanPasses s) (iban-field-exactly s .0 h) .1 in
+    let r = both-true (inRange (valueOf (checkDigits s))) _ p .0 in
+    let z : _≡_ {A = ℕ} 0 1 = cc in
+    omega arith
+
+-- `HR`, two check digits and what follows
+abbrev pub withDigits : ℕ → ℕ → List ℕ → List ℕ
+withDigits a b s = 72 ∷ (82 ∷ (a ∷ (b ∷ s)))
+
+-- no IBAN with check digits 00, 01 or 99 is accepted; `0`, `1` and `9` are 48, 49 and 57
+pub no-iban-of-00-01-99 : (s : List ℕ) → (ibanVerdict (withDigits 48 48 s) ≡ 0 → ⊥) × (ibanVerdict (withDigits 48 49 s) ≡ 0 → ⊥) × (ibanVerdict (withDigits 57 57 s) ≡ 0 → ⊥)
+unfolding digitsOf valueFrom
+no-iban-of-00-01-99 s = (range-asked (withDigits 48 48 s) refl, range-asked (withDigits 48 49 s) refl, range-asked (withDigits 57 57 s) refl)
 
 -- ---------------------------------------------------------------------------
 -- A 3's byte lies within the text

@@ -1,4 +1,4 @@
--- From how the code reads digits (specs/Run.antt) to what a check digit is (specs/CheckDigit.antt).
+-- From how the code reads digits (specs/Mirror.antt) to what a check digit is (specs/CheckDigit.antt).
 -- Assumes nothing.
 use mathlib.Core.Path.{_≡_, refl, sym, ap, _∙_}
 use mathlib.Core.Bool.{Bool, true, false, cond}
@@ -18,7 +18,7 @@ use Rattle.check_digits.specs.declared.Rule.{Rule}
 use Rattle.check_digits.specs.declared.Rule.the-variants.{Ini, Mod1110}
 use Rattle.check_digits.specs.declared.Run.{Run}
 use Rattle.check_digits.specs.CheckDigit.{weighted, carry, carriedOver, checkDigit, digitFor, tenForZero}
-use Rattle.check_digits.specs.Run.{Small, startOf, stepOf, readOf, runOf, digitOf}
+use Rattle.check_digits.specs.Mirror.{Small, startOf, stepOf, readOf, runOf, digitOf}
 
 -- ---------------------------------------------------------------------------
 -- Small remainders

@@ -1,4 +1,4 @@
 -- The definitions of the crate `check_digits`.
 pub mod CheckDigit
 pub mod Answers
-pub mod Run
+pub mod Mirror

@@ -7,7 +7,7 @@ ghost use mathlib.Core.Path.{_≡_};
 ghost use Prim.Native.Nat.{_<_, _+_, _%_};
 ghost use Rattle.text.specs.Digits.{digitsOf};
 ghost use Rattle.check_digits.specs.CheckDigit.{carry, digitFor, checkDigit, passes};
-ghost use Rattle.check_digits.specs.Run.{Small, startOf, stepOf, readOf, digitOf};
+ghost use Rattle.check_digits.specs.Mirror.{Small, startOf, stepOf, readOf, digitOf};
 ghost use Rattle.check_digits.specs.Answers.{sized, checkAnswer, makeAnswer};
 use classes::Class;
 use refusal::Answer;

@@ -28,8 +28,7 @@ use Rattle.fillings.specs.declared.Listed.{Listed}
 use Rattle.fillings.specs.declared.Listed.the-variants.{Count, Refused}
 use Rattle.fillings.specs.Fillings.{among, fillings}
 use Rattle.fillings.specs.Answers.{roomAnswer, leftBy, listing}
-use Rattle.fillings.specs.ByMark.{between, block}
-use Rattle.fillings.specs.Accepts.{accepts}
+use Rattle.fillings.specs.Mirror.{between, block, accepts}
 
 -- ---------------------------------------------------------------------------
 -- The accepted numbers of a range

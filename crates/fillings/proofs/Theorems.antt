@@ -14,7 +14,7 @@ use lib.ListN.{length, getD, length-append}
 use borrow.Author.Tests.{eqb-true, eqb-false, ltb-true, ltb-false}
 use Rattle.text.specs.Bytes.{marks}
 use Rattle.filling.specs.Filling.{fill}
-use Rattle.fillings.specs.ByMark.{between}
+use Rattle.fillings.specs.Mirror.{between}
 use Rattle.fillings.specs.Fillings.{among, fillings}
 use Rattle.fillings.specs.Listing.{Member, Ascending, acceptedBelow}
 use Rattle.fillings.proofs.Laws.{among-append, among-ext, block-dry}

@@ -1,6 +1,5 @@
 -- The definitions of the crate `fillings`.
 pub mod Fillings
-pub mod ByMark
-pub mod Accepts
+pub mod Mirror
 pub mod Answers
 pub mod Listing

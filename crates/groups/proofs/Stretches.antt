@@ -20,11 +20,11 @@ use Rattle.check_digits.specs.CheckDigit.{checkDigit, passes}
 use Rattle.models.specs.declared.Group.{Group}
 use Rattle.models.specs.declared.Model.{Model}
 use Rattle.parts.specs.Parts.{partsOf, formed}
-use Rattle.parts.specs.Ends.{endsFrom, endsOf, endOf}
+use Rattle.parts.specs.Mirror.{endsFrom, endsOf, endOf}
 use Rattle.parts.proofs.Pieces.{bound, spanOf, Solid, bound-parts, formed-solid}
 use Rattle.parts.proofs.Ends.{bound-some, end-gone, end-next, end-some, end-there, parts-span, solid-take}
 use Rattle.groups.specs.Groups.{present, groupRight, groupsRight, partsRight}
-use Rattle.groups.specs.Stretches.{startOf, upTo, stretchRight, groupAt, groupsAt, obeysAt}
+use Rattle.groups.specs.Mirror.{startOf, upTo, stretchRight, groupAt, groupsAt, obeysAt}
 
 -- ---------------------------------------------------------------------------
 -- Parts of the text are stretches of it

@@ -1,3 +1,3 @@
 -- The definitions of the crate `groups`.
 pub mod Groups
-pub mod Stretches
+pub mod Mirror

@@ -2,7 +2,7 @@
 //
 // Document 01, "Reference models". Whoever asks has read the parts and knows where they end (crate `parts`).
 ghost use mathlib.Core.Path.{_≡_};
-ghost use Rattle.groups.specs.Stretches.{startOf, stretchRight, groupAt, obeysAt};
+ghost use Rattle.groups.specs.Mirror.{startOf, stretchRight, groupAt, obeysAt};
 use check_digits::Rule;
 use models::Group;
 use models::Model;

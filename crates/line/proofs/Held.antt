@@ -9,7 +9,7 @@ use lib.Dec.{eqb, ltb}
 use lib.ListN.{length, take, set, length-append, length-take, length-set}
 use lib.Seq.{take-all, take-suc-set, take-append-le, take-nil}
 use borrow.Author.Tests.{ltb-true, ltb-false}
-use Rattle.line.specs.Kept.{Kept, took, feed}
+use Rattle.line.specs.Mirror.{Kept, took, feed}
 use Rattle.line.specs.Line.{before, after, has, lineOf, headOf, tailOf}
 use Rattle.classes.proofs.Choices.{taken, left}
 use Rattle.line.proofs.Laws.{took-feed, took-behind, took-space, took-ahead, feed-ended}

@@ -9,8 +9,7 @@ use lib.Dec.{eqb}
 use lib.ListN.{length, drop, getD}
 use lib.Seq.{drop-cons, drop-length}
 use Rattle.classes.proofs.Choices.{taken, left, entered}
-use Rattle.line.specs.Kept.{Kept, keptOf, took, feed}
-use Rattle.line.specs.Sides.{tookTail, tookHead}
+use Rattle.line.specs.Mirror.{Kept, keptOf, took, feed, tookTail, tookHead}
 
 -- ---------------------------------------------------------------------------
 -- What one byte does, by the tests that lead there

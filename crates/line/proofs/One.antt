@@ -7,4 +7,4 @@ pub fresh-one : One _ here.fresh.Kinds.ps here.fresh.Kinds.r here.fresh.Reads.Po
 fresh-one κs a z z′ w w′ p q = p ∙ sym q
 
 pub fed-one : One _ here.fed.Kinds.ps here.fed.Kinds.r here.fed.Reads.Post
-fed-one κs a z z′ w w′ p q = ((p .0 .0 ∙ sym (q .0 .0), p .0 .1 ∙ sym (q .0 .1)), p .1 ∙ sym (q .1))
+fed-one κs a z z′ w w′ p q = ((p .0 ∙ sym (q .0), p .1 .0 ∙ sym (q .1 .0)), p .1 .1 ∙ sym (q .1 .1))

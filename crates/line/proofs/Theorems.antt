@@ -4,7 +4,7 @@ use mathlib.Core.List.{List, [], _∷_, _++_}
 use Prim.Native.Nat.{ℕ, _≤_}
 use lib.ListN.{length, take}
 use Rattle.line.specs.declared.Seen.{Seen}
-use Rattle.line.specs.Kept.{Kept, starting, keptOf, took, feed}
+use Rattle.line.specs.Mirror.{Kept, starting, keptOf, took, feed}
 use Rattle.line.specs.Line.{has, lineOf, headOf, tailOf}
 use Rattle.line.proofs.Held.{holds-nothing, rest-ahead}
 

@@ -1,4 +1,3 @@
 -- The definitions of the crate `line`.
 pub mod Line
-pub mod Kept
-pub mod Sides
+pub mod Mirror

@@ -1,8 +1,5 @@
 -- Document 01, "Wet slips": the listing program reads one line, and its first space divides it.
-use Prim.Native.Nat.{ℕ}
-use mathlib.Core.Bool.{Bool, true, false, cond}
-use mathlib.Core.List.{List, [], _∷_}
-use lib.Dec.{eqb}
+use Rattle.refusal.specs.Basics.{ℕ, Bool, true, false, cond, List, [], _∷_, eqb}
 
 -- what stands before the first byte c; all of it where there is none
 unfoldable pub before : ℕ → List ℕ → List ℕ

@@ -5,8 +5,7 @@
 ghost use mathlib.Core.Path.{_≡_};
 ghost use mathlib.Core.List.{List};
 ghost use Prim.Native.Nat.{ℕ};
-ghost use Rattle.line.specs.Kept.{starting, took, feed, keptOf};
-ghost use Rattle.line.specs.Sides.{tookTail, tookHead};
+ghost use Rattle.line.specs.Mirror.{starting, took, feed, keptOf, tookTail, tookHead};
 
 // What was seen so far: how many bytes are kept of each side, whether the space came, and whether the line ended.
 pub struct Seen {

@@ -1,4 +1,4 @@
--- The ends of parts unpacked (specs/Ends.antt): where each part ends, and how many there are.
+-- The ends of parts unpacked (specs/Mirror.antt): where each part ends, and how many there are.
 -- Assumes nothing.
 use mathlib.Core.Path.{_≡_, refl, sym, ap, _∙_}
 use mathlib.Core.Bool.{Bool, true, false, not, _&&_, and-true, and-false}
@@ -10,7 +10,7 @@ use lib.Dec.{eqb, leb, ltb, eqb·suc-zero, leb·zero}
 use lib.ListN.{length, take, length-append, length-take}
 use borrow.Author.Tests.{ne-eqb, le-leb, lt-leb, ltb-true, ltb-false, leb-true, leb-false}
 use Rattle.parts.specs.Parts.{partsOf}
-use Rattle.parts.specs.Ends.{endsFrom, endOf, countFits}
+use Rattle.parts.specs.Mirror.{endsFrom, endOf, countFits}
 use Rattle.parts.proofs.Pieces.{bound, spanOf, Solid, short-span}
 
 -- ---------------------------------------------------------------------------

@@ -1,4 +1,4 @@
--- What the readers find (specs/Ends.antt), by whether the text is formed.
+-- What the readers find (specs/Mirror.antt), by whether the text is formed.
 -- Assumes nothing.
 use mathlib.Core.Path.{_≡_, refl}
 use mathlib.Core.Bool.{Bool, true, false, cond, _&&_, and-true, and-false}
@@ -12,7 +12,7 @@ use Rattle.text.specs.Split.{split}
 use Rattle.text.specs.declared.Found.the-variants.{At, Nothing}
 use Rattle.models.specs.declared.Model.{Model}
 use Rattle.parts.specs.Parts.{partsOf, partsFit, formed}
-use Rattle.parts.specs.Ends.{endsFrom, endsOf, partRead, countFits, partsFound}
+use Rattle.parts.specs.Mirror.{endsFrom, endsOf, partRead, countFits, partsFound}
 use Rattle.parts.proofs.Pieces.{Bytes, first-part, fit-solid, formed-short}
 use Rattle.parts.proofs.Ends.{parts-span, count-right, ends-some}
 

@@ -1,4 +1,4 @@
--- How the readers go through a reference (specs/Ends.antt): their turns, the room for the ends of the parts, and that what they read is where
+-- How the readers go through a reference (specs/Mirror.antt): their turns, the room for the ends of the parts, and that what they read is where
 -- the parts of a formed text end.
 -- Assumes nothing.
 use mathlib.Core.Path.{_≡_, sym, _∙_}
@@ -19,7 +19,7 @@ use Rattle.text.specs.Split.{split}
 use Rattle.classes.proofs.Laws.{digit-bounds}
 use Rattle.text.proofs.Laws.{to-the-end}
 use Rattle.parts.specs.Parts.{lengthFits, partsFit}
-use Rattle.parts.specs.Ends.{endsFrom, partRead, digitRead}
+use Rattle.parts.specs.Mirror.{endsFrom, partRead, digitRead}
 use Rattle.parts.proofs.Pieces.{first-part, spanOf, short-span}
 
 -- ---------------------------------------------------------------------------

@@ -16,7 +16,7 @@ use Rattle.text.specs.Split.{longer, split}
 use Rattle.classes.proofs.Laws.{digit-bounds}
 use Rattle.models.specs.declared.Model.{Model}
 use Rattle.parts.specs.Parts.{partsOf, partsFit, formed}
-use Rattle.parts.specs.Ends.{endsFrom, partsFound}
+use Rattle.parts.specs.Mirror.{endsFrom, partsFound}
 
 -- ---------------------------------------------------------------------------
 -- The shape

@@ -1,3 +1,3 @@
 -- The definitions of the crate `parts`.
-pub mod Ends
+pub mod Mirror
 pub mod Parts

@@ -7,7 +7,7 @@ ghost use mathlib.Core.Path.{_≡_};
 ghost use Prim.Native.Nat.{_≤_, _<_, _+_};
 ghost use lib.ListN.{length};
 ghost use Rattle.text.specs.Split.{split};
-ghost use Rattle.parts.specs.Ends.{partRead, digitRead, endOf, countFits, partsFound};
+ghost use Rattle.parts.specs.Mirror.{partRead, digitRead, endOf, countFits, partsFound};
 use models::Model;
 use text::Found;
 

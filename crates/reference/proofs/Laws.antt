@@ -18,11 +18,11 @@ use Rattle.text.proofs.Laws.{all-passes}
 use Rattle.models.specs.declared.Group.{Group}
 use Rattle.models.specs.declared.Model.{Model}
 use Rattle.parts.specs.Parts.{partsOf, formed}
-use Rattle.parts.specs.Ends.{partsFound}
+use Rattle.parts.specs.Mirror.{partsFound}
 use Rattle.parts.proofs.Pieces.{formed-bytes}
 use Rattle.parts.proofs.Laws.{found-formed}
 use Rattle.groups.specs.Groups.{groupRight, groupsRight, partsRight}
-use Rattle.groups.specs.Stretches.{obeysAt}
+use Rattle.groups.specs.Mirror.{obeysAt}
 use Rattle.groups.proofs.Stretches.{obeys-at}
 use Rattle.reference.specs.Answers.{obeys, textVerdict}
 

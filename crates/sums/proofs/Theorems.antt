@@ -56,6 +56,14 @@ sums-told-apart most m n h = (there, λ e. eq-eqb (centsOf (sumOf most m)) (cent
         go true f p = sym (cents-small most m (ltb-true m (most * limb) f)) ∙ p ∙ cents-small most n h
         go false f p = omega (arith, cents-large most m (ltb-false m (most * limb) f), cents-small most n h)
 
+-- sums of twenty digits that agree in their low 64 bits are told apart: 2^64 is 18446744073709551616
+pub not-by-64-bits : (n : ℕ) → n < 10000000000000000000 → sameSum (sumOf 100 (n + 18446744073709551616)) (sumOf 100 n) ≡ false
+not-by-64-bits n h = go (sameSum (sumOf 100 (n + 18446744073709551616)) (sumOf 100 n)) refl
+  where
+    go : (t : Bool) → sameSum (sumOf 100 (n + 18446744073709551616)) (sumOf 100 n) ≡ t → t ≡ false
+    go true e = let g = sums-told-apart 100 (n + 18446744073709551616) n (omega arith) .0 e in absurd (omega arith)
+    go false e = refl
+
 -- ---------------------------------------------------------------------------
 -- Numbers read from digits
 

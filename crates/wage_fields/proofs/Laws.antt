@@ -1,15 +1,15 @@
 -- Laws of a line's places: the byte that a verdict tells, answers joined, the places from one up to another, and the first that is refused.
 -- Assumes nothing.
-use mathlib.Core.Path.{_≡_, refl, ap, _∙_}
+use mathlib.Core.Path.{_≡_, refl, sym, ap, _∙_}
 use mathlib.Core.Bool.{Bool, true, false, cond}
 use mathlib.Core.List.{List, [], _∷_}
 use Prim.Native.Nat.{ℕ, zero, suc, _+_, _-_, _≤_, _<_, _^_}
 use native.Mathlib.Numerals.{add-one}
 use native.Mathlib.Omega.{arith}
-use lib.Dec.{eqb, ltb}
+use lib.Dec.{eqb, leb, ltb}
 use lib.ListN.{length, drop, getD, length-take, List·getD-eq-default}
-use borrow.Author.Tests.{ltb-true, ltb-false, eqb-true, ne-eqb}
-use Rattle.refusal.specs.Refusal.{none, placeOf, neededOf, refusalOf, firstOf}
+use borrow.Author.Tests.{leb-true, ltb-true, ltb-false, eqb-true, ne-eqb}
+use Rattle.refusal.specs.Refusal.{none, numberOf, placeOf, neededOf, refusalOf, answerNumber, firstOf}
 use Rattle.verdict.specs.Verdict.{verdictByte, verdictNumber, answerOf, answerAt, Within}
 use Rattle.refusal.specs.declared.Answer.{Answer}
 use Rattle.refusal.specs.declared.Answer.the-variants.{Accepted, Refused}
@@ -31,7 +31,7 @@ use Rattle.wage_fields.specs.Rules.{ruleVerdict, placeVerdict, placeAnsw
 -- The byte that a verdict tells lies within its place
 
 -- a rule tells a byte of the bytes that it was given
-rule-within : (day kind : ℕ) (t : LineType) (n : ℕ) (f s : List ℕ) → Within (length f) (ruleVerdict day kind t n f s)
+pub rule-within : (day kind : ℕ) (t : LineType) (n : ℕ) (f s : List ℕ) → Within (length f) (ruleVerdict day kind t n f s)
 rule-within day kind Label n f s = label-within day n f s
 rule-within day kind Group n f s = group-within day n f
 rule-within day kind Order n f s = order-within kind n f s
@@ -94,6 +94,27 @@ told-place v field byte r e = go (eqb v 0) e
     go : (b : Bool) → cond b Accepted (Refused (refusalOf (verdictNumber v) at 0)) ≡ Refused r → Tells r
     go true f = let z : _≡_ {A = ℕ} 0 1 = cc in absurd (omega arith)
     go false f = let z : refusalOf (verdictNumber v) at 0 ≡ r = cc in rw (← z) (every (verdictNumber v))
+
+-- the byte that a refusal tells: of a 3 one of the n bytes that were judged, of any other the first of them
+pub told-byte :
+    (n v field start : ℕ) (r : Refusal) → Within n v → 0 < n → answerAt field start v ≡ Refused r →
+    (numberOf r ≡ 3 → (start ≤ placeOf r .byte) × (placeOf r .byte < start + n)) × ((numberOf r ≡ 3 → ⊥) → placeOf r .byte ≡ start)
+told-byte n v field start r w some e = go (leb 32 v) refl
+  where
+    byte : placeOf r .byte ≡ start + verdictByte v
+    byte = ap (λ (x : Place). x .byte) (told-place v field (start + verdictByte v) r e .0)
+
+    go :
+        (t : Bool) → leb 32 v ≡ t →
+        (numberOf r ≡ 3 → (start ≤ placeOf r .byte) × (placeOf r .byte < start + n)) × ((numberOf r ≡ 3 → ⊥) → placeOf r .byte ≡ start)
+    go true f =
+        let h : 32 ≤ v = leb-true 32 v f in
+        let b = byte in
+        let d : verdictByte v ≡ v - 32 = rw f in
+        let z : eqb v 0 ≡ false = ne-eqb v 0 (λ q. omega arith) in
+        let three : 3 ≡ numberOf r = rw (z, f) at (ap answerNumber e) in
+        ((λ q. (omega arith, omega arith)), (λ no. absurd (no (sym three))))
+    go false f = let b = byte in let d : verdictByte v ≡ 0 = rw f in ((λ q. (omega arith, omega arith)), (λ no. omega arith))
 
 -- ---------------------------------------------------------------------------
 -- The places from one on, up to another

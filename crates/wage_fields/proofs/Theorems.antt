@@ -2,14 +2,14 @@
 -- Assumes nothing.
 use mathlib.Core.Path.{_≡_, refl, ap}
 use mathlib.Core.Logic.{_↔_}
-use mathlib.Core.Bool.{true}
+use mathlib.Core.Bool.{true, _&&_}
 use mathlib.Core.List.{List, [], _∷_}
 use Prim.Native.Nat.{ℕ, zero, suc, _+_, _≤_, _<_}
 use native.Mathlib.Omega.{arith}
 use lib.Dec.{ltb}
 use lib.ListN.{length, getD}
 use borrow.Author.Tests.{ltb-true}
-use Rattle.refusal.specs.Refusal.{placeOf}
+use Rattle.refusal.specs.Refusal.{numberOf, placeOf}
 use Rattle.verdict.specs.Verdict.{verdictByte}
 use Rattle.refusal.specs.declared.Answer.the-variants.{Accepted, Refused}
 use Rattle.refusal.specs.declared.Place.{Place}
@@ -17,15 +17,16 @@ use Rattle.refusal.specs.declared.Refusal.{Refusal}
 use Rattle.verdict.proofs.Verdicts.{answer-accepted, accepted-answer, first-both}
 use Rattle.text.specs.Bytes.{bytesVerdict}
 use Rattle.classes.specs.declared.Class.the-variants.{Digits}
+use Rattle.classes.proofs.Choices.{both-true}
 use Rattle.wage_places.specs.declared.LineType.{LineType}
 use Rattle.wage_places.specs.declared.LineType.the-variants.{Label, Group, Order, Closing}
 use Rattle.wage_places.specs.declared.Spot.{Spot}
 use Rattle.wage_places.specs.Places.{spots, noSpot, partAt, partOf}
 use Rattle.wage_places.proofs.Laws.{each, each-at}
-use Rattle.wage_places.proofs.Theorems.{placeAt, found-spot, sizes-small}
+use Rattle.wage_places.proofs.Theorems.{placeAt, found-spot, place-size}
 use Rattle.wage_contents.specs.Contents.{amongVerdict}
 use Rattle.wage_fields.specs.Rules.{ruleVerdict, placeVerdict, placeAnswer, placesFrom, placesAnswer}
-use Rattle.wage_fields.proofs.Laws.{size-right, accept-both, told-place, place-within, Stops, stops}
+use Rattle.wage_fields.proofs.Laws.{size-right, accept-both, rule-within, told-place, told-byte, Stops, stops}
 
 -- ---------------------------------------------------------------------------
 -- Accepted exactly when
@@ -114,19 +115,18 @@ module _ (day k k′ : ℕ) (s : List ℕ) where
 -- ---------------------------------------------------------------------------
 -- What a refusal tells
 
--- no line, a field of the type's places, and a byte of that place or the one behind it
+-- no line, a field of the type's places; a 3 a byte of that place, any other refusal its first byte
 pub record Told (t : LineType) (r : Refusal) : Type 0 where
   pub no-line : placeOf r .line ≡ 0
   pub order : ℕ
   pub known : order < length (spots t)
   pub numbered : placeOf r .field ≡ placeAt t order .field
   pub some-field : 0 < placeOf r .field
-  pub begins : placeAt t order .start ≤ placeOf r .byte
-  pub ends : placeOf r .byte ≤ placeAt t order .start + placeAt t order .size
-  pub small : placeOf r .byte ≤ 562
+  pub inside : numberOf r ≡ 3 → (placeAt t order .start ≤ placeOf r .byte) × (placeOf r .byte < placeAt t order .start + placeAt t order .size)
+  pub first : (numberOf r ≡ 3 → ⊥) → placeOf r .byte ≡ placeAt t order .start
 
--- every place has a number: a test, which each table passes
-all-numbered : (t : LineType) → each (λ p. ltb 0 (p .field)) (spots t) ≡ true
+-- every place has a number and a byte: a test, which each table passes
+all-numbered : (t : LineType) → each (λ p. ltb 0 (p .field) && ltb 0 (p .size)) (spots t) ≡ true
 unfolding spots
 all-numbered Label = refl
 all-numbered Group = refl
@@ -139,27 +139,26 @@ module _ (day kind : ℕ) (t : LineType) (s : List ℕ) (r : Refusal) where
   unfolding placesAnswer
   first-refused e = stops day kind t s r (spots t) e
 
-  -- a refusal of a line of 1,002 bytes tells no line, a field that has a place, and a byte there
+  -- a refusal of a line of 1,002 bytes tells no line, a field that has a place, and a byte there: of a 3 the wrong one, else the first
   pub refusal-no-line : length s ≡ 1002 → placesAnswer day kind t s ≡ Refused r → Told t r
-  unfolding placeAnswer
+  unfolding placeAnswer placeVerdict
   refusal-no-line whole e =
       let w = first-refused e in
-      let p = placeAt t (w .order) in
+      let k = w .order in
+      let p = placeAt t k in
       let v = placeVerdict day kind t p s in
       let q = told-place v (p .field) (p .start + verdictByte v) r (rw whole at (w .here)) .0 in
-      let l : placeOf r .line ≡ 0 = ap (λ (x : Place). x .line) q in
       let f : placeOf r .field ≡ p .field = ap (λ (x : Place). x .field) q in
-      let b : placeOf r .byte ≡ p .start + verdictByte v = ap (λ (x : Place). x .byte) q in
-      let h : verdictByte v ≤ p .size = place-within day kind t p s in
-      let v = sizes-small t (w .order) (w .known) .within in
-      let g : 0 < p .field = ltb-true 0 (p .field) (each-at (λ x. ltb 0 (x .field)) (spots t) (all-numbered t) (w .order) (w .known)) in
+      let g = both-true _ _ (each-at (λ x. ltb 0 (x .field) && ltb 0 (x .size)) (spots t) (all-numbered t) k (w .known)) in
+      let n : 0 < p .field = ltb-true 0 (p .field) (g .0) in
+      let size = place-size t s whole k (w .known) in
+      let b = told-byte (length (partAt p s)) v (p .field) (p .start) r (rule-within day kind t (p .field) (partAt p s) s) (rw size (ltb-true 0 (p .size) (g .1))) (rw whole at (w .here)) in
       record {
-        no-line = l;
-        order = w .order;
+        no-line = ap (λ (x : Place). x .line) q;
+        order = k;
         known = w .known;
         numbered = f;
         some-field = omega arith;
-        begins = omega arith;
-        ends = omega arith;
-        small = omega arith;
+        inside = rw size at (b .0);
+        first = b .1;
       }

@@ -17,7 +17,7 @@ use Rattle.classes.proofs.Laws.{digit-between}
 use Rattle.classes.proofs.Choices.{entered}
 use Rattle.account.specs.Answers.{isIban}
 use Rattle.models.specs.declared.Model.{Model}
-use Rattle.parts.specs.Ends.{partsFound}
+use Rattle.parts.specs.Mirror.{partsFound}
 use Rattle.parts.proofs.Laws.{found-none}
 use Rattle.parts.proofs.Shape.{shapeOf, shapeByte, same-shape-found}
 use Rattle.reference.specs.Answers.{obeys}
@@ -25,7 +25,7 @@ use Rattle.reference.proofs.Laws.{found-obeys}
 use Rattle.filling.specs.Filling.{fill}
 use Rattle.filling.proofs.Theorems.{fill-length}
 use Rattle.fillings.specs.declared.Aim.{Aim}
-use Rattle.fillings.specs.Accepts.{accepts}
+use Rattle.fillings.specs.Mirror.{accepts}
 use Rattle.fillings.specs.Fillings.{fillings}
 use Rattle.fillings.specs.Answers.{leftBy}
 use Rattle.fillings.specs.declared.Listed.{Listed}

@@ -6,7 +6,7 @@ ghost use Prim.Native.Nat.{_≤_};
 ghost use lib.ListN.{length};
 ghost use Rattle.text.specs.Bytes.{marks};
 ghost use Rattle.account.specs.Answers.{isIban};
-ghost use Rattle.parts.specs.Ends.{partsFound};
+ghost use Rattle.parts.specs.Mirror.{partsFound};
 ghost use Rattle.reference.specs.Answers.{obeys};
 ghost use Rattle.filling.specs.Filling.{fill};
 ghost use Rattle.fillings.specs.Fillings.{fillings};

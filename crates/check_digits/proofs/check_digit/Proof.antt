@@ -4,7 +4,7 @@ use Prim.Native.Nat.{_≤_, _-_}
 use mathlib.Core.Path.{_≡_, refl, sym, ap, _∙_}
 use native.Mathlib.Omega.{arith}
 use lib.ListN.{length, drop, getD}
-use Rattle.check_digits.specs.Run.{Small, startOf, runOf, digitOf}
+use Rattle.check_digits.specs.Mirror.{Small, startOf, runOf, digitOf}
 use Rattle.check_digits.proofs.Laws.{start-small, read-small, run-on, run-ends, read-check-digit}
 use Rattle.check_digits.proofs.check_digit.Statement.{statement}
 use Rattle.check_digits.proofs.check_digit.Tie as tie

@@ -11,7 +11,7 @@ use borrow.Fn.PlainCycle.{Measures, is, falls, and}
 use Rattle.text.specs.Stands.{Stands}
 use Rattle.text.proofs.Stands.{stands-length}
 use Rattle.text.proofs.first_bad.Reads as first-bad-reads
-use Rattle.fillings.specs.Accepts.{accepts}
+use Rattle.fillings.specs.Mirror.{accepts}
 use Rattle.fillings.proofs.Laws.{first-mark, no-mark, block-dry, number-small, place-small, Open, digitsBelow, first-before, one-fewer, digits-none, digits-more, digits-all, digits-fit, digits-place}
 use Rattle.fillings.proofs.list.Reads as list
 use Rattle.fillings.proofs.list.Kinds as list-kinds

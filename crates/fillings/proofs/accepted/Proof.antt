@@ -2,7 +2,7 @@
 use borrow.Author.Tests.{not-true, not-false}
 use borrow.Author.Needs.{needs}
 use Rattle.classes.proofs.Choices.{left, entered, and-first, and-second}
-use Rattle.fillings.specs.Accepts.{accepts}
+use Rattle.fillings.specs.Mirror.{accepts}
 use Rattle.fillings.proofs.accepted.Statement.{statement}
 use Rattle.fillings.proofs.accepted.Tie as tie
 

@@ -9,7 +9,7 @@ use borrow.Author.Needs.{needs}
 use borrow.Author.Tests.{not-true, lt-leb, le-leb}
 use Rattle.text.specs.Bytes.{marks}
 use Rattle.classes.proofs.Choices.{left, entered}
-use Rattle.fillings.specs.Accepts.{accepts}
+use Rattle.fillings.specs.Mirror.{accepts}
 use Rattle.fillings.specs.Fillings.{fillings}
 use Rattle.fillings.proofs.Laws.{whole-fits, fillings-fit, written-all, room-refused, room-counted, all-listed, none-listed}
 use Rattle.fillings.proofs.list_into.Statement.{statement}

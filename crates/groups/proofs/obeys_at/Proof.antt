@@ -7,7 +7,7 @@ use lib.ListN.{length, drop, length-map}
 use borrow.Author.Needs.{needs}
 use borrow.Author.Tests.{not-true, not-false}
 use Rattle.models.specs.Models.{noGroup}
-use Rattle.groups.specs.Stretches.{groupsAt, obeysAt}
+use Rattle.groups.specs.Mirror.{groupsAt, obeysAt}
 use Rattle.groups.proofs.Stretches.{groups-on, groups-stop, groups-end}
 use Rattle.groups.proofs.obeys_at.Statement.{statement}
 use Rattle.groups.proofs.obeys_at.Tie as tie

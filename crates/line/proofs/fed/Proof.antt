@@ -3,7 +3,7 @@ use Prim.Native.Nat.{_≤_, _-_}
 use mathlib.Core.Path.{_≡_, refl, sym, _∙_}
 use native.Mathlib.Omega.{arith}
 use lib.ListN.{length, drop}
-use Rattle.line.specs.Kept.{feed, keptOf}
+use Rattle.line.specs.Mirror.{feed, keptOf}
 use Rattle.line.proofs.Laws.{feed-on, feed-ended, feed-ends, whole}
 use Rattle.line.proofs.fed.Statement.{statement}
 use Rattle.line.proofs.fed.Tie as tie

@@ -1,7 +1,7 @@
 -- `line::took_byte` meets its contract: each return is the definition's choice on the tests that led there. Assumes nothing.
 use mathlib.Core.Path.{_∙_}
 use borrow.Author.Tests.{eq-eqb, ne-eqb}
-use Rattle.line.specs.Kept.{keptOf}
+use Rattle.line.specs.Mirror.{keptOf}
 use Rattle.line.proofs.Laws.{took-ended, took-feed, took-behind, took-space, took-ahead}
 use borrow.Author.Needs.{needs}
 use Rattle.line.proofs.took_byte.Statement.{statement}

@@ -11,7 +11,7 @@ use Rattle.text.specs.Split.{split}
 use Rattle.classes.proofs.Choices.{left, entered, and-first, and-second}
 use Rattle.text.proofs.Laws.{to-the-end}
 use Rattle.classes.proofs.is_digit.Reads as is-digit-reads
-use Rattle.parts.specs.Ends.{digitRead}
+use Rattle.parts.specs.Mirror.{digitRead}
 use Rattle.parts.proofs.Pieces.{short-span}
 use Rattle.parts.proofs.Readers.{digits-end, digits-on, digits-break, handed-none, handed-on, part-judged, read-small, unread}
 use Rattle.parts.proofs.digit.Reads as digit

@@ -1,11 +1,11 @@
--- Where the parts of a text end, packed into one number, and what is asked of the text by them: it mirrors src/. proofs/Readers.antt leads
--- from what is read to `formed` of Parts.antt, and proofs/Stretches.antt from `obeysAt` to `partsRight`.
+-- What is asked of a text's check groups by where its parts end: it mirrors src/, and proofs/Stretches.antt leads from `obeysAt` to
+-- `partsRight` of Groups.antt.
 use Rattle.refusal.specs.Basics.{ℕ, _+_, _-_, Bool, true, false, cond, _&&_, _||_, List, [], _∷_, eqb, leb, length, take, drop}
 use Rattle.check_digits.specs.declared.Rule.{Rule}
 use Rattle.check_digits.specs.CheckDigit.{passes}
 use Rattle.models.specs.declared.Group.{Group}
 use Rattle.models.specs.declared.Model.{Model}
-use Rattle.parts.specs.Ends.{endOf}
+use Rattle.parts.specs.Mirror.{endOf}
 
 -- ---------------------------------------------------------------------------
 -- Check groups as stretches of the text, hyphens and all

@@ -1,5 +1,5 @@
--- Where the parts of a text end, packed into one number, and what is asked of the text by them: it mirrors src/. proofs/Readers.antt leads
--- from what is read to `formed` of Parts.antt, and proofs/Stretches.antt from `obeysAt` to `partsRight`.
+-- Where the parts of a text end, packed into one number: it mirrors src/, and proofs/Readers.antt leads from what is read to `formed` of
+-- Parts.antt.
 use Rattle.refusal.specs.Basics.{ℕ, _+_, _-_, _*_, _/_, _%_, _^_, Bool, cond, not, _&&_, _||_, List, [], _∷_, eqb, length}
 use Rattle.text.specs.Bytes.{allOf}
 use Rattle.classes.specs.declared.Class.the-variants.{Digits}
