@@ -3,7 +3,7 @@
 -- Assumes nothing.
 use mathlib.Core.Path.{_≡_, refl, sym, _∙_}
 use mathlib.Core.Logic.{_↔_}
-use mathlib.Core.Bool.{Bool, true, false, cond, _&&_}
+use mathlib.Core.Bool.{Bool, true, false, cond}
 use mathlib.Core.List.{List, [], _∷_, _++_}
 use Prim.Native.Nat.{ℕ, _+_, _-_, _≤_, _<_}
 use native.Mathlib.Nat.{mod-lt}
@@ -17,7 +17,6 @@ use Rattle.refusal.specs.declared.Answer.{Answer}
 use Rattle.refusal.specs.declared.Answer.the-variants.{Accepted, Refused}
 use Rattle.refusal.specs.declared.Refusal.{Refusal}
 use Rattle.refusal.specs.declared.Refusal.the-variants.{Size, Byte}
-use Rattle.classes.specs.Classes.{isDigit}
 use Rattle.classes.specs.declared.Class.the-variants.{Digits}
 use Rattle.classes.proofs.Choices.{both-true}
 use Rattle.text.specs.Bytes.{allOf}
@@ -87,12 +86,11 @@ made-is-checked rule s d e c =
     let l = both-true (leb 1 (length s)) (leb (length s) 19) (a .0) in
     let n : length (s ++ (c ∷ [])) ≡ length s + 1 = length-append s (c ∷ []) in
     let h = leb-true (length s) 19 (l .1) in
-    let t = s ++ (c ∷ []) in
-    (
-    λ g. only-made-digit-passes rule s c (accepted-chosen (passes rule t) _ _ (accepted-chosen (allOf Digits t) _ _ (accepted-chosen (sized 1 22 t) _ _ g .1) .1) .0) ∙ rw m,
-    λ g.
-      let k : c ≡ 48 + checkDigit rule (digitsOf s) = g ∙ rw m in
-      let j = check-digit-small rule (digitsOf s) in
-      let i : allOf Digits (c ∷ []) ≡ true = rw (le-leb 48 c (omega arith), le-leb c 57 (omega arith)) in
-      rw (n, le-leb 1 (length s + 1) (omega arith), le-leb (length s + 1) 22 (omega arith), all-joined Digits s (c ∷ []) (b .0) i, passes-snoc rule s c, eq-eqb c _ k),
+    let t = s ++ (c ∷ []) in (
+      λ g. only-made-digit-passes rule s c (accepted-chosen (passes rule t) _ _ (accepted-chosen (allOf Digits t) _ _ (accepted-chosen (sized 1 22 t) _ _ g .1) .1) .0) ∙ rw m,
+      λ g.
+          let k : c ≡ 48 + checkDigit rule (digitsOf s) = g ∙ rw m in
+          let j = check-digit-small rule (digitsOf s) in
+          let i : allOf Digits (c ∷ []) ≡ true = rw (le-leb 48 c (omega arith), le-leb c 57 (omega arith)) in
+          rw (n, le-leb 1 (length s + 1) (omega arith), le-leb (length s + 1) 22 (omega arith), all-joined Digits s (c ∷ []) (b .0) i, passes-snoc rule s c, eq-eqb c _ k),
     )

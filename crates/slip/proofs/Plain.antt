@@ -79,9 +79,9 @@ module _ (s : List ℕ) where
   abbrev RightField : ℕ → Type 0
   RightField n = fieldVerdict n (textBefore s n) (fieldText s n) ≡ 0
 
-  -- a text field is, exactly when
-  text : (n : ℕ) → ((4 ≤ n) × (n ≤ 9)) ⊎ (n ≡ 14) → RightField n ↔ ((firstWrong (fieldText s n) ≡ Nothing) × (characters (fieldText s n) ≤ mostOf n))
-  text n h = field.text-exactly (textBefore s n) (fieldText s n) n h
+  -- a text field is right exactly when it is permitted characters, and not too many
+  text-field : (n : ℕ) → ((4 ≤ n) × (n ≤ 9)) ⊎ (n ≡ 14) → RightField n ↔ ((firstWrong (fieldText s n) ≡ Nothing) × (characters (fieldText s n) ≤ mostOf n))
+  text-field n h = field.text-exactly (textBefore s n) (fieldText s n) n h
 
   right-plain : Right s → PlainSlip s
   unfolding pieceOf
@@ -94,17 +94,17 @@ module _ (s : List ℕ) where
         first = field.first-exactly _ _ .0 (f 1 (omega arith) (omega arith));
         second = field.second-exactly _ _ .0 (f 2 (omega arith) (omega arith));
         third = field.third-exactly _ _ .0 (f 3 (omega arith) (omega arith));
-        fourth = text 4 (inl (omega arith, omega arith)) .0 (f 4 (omega arith) (omega arith));
-        fifth = text 5 (inl (omega arith, omega arith)) .0 (f 5 (omega arith) (omega arith));
-        sixth = text 6 (inl (omega arith, omega arith)) .0 (f 6 (omega arith) (omega arith));
-        seventh = text 7 (inl (omega arith, omega arith)) .0 (f 7 (omega arith) (omega arith));
-        eighth = text 8 (inl (omega arith, omega arith)) .0 (f 8 (omega arith) (omega arith));
-        ninth = text 9 (inl (omega arith, omega arith)) .0 (f 9 (omega arith) (omega arith));
+        fourth = text-field 4 (inl (omega arith, omega arith)) .0 (f 4 (omega arith) (omega arith));
+        fifth = text-field 5 (inl (omega arith, omega arith)) .0 (f 5 (omega arith) (omega arith));
+        sixth = text-field 6 (inl (omega arith, omega arith)) .0 (f 6 (omega arith) (omega arith));
+        seventh = text-field 7 (inl (omega arith, omega arith)) .0 (f 7 (omega arith) (omega arith));
+        eighth = text-field 8 (inl (omega arith, omega arith)) .0 (f 8 (omega arith) (omega arith));
+        ninth = text-field 9 (inl (omega arith, omega arith)) .0 (f 9 (omega arith) (omega arith));
         tenth = field.tenth-exactly _ _ .0 (f 10 (omega arith) (omega arith));
         eleventh = field.eleventh-exactly _ _ .0 (f 11 (omega arith) (omega arith));
         twelfth = field.twelfth-exactly _ _ .0 (f 12 (omega arith) (omega arith));
         thirteenth = field.thirteenth-exactly _ _ .0 (f 13 (omega arith) (omega arith));
-        fourteenth = text 14 (inr refl) .0 (f 14 (omega arith) (omega arith));
+        fourteenth = text-field 14 (inr refl) .0 (f 14 (omega arith) (omega arith));
       }
 
   plain-right : PlainSlip s → Right s
@@ -115,21 +115,21 @@ module _ (s : List ℕ) where
         ends = w .ends;
         last = w .last;
         fields =
-          from-on RightField 1 (field.first-exactly _ _ .1 (w .first))
-          (from-on RightField 2 (field.second-exactly _ _ .1 (w .second))
-          (from-on RightField 3 (field.third-exactly _ _ .1 (w .third))
-          (from-on RightField 4 (text 4 (inl (omega arith, omega arith)) .1 (w .fourth))
-          (from-on RightField 5 (text 5 (inl (omega arith, omega arith)) .1 (w .fifth))
-          (from-on RightField 6 (text 6 (inl (omega arith, omega arith)) .1 (w .sixth))
-          (from-on RightField 7 (text 7 (inl (omega arith, omega arith)) .1 (w .seventh))
-          (from-on RightField 8 (text 8 (inl (omega arith, omega arith)) .1 (w .eighth))
-          (from-on RightField 9 (text 9 (inl (omega arith, omega arith)) .1 (w .ninth))
-          (from-on RightField 10 (field.tenth-exactly _ _ .1 (w .tenth))
-          (from-on RightField 11 (field.eleventh-exactly _ _ .1 (w .eleventh))
-          (from-on RightField 12 (field.twelfth-exactly _ _ .1 (w .twelfth))
-          (from-on RightField 13 (field.thirteenth-exactly _ _ .1 (w .thirteenth))
-          (from-on RightField 14 (text 14 (inr refl) .1 (w .fourteenth))
-          (λ n l u. absurd (omega arith)))))))))))))));
+            from-on RightField 1 (field.first-exactly _ _ .1 (w .first))
+            (from-on RightField 2 (field.second-exactly _ _ .1 (w .second))
+            (from-on RightField 3 (field.third-exactly _ _ .1 (w .third))
+            (from-on RightField 4 (text-field 4 (inl (omega arith, omega arith)) .1 (w .fourth))
+            (from-on RightField 5 (text-field 5 (inl (omega arith, omega arith)) .1 (w .fifth))
+            (from-on RightField 6 (text-field 6 (inl (omega arith, omega arith)) .1 (w .sixth))
+            (from-on RightField 7 (text-field 7 (inl (omega arith, omega arith)) .1 (w .seventh))
+            (from-on RightField 8 (text-field 8 (inl (omega arith, omega arith)) .1 (w .eighth))
+            (from-on RightField 9 (text-field 9 (inl (omega arith, omega arith)) .1 (w .ninth))
+            (from-on RightField 10 (field.tenth-exactly _ _ .1 (w .tenth))
+            (from-on RightField 11 (field.eleventh-exactly _ _ .1 (w .eleventh))
+            (from-on RightField 12 (field.twelfth-exactly _ _ .1 (w .twelfth))
+            (from-on RightField 13 (field.thirteenth-exactly _ _ .1 (w .thirteenth))
+            (from-on RightField 14 (text-field 14 (inr refl) .1 (w .fourteenth))
+            (λ n l u. absurd (omega arith)))))))))))))));
       }
 
   -- a slip is accepted exactly when it is as document 01 asks

@@ -16,7 +16,7 @@ use Rattle.text.specs.Digits.{twoDigits}
 use Rattle.classes.specs.declared.Class.{Class}
 use Rattle.classes.specs.declared.Class.the-variants.{Account, Reference, Line}
 use Rattle.text.specs.declared.Found.{Found}
-use Rattle.text.specs.declared.Found.the-variants.{At, Nothing}
+use Rattle.text.specs.declared.Found.the-variants.{Nothing}
 use Rattle.classes.proofs.Choices.{both-true, and-second}
 use Rattle.classes.proofs.Laws.{digit-bounds}
 use Rattle.text.proofs.Laws.{isNothing, all-passes, passes-all}

@@ -1,6 +1,6 @@
 -- What each of a slip's fourteen fields is, in the words of document 01: accepted exactly when.
 -- Assumes nothing.
-use mathlib.Core.Path.{_≡_, refl, _∙_}
+use mathlib.Core.Path.{_≡_, refl}
 use mathlib.Core.Logic.{_↔_, _⊎_, inl, inr, ⊎-elim}
 use mathlib.Core.Bool.{true, false}
 use mathlib.Core.List.{List, [], _∷_}
@@ -13,7 +13,6 @@ use Rattle.text.specs.Bytes.{allOf, eur}
 use Rattle.text.specs.declared.Found.the-variants.{Nothing}
 use Rattle.classes.specs.declared.Class.the-variants.{Digits, Letters}
 use Rattle.characters.specs.Characters.{firstWrong, characters}
-use Rattle.characters.specs.Answers.{charactersVerdict}
 use Rattle.characters.proofs.Theorems as texts
 use Rattle.account.specs.Answers.{isIban}
 use Rattle.account.proofs.Theorems.{iban-field-exactly}
@@ -74,8 +73,7 @@ module _ (m s : List ℕ) where
   pub thirteenth-exactly : (fieldVerdict 13 m s ≡ 0) ↔ ((s ≡ []) ⊎ ((length s ≡ 4) × (allOf Letters s ≡ true)))
   unfolding fieldVerdict allOf
   thirteenth-exactly =
-      let h = sized-exactly Letters 0 4 s in
-      (
-      λ e. let w = h .0 e in ⊎-elim (λ (l : length s ≡ 0). inl (no-byte s l)) (λ (l : length s ≡ 4). inr (l, w .0)) (w .1),
-      ⊎-elim (λ (e : s ≡ []). h .1 (rw e, inl (rw e))) (λ (w : (length s ≡ 4) × (allOf Letters s ≡ true)). h .1 (w .1, inr (w .0))),
+      let h = sized-exactly Letters 0 4 s in (
+        λ e. let w = h .0 e in ⊎-elim (λ (l : length s ≡ 0). inl (no-byte s l)) (λ (l : length s ≡ 4). inr (l, w .0)) (w .1),
+        ⊎-elim (λ (e : s ≡ []). h .1 (rw e, inl (rw e))) (λ (w : (length s ≡ 4) × (allOf Letters s ≡ true)). h .1 (w .1, inr (w .0))),
       )
