@@ -2,19 +2,32 @@
 -- is that one.
 -- Assumes nothing.
 use mathlib.Core.Path.{_≡_, refl, sym, _∙_}
+use mathlib.Core.Logic.{_↔_}
 use mathlib.Core.Bool.{Bool, true, false, cond}
 use mathlib.Core.List.{List, [], _∷_, _++_}
 use Prim.Native.Nat.{ℕ, _+_, _-_, _≤_, _<_}
 use native.Mathlib.Nat.{mod-lt}
 use native.Mathlib.Omega.{arith}
-use lib.Dec.{eqb, ltb, lit<}
+use lib.Dec.{eqb, leb, ltb, lit<}
 use lib.ListN.{length, length-append}
 use lib.Seq.{take-append-seam, getD-append-seam}
-use borrow.Author.Tests.{lt-ltb, eq-eqb, eqb-true, ltb-false}
+use borrow.Author.Tests.{lt-ltb, le-leb, eq-eqb, eqb-true, leb-true, ltb-false}
+use Rattle.refusal.specs.Refusal.{none}
+use Rattle.refusal.specs.declared.Answer.{Answer}
+use Rattle.refusal.specs.declared.Answer.the-variants.{Accepted, Refused}
+use Rattle.refusal.specs.declared.Refusal.{Refusal}
+use Rattle.refusal.specs.declared.Refusal.the-variants.{Size, Byte}
+use Rattle.classes.specs.declared.Class.the-variants.{Digits}
+use Rattle.classes.proofs.Choices.{both-true}
+use Rattle.text.specs.Bytes.{allOf}
 use Rattle.text.specs.Digits.{digitsOf}
+use Rattle.text.proofs.Laws.{all-joined}
 use Rattle.check_digits.specs.declared.Rule.{Rule}
 use Rattle.check_digits.specs.declared.Rule.the-variants.{Ini, Mod1110}
+use Rattle.check_digits.specs.declared.Made.{Made}
+use Rattle.check_digits.specs.declared.Made.the-variants as made
 use Rattle.check_digits.specs.CheckDigit.{checkDigit, digitFor, remainder, passes}
+use Rattle.check_digits.specs.Answers.{sized, checkAnswer, makeAnswer}
 
 -- ---------------------------------------------------------------------------
 -- One digit completes any digits
@@ -48,3 +61,36 @@ made-digit-passes rule s = passes-snoc rule s (48 + checkDigit rule (digitsOf s)
 -- and no other byte does
 pub only-made-digit-passes : (rule : Rule) (s : List ℕ) (c : ℕ) → passes rule (s ++ (c ∷ [])) ≡ true → c ≡ 48 + checkDigit rule (digitsOf s)
 only-made-digit-passes rule s c e = eqb-true c (48 + checkDigit rule (digitsOf s)) (sym (passes-snoc rule s c) ∙ e)
+
+-- ---------------------------------------------------------------------------
+-- Made and checked
+
+-- a choice between a digit and a refusal is a digit where its test holds
+digit-chosen : (t : Bool) (x : Made) (r : Refusal) (d : ℕ) → cond t x (made.Refused r) ≡ made.Digit d → (t ≡ true) × (x ≡ made.Digit d)
+digit-chosen true x r d e = (refl, e)
+digit-chosen false x r d e = let z : _≡_ {A = ℕ} 0 1 = cc in absurd (omega arith)
+
+-- one between acceptance and a refusal accepts where its test holds
+accepted-chosen : (t : Bool) (x : Answer) (r : Refusal) → cond t x (Refused r) ≡ Accepted → (t ≡ true) × (x ≡ Accepted)
+accepted-chosen true x r e = (refl, e)
+accepted-chosen false x r e = let z : _≡_ {A = ℕ} 0 1 = cc in absurd (omega arith)
+
+-- "For one to nineteen digits, a check digit is made by one of the last two rules: the one that passes": where the digit d is made, the text
+-- with a byte behind it is accepted exactly when that byte is d
+pub made-is-checked : (rule : Rule) (s : List ℕ) (d : ℕ) → makeAnswer rule s ≡ made.Digit d → (c : ℕ) → (checkAnswer rule (s ++ (c ∷ [])) ≡ Accepted) ↔ (c ≡ 48 + d)
+unfolding allOf
+made-is-checked rule s d e c =
+    let a = digit-chosen (sized 1 19 s) _ (Size none) d e in
+    let b = digit-chosen (allOf Digits s) _ (Byte none) d (a .1) in
+    let m : checkDigit rule (digitsOf s) ≡ d = cc in
+    let l = both-true (leb 1 (length s)) (leb (length s) 19) (a .0) in
+    let n : length (s ++ (c ∷ [])) ≡ length s + 1 = length-append s (c ∷ []) in
+    let h = leb-true (length s) 19 (l .1) in
+    let t = s ++ (c ∷ []) in (
+      λ g. only-made-digit-passes rule s c (accepted-chosen (passes rule t) _ _ (accepted-chosen (allOf Digits t) _ _ (accepted-chosen (sized 1 22 t) _ _ g .1) .1) .0) ∙ rw m,
+      λ g.
+          let k : c ≡ 48 + checkDigit rule (digitsOf s) = g ∙ rw m in
+          let j = check-digit-small rule (digitsOf s) in
+          let i : allOf Digits (c ∷ []) ≡ true = rw (le-leb 48 c (omega arith), le-leb c 57 (omega arith)) in
+          rw (n, le-leb 1 (length s + 1) (omega arith), le-leb (length s + 1) 22 (omega arith), all-joined Digits s (c ∷ []) (b .0) i, passes-snoc rule s c, eq-eqb c _ k),
+    )

@@ -1,14 +1,34 @@
--- What is promised of a model's text: no byte is told.
+-- What is promised of a model's text: accepted exactly when, and no byte is told.
 -- Assumes nothing.
+use mathlib.Core.Path.{_≡_, refl, ap, _∙_}
+use mathlib.Core.Logic.{_↔_}
+use mathlib.Core.Bool.{true}
 use mathlib.Core.List.{List}
 use Prim.Native.Nat.{ℕ}
 use Rattle.verdict.specs.Verdict.{Within}
-use Rattle.verdict.proofs.Verdicts.{only-within}
+use Rattle.verdict.proofs.Verdicts.{test-holds, only-within}
 use native.Mathlib.Omega.{arith}
 use Rattle.text.specs.declared.Found.{Found}
 use Rattle.text.specs.declared.Found.the-variants.{At, Nothing}
 use Rattle.model_text.specs.Texts.{modelNumber, modelFrom, modelVerdict}
 use Rattle.models.specs.Models.{modelOf}
+
+-- ---------------------------------------------------------------------------
+-- Accepted exactly when
+
+-- "`HR` and two digits" of a model that is handled
+pub record HandledModel (s : List ℕ) : Type 0 where
+  pub number : ℕ
+  pub named : modelNumber s ≡ At number
+  pub handled : modelOf number .handled ≡ true
+
+-- a model's text is accepted exactly when it is that
+pub model-accepted-exactly : (s : List ℕ) → (modelVerdict s ≡ 0) ↔ HandledModel s
+model-accepted-exactly s = (by-number (modelNumber s) refl, λ w. ap modelFrom (w .named) ∙ rw (w .handled))
+  where
+    by-number : (f : Found) → modelNumber s ≡ f → modelFrom f ≡ 0 → HandledModel s
+    by-number (At n) q e = record { number = n; named = q; handled = test-holds _ 7 refl e }
+    by-number Nothing q e = absurd (omega arith)
 
 -- ---------------------------------------------------------------------------
 -- A model's refusal tells no byte

@@ -1,23 +1,25 @@
 -- What is promised of references, over every model, every list of groups and every text.
 -- Assumes nothing.
-use mathlib.Core.Path.{_≡_, refl}
+use mathlib.Core.Path.{_≡_, refl, ap, _∙_}
 use mathlib.Core.Logic.{_↔_}
 use mathlib.Core.Bool.{true, _&&_}
 use mathlib.Core.List.{List}
-use Prim.Native.Nat.{ℕ}
+use Prim.Native.Nat.{ℕ, _≤_}
 use native.Mathlib.Omega.{arith}
 use lib.Dec.{leb}
 use lib.ListN.{length}
+use borrow.Author.Tests.{leb-true, le-leb}
 use Rattle.verdict.specs.Verdict.{onlyIf, Within}
-use Rattle.verdict.proofs.Verdicts.{both-pass, test-holds, then-within, only-within}
-use Rattle.text.specs.Bytes.{bytesVerdict}
+use Rattle.verdict.proofs.Verdicts.{both-pass, pass-both, test-holds, then-within, only-within}
+use Rattle.text.specs.Bytes.{allOf, bytesVerdict}
 use Rattle.classes.specs.declared.Class.the-variants.{Reference}
 use Rattle.text.specs.declared.Found.{Found}
 use Rattle.text.specs.declared.Found.the-variants.{At, Nothing}
 use Rattle.classes.proofs.Choices.{both-true}
-use Rattle.text.proofs.Laws.{all-passes, bytes-within}
+use Rattle.text.proofs.Laws.{all-passes, passes-all, bytes-within}
 use Rattle.models.specs.declared.Model.{Model}
 use Rattle.model_text.specs.Texts.{modelNumber}
+use Rattle.model_text.proofs.Theorems.{HandledModel}
 use Rattle.models.specs.Models.{modelOf}
 use Rattle.parts.specs.Parts.{partsOf, formed}
 use Rattle.parts.proofs.Pieces.{formed-bytes}
@@ -43,6 +45,39 @@ accepted-obeys model s = (λ e. accepted e, λ e. obeyed e)
         let a = both-true (leb (length s) 22) (obeys model s) e in
         let b = both-true (formed model s) (partsRight model (partsOf s)) (a .1) in
         rw (all-passes Reference s (formed-bytes model s (b .0)), a .0, b .0, b .1)
+
+-- "digits and hyphens, at most 22 characters, obeying the model": the text s is a reference of the model whose text is m
+pub record RightReference (m s : List ℕ) : Type 0 where
+  -- "`HR` and two digits" of a model that is handled
+  pub model : HandledModel m
+  -- "digits and hyphens"
+  pub bytes : allOf Reference s ≡ true
+  -- "at most 22 characters"
+  pub short : length s ≤ 22
+  -- "obeying the model"
+  pub obeyed : obeys (modelOf (model .number)) s ≡ true
+
+-- a reference is accepted exactly when it is that
+pub reference-accepted-exactly : (m s : List ℕ) → (referenceVerdict m s ≡ 0) ↔ RightReference m s
+reference-accepted-exactly m s = (by-number (modelNumber m) refl, right)
+  where
+    by-number : (f : Found) → modelNumber m ≡ f → numberVerdict s f ≡ 0 → RightReference m s
+    by-number (At n) q e =
+        let a = both-pass (onlyIf (modelOf n .handled) 7) (textVerdict (modelOf n) s) e in
+        let b = both-true (leb (length s) 22) (obeys (modelOf n) s) (accepted-obeys (modelOf n) s .0 (a .1)) in
+        record {
+          model = record { number = n; named = q; handled = test-holds _ 7 refl (a .0) };
+          bytes = passes-all Reference s (both-pass (bytesVerdict Reference s) _ (a .1) .0);
+          short = leb-true (length s) 22 (b .0);
+          obeyed = b .1;
+        }
+    by-number Nothing q e = absurd (omega arith)
+
+    right : RightReference m s → referenceVerdict m s ≡ 0
+    right w =
+        let model = modelOf (w .model .number) in
+        ap (numberVerdict s) (w .model .named) ∙
+        pass-both (onlyIf (model .handled) 7) (textVerdict model s) (rw (w .model .handled)) (accepted-obeys model s .1 (rw (le-leb (length s) 22 (w .short), w .obeyed)))
 
 -- ---------------------------------------------------------------------------
 -- A 3's byte is one of the text's

@@ -1,14 +1,14 @@
 -- What an accepted field of each kind is: its bytes, its length, and that no line feed stands in it.
 -- Assumes nothing.
 use mathlib.Core.Path.{_≡_, refl, sym, ap, _∙_}
-use mathlib.Core.Bool.{Bool, true, false, cond, not, _&&_, _||_}
+use mathlib.Core.Logic.{_↔_, _⊎_, inl, inr, ⊎-elim}
+use mathlib.Core.Bool.{Bool, true, false, cond, not, _&&_, _||_, or-true}
 use mathlib.Core.List.{List, [], _∷_}
 use Prim.Native.Nat.{ℕ, zero, suc, _*_, _≤_, _<_}
 use native.Mathlib.Omega.{arith}
 use lib.Dec.{eqb}
 use lib.ListN.{length, getD}
-use borrow.Author.Tests.{eqb-true, eq-eqb, ne-eqb, leb-true}
-use Rattle.verdict.specs.Verdict.{onlyIf}
+use borrow.Author.Tests.{eqb-true, eq-eqb, ne-eqb}
 use Rattle.verdict.proofs.Verdicts.{both-pass, test-holds}
 use Rattle.classes.specs.Classes.{isDigit, permits}
 use Rattle.text.specs.Bytes.{allOf, bytesVerdict, same}
@@ -16,16 +16,17 @@ use Rattle.text.specs.Digits.{twoDigits}
 use Rattle.classes.specs.declared.Class.{Class}
 use Rattle.classes.specs.declared.Class.the-variants.{Account, Reference, Line}
 use Rattle.text.specs.declared.Found.{Found}
-use Rattle.text.specs.declared.Found.the-variants.{At, Nothing}
+use Rattle.text.specs.declared.Found.the-variants.{Nothing}
 use Rattle.classes.proofs.Choices.{both-true, and-second}
 use Rattle.classes.proofs.Laws.{digit-bounds}
-use Rattle.text.proofs.Laws.{isNothing, passes-all}
+use Rattle.text.proofs.Laws.{isNothing, all-passes, passes-all}
 use Rattle.characters.specs.Answers.{charactersVerdict}
 use Rattle.characters.proofs.Theorems as texts
 use Rattle.account.specs.Answers.{ibanVerdict}
-use Rattle.model_text.specs.Texts.{modelNumber, modelFrom, modelVerdict}
-use Rattle.models.specs.Models.{modelOf}
-use Rattle.reference.specs.Answers.{textVerdict, numberVerdict, referenceVerdict}
+use Rattle.model_text.specs.Texts.{modelVerdict}
+use Rattle.model_text.proofs.Theorems.{model-accepted-exactly}
+use Rattle.reference.specs.Answers.{referenceVerdict}
+use Rattle.reference.proofs.Theorems.{reference-accepted-exactly}
 use Rattle.slip_fields.specs.Fields.{wordVerdict, sizedVerdict}
 use Rattle.text.proofs.Same.{same-equal}
 
@@ -80,26 +81,31 @@ same-itself (a ∷ w) = sym (and-second (eqb a a) (same w w) true (eq-eqb a a re
 pub class-free : (k : Class) → permits k 10 ≡ false → (s : List ℕ) → bytesVerdict k s ≡ 0 → allOf Line s ≡ true
 class-free k n s e = free-by-class k n s (passes-all k s e)
 
--- amounts and purposes: one of two lengths
+-- amounts and purposes: bytes of a class, and one of two lengths
+pub sized-exactly : (k : Class) (a b : ℕ) (s : List ℕ) → (sizedVerdict k a b s ≡ 0) ↔ ((allOf k s ≡ true) × ((length s ≡ a) ⊎ (length s ≡ b)))
+sized-exactly k a b s = (
+  λ e. let h = both-pass (bytesVerdict k s) _ e in (passes-all k s (h .0), go (eqb (length s) a) (eqb (length s) b) refl refl (test-holds _ 4 refl (h .1))),
+  λ w. rw (all-passes k s (w .0), sized (w .1)),
+)
+  where
+    go : (t u : Bool) → eqb (length s) a ≡ t → eqb (length s) b ≡ u → (t || u) ≡ true → (length s ≡ a) ⊎ (length s ≡ b)
+    go true u f g h = inl (eqb-true (length s) a f)
+    go false true f g h = inr (eqb-true (length s) b g)
+    go false false f g h = let z : _≡_ {A = ℕ} 0 1 = cc in absurd (omega arith)
+
+    sized : (length s ≡ a) ⊎ (length s ≡ b) → (eqb (length s) a || eqb (length s) b) ≡ true
+    sized (inl e) = rw (eq-eqb (length s) a e)
+    sized (inr e) = rw (eq-eqb (length s) b e) (or-true (eqb (length s) a))
+
+-- so they are no longer than either
 pub sized-is : (k : Class) (a b : ℕ) (s : List ℕ) → sizedVerdict k a b s ≡ 0 → (bytesVerdict k s ≡ 0) × ((n : ℕ) → a ≤ n → b ≤ n → length s ≤ n)
 sized-is k a b s e =
-    let h = both-pass (bytesVerdict k s) _ e in
-    (h .0, λ n p q. go n p q (eqb (length s) a) (eqb (length s) b) refl refl (test-holds _ 4 refl (h .1)))
-  where
-    go : (n : ℕ) → a ≤ n → b ≤ n → (t u : Bool) → eqb (length s) a ≡ t → eqb (length s) b ≡ u → (t || u) ≡ true → length s ≤ n
-    go n p q true u f g h = omega (arith, eqb-true (length s) a f)
-    go n p q false true f g h = omega (arith, eqb-true (length s) b g)
-    go n p q false false f g h = let z : _≡_ {A = ℕ} 0 1 = cc in absurd (omega arith)
+    let h = sized-exactly k a b s .0 e in
+    (all-passes k s (h .0), λ n p q. ⊎-elim (λ (f : length s ≡ a). omega arith) (λ (f : length s ≡ b). omega arith) (h .1))
 
 -- one length where both are the same
 pub sized-alone : (k : Class) (a : ℕ) (s : List ℕ) → sizedVerdict k a a s ≡ 0 → (allOf k s ≡ true) × (length s ≡ a)
-sized-alone k a s e =
-    let h = both-pass (bytesVerdict k s) _ e in
-    (passes-all k s (h .0), go (eqb (length s) a) refl (test-holds _ 4 refl (h .1)))
-  where
-    go : (t : Bool) → eqb (length s) a ≡ t → (t || t) ≡ true → length s ≡ a
-    go true f h = eqb-true (length s) a f
-    go false f h = let z : _≡_ {A = ℕ} 0 1 = cc in absurd (omega arith)
+sized-alone k a s e = let h = sized-exactly k a a s .0 e in (h .0, ⊎-elim (λ (f : length s ≡ a). f) (λ (f : length s ≡ a). f) (h .1))
 
 -- ---------------------------------------------------------------------------
 -- Accounts
@@ -121,12 +127,6 @@ pub record Named (s : List ℕ) : Type 0 where
   pub third : isDigit (getD s 2 0) ≡ true
   pub fourth : isDigit (getD s 3 0) ≡ true
 
--- an accepted model has a number
-has-number : (f : Found) → modelFrom f ≡ 0 → isNothing f ≡ false
-unfolding isNothing
-has-number (At n) e = refl
-has-number Nothing e = absurd (omega arith)
-
 -- a choice between a number and none has a number only where its test holds and the number is there
 numbered : (t : Bool) (f : Found) → isNothing (cond t f Nothing) ≡ false → (t ≡ true) × (isNothing f ≡ false)
 unfolding isNothing
@@ -135,12 +135,13 @@ numbered false f e = let z : _≡_ {A = ℕ} 0 1 = cc in absurd (omega arith)
 
 -- an accepted model is `HR` and two digits
 pub model-is : (s : List ℕ) → modelVerdict s ≡ 0 → Named s
+unfolding isNothing
 model-is s e =
     let a = getD s 0 0 in
     let b = getD s 1 0 in
     let x = getD s 2 0 in
     let y = getD s 3 0 in
-    let h = numbered (eqb (length s) 4 && (eqb a 72 && eqb b 82)) (twoDigits x y) (has-number (modelNumber s) e) in
+    let h = numbered (eqb (length s) 4 && (eqb a 72 && eqb b 82)) (twoDigits x y) (ap isNothing (model-accepted-exactly s .0 e .named)) in
     let f = both-true (eqb (length s) 4) (eqb a 72 && eqb b 82) (h .0) in
     let g = both-true (eqb a 72) (eqb b 82) (f .1) in
     let d = both-true (isDigit x) (isDigit y) (numbered (isDigit x && isDigit y) _ (h .1) .0) in
@@ -162,13 +163,7 @@ model-free s e = free-by-places s (go (model-is s e))
 
 -- an accepted reference is at most 22 digits and hyphens
 pub reference-is : (m s : List ℕ) → referenceVerdict m s ≡ 0 → (bytesVerdict Reference s ≡ 0) × (length s ≤ 22)
-reference-is m s e = by-number (modelNumber m) e
-  where
-    by-number : (f : Found) → numberVerdict s f ≡ 0 → (bytesVerdict Reference s ≡ 0) × (length s ≤ 22)
-    by-number (At n) q =
-        let h = both-pass (bytesVerdict Reference s) _ (both-pass (onlyIf (modelOf n .handled) 7) (textVerdict (modelOf n) s) q .1) in
-        (h .0, leb-true (length s) 22 (test-holds _ 4 refl (both-pass _ _ (h .1) .0)))
-    by-number Nothing q = absurd (omega arith)
+reference-is m s e = let w = reference-accepted-exactly m s .0 e in (all-passes Reference s (w .bytes), w .short)
 
 -- ---------------------------------------------------------------------------
 -- Texts
