@@ -16,12 +16,16 @@ use Rattle.account.proofs.Laws.{formed-permitted}
 use Rattle.verdict.proofs.Verdicts.{pass-both}
 use Rattle.wage_contents.specs.Contents.{ibanPlaceVerdict}
 
+-- blanks are bytes that an IBAN's place permits
+pub blanks-placed : (f : List ℕ) → allOf Blanks f ≡ true → allOf Place f ≡ true
+blanks-placed f e = all-wider Blanks Place (λ x b. rw (eqb-true x 32 b)) f e
+
 -- an IBAN with blanks behind it is bytes that its place permits
 account-placed : (f : List ℕ) → allOf Blanks (drop 21 f) ≡ true → ibanFormed (take 21 f) ≡ true → allOf Place f ≡ true
 account-placed f e g =
     sym (ap (allOf Place) (take-append-drop 21 f))
     ∙ all-joined Place (take 21 f) (drop 21 f) (all-wider Account Place (λ x d. sym (or-first _ _ d)) (take 21 f) (passes-all Account (take 21 f) (formed-permitted (take 21 f) g)))
-    (all-wider Blanks Place (λ x b. rw (eqb-true x 32 b)) (drop 21 f) e)
+    (blanks-placed (drop 21 f) e)
 
 -- so nothing is refused of it
 pub account-right : (blank : Bool) (f : List ℕ) → (allOf Blanks (drop 21 f) && isIban (take 21 f)) ≡ true → 0 ≡ ibanPlaceVerdict blank f
