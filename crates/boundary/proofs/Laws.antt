@@ -3,14 +3,14 @@
 use mathlib.Core.Path.{_≡_, ap, _∙_}
 use mathlib.Core.List.{List}
 use Prim.Native.Nat.{ℕ}
-use Rattle.refusal.specs.Refusal.{numberOf, placeOf, neededOf}
+use Rattle.refusal.specs.Refusal.{refusalNumber, refusalPlace, neededOf}
 use Rattle.refusal.specs.declared.Place.{Place}
 use Rattle.refusal.specs.declared.Refusal.{Refusal}
 use Rattle.boundary.specs.declared.Told.{Told}
 use Rattle.boundary.specs.Told.{refusal}
 
 -- its number, its place and its needed number tell it
-pub told-by : (r : Refusal) (n : ℕ) (p : Place) (m : ℕ) → n ≡ numberOf r → p ≡ placeOf r → m ≡ neededOf r → _≡_ {A = Told} (record { number = n; line = p .line; field = p .field; byte = p .byte; needed = m }) (refusal r)
+pub told-by : (r : Refusal) (n : ℕ) (p : Place) (m : ℕ) → n ≡ refusalNumber r → p ≡ refusalPlace r → m ≡ neededOf r → _≡_ {A = Told} (record { number = n; line = p .line; field = p .field; byte = p .byte; needed = m }) (refusal r)
 told-by r n p m e f g = rw (e, f, g)
 
 -- an answer r told as t, and what r leaves: told and left by what r is

@@ -1,7 +1,7 @@
 -- How answers stand at the boundary: document 01's number, line, field and byte, the needed number, and what an acceptance tells. Number 0 is
 -- acceptance; then all else but what it tells is 0.
 use Rattle.refusal.specs.Basics.{ℕ}
-use Rattle.refusal.specs.Refusal.{none, numberOf, placeOf, neededOf}
+use Rattle.refusal.specs.Refusal.{none, refusalNumber, refusalPlace, neededOf}
 use Rattle.verdict.specs.Verdict.{answerIn}
 use Rattle.refusal.specs.declared.Answer.{Answer}
 use Rattle.refusal.specs.declared.Answer.the-variants as answer
@@ -17,7 +17,7 @@ accepted = record { number = 0; line = 0; field = 0; byte = 0; needed = 0 }
 
 -- a refusal
 abbrev pub refusal : Refusal → Told
-refusal r = record { number = numberOf r; line = placeOf r .line; field = placeOf r .field; byte = placeOf r .byte; needed = neededOf r }
+refusal r = record { number = refusalNumber r; line = refusalPlace r .line; field = refusalPlace r .field; byte = refusalPlace r .byte; needed = neededOf r }
 
 unfoldable pub toldOf : Answer → Told
 toldOf answer.Accepted = accepted
@@ -36,5 +36,5 @@ abbrev pub noRule : Told
 noRule = refusal (Form none)
 
 -- the place that an answer tells
-abbrev pub placeIn : Told → Place
-placeIn t = record { line = t .line; field = t .field; byte = t .byte }
+abbrev pub toldPlace : Told → Place
+toldPlace t = record { line = t .line; field = t .field; byte = t .byte }

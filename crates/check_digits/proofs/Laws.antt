@@ -18,7 +18,7 @@ use Rattle.check_digits.specs.declared.Rule.{Rule}
 use Rattle.check_digits.specs.declared.Rule.the-variants.{Ini, Mod1110}
 use Rattle.check_digits.specs.declared.Run.{Run}
 use Rattle.check_digits.specs.CheckDigit.{weighted, carry, carriedOver, checkDigit, digitFor, tenForZero}
-use Rattle.check_digits.specs.Mirror.{Small, startOf, stepOf, readOf, runOf, digitOf}
+use Rattle.check_digits.specs.Mirror.{Small, runStart, stepOf, readOf, runOf, digitOf}
 
 -- ---------------------------------------------------------------------------
 -- Small remainders
@@ -49,7 +49,7 @@ ini-large r h = left (ltb r 2) 0 (11 - r) (11 - r) (le-ltb r 2 h) refl
 pub folded-digit : (d x r : ℕ) → r ≡ x → d ≡ digitFor Ini r → d ≡ digitFor Ini x
 folded-digit d x r e f = f ∙ ap (digitFor Ini) e
 
-pub start-small : (rule : Rule) → Small (startOf rule)
+pub start-small : (rule : Rule) → Small (runStart rule)
 start-small Ini = (lit< tt, lit< tt)
 start-small Mod1110 = (lit< tt, lit< tt)
 
@@ -117,17 +117,17 @@ ini-run run (d ∷ ds) = ini-run (stepOf Ini run d) ds ∙ ini-turn (run .sum) (
 -- ---------------------------------------------------------------------------
 -- What the loop reads is what the definition says
 
-pub read-check-digit : (rule : Rule) (s : List ℕ) → digitOf rule (runOf rule (startOf rule) s) ≡ checkDigit rule (digitsOf s)
+pub read-check-digit : (rule : Rule) (s : List ℕ) → digitOf rule (runOf rule (runStart rule) s) ≡ checkDigit rule (digitsOf s)
 unfolding checkDigit
 read-check-digit Ini s =
-    ap (λ (r : Run). digitFor Ini ((r .sum + r .sums) % 11)) (run-of-digits Ini (startOf Ini) s)
-    ∙ ap (digitFor Ini) (ini-run (startOf Ini) (digitsOf s) ∙ ap (λ (x : ℕ). x % 11) (zeros (length (digitsOf s)) (weighted (digitsOf s))))
+    ap (λ (r : Run). digitFor Ini ((r .sum + r .sums) % 11)) (run-of-digits Ini (runStart Ini) s)
+    ∙ ap (digitFor Ini) (ini-run (runStart Ini) (digitsOf s) ∙ ap (λ (x : ℕ). x % 11) (zeros (length (digitsOf s)) (weighted (digitsOf s))))
   where
     zeros : (n w : ℕ) → 0 + 0 + (n * 0 + w) ≡ w
     zeros n w = omega arith
 read-check-digit Mod1110 s =
-    ap (λ (r : Run). digitFor Mod1110 (r .sum)) (run-of-digits Mod1110 (startOf Mod1110) s)
-    ∙ ap (digitFor Mod1110) (iso-run (startOf Mod1110) (digitsOf s))
+    ap (λ (r : Run). digitFor Mod1110 (r .sum)) (run-of-digits Mod1110 (runStart Mod1110) s)
+    ∙ ap (digitFor Mod1110) (iso-run (runStart Mod1110) (digitsOf s))
 
 -- the loop's turn, and its end
 module _ (rule : Rule) (run : Run) (s : List ℕ) (i : ℕ) where

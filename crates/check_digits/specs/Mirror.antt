@@ -11,9 +11,9 @@ use Rattle.check_digits.specs.declared.Run.{Run}
 abbrev pub Small : Run → Type 0
 Small run = (run .sum < 11) × (run .sums < 11)
 
-abbrev pub startOf : Rule → Run
-startOf Ini = record { sum = 0; sums = 0 }
-startOf Mod1110 = record { sum = 10; sums = 0 }
+abbrev pub runStart : Rule → Run
+runStart Ini = record { sum = 0; sums = 0 }
+runStart Mod1110 = record { sum = 10; sums = 0 }
 
 abbrev pub stepOf : Rule → Run → ℕ → Run
 stepOf Ini run d = record { sum = (run .sum + d) % 11; sums = (run .sums + (run .sum + d) % 11) % 11 }

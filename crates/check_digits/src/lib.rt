@@ -7,7 +7,7 @@ ghost use mathlib.Core.Path.{_≡_};
 ghost use Prim.Native.Nat.{_<_, _+_, _%_};
 ghost use Rattle.text.specs.Digits.{digitsOf};
 ghost use Rattle.check_digits.specs.CheckDigit.{carry, digitFor, checkDigit, passes};
-ghost use Rattle.check_digits.specs.Mirror.{Small, startOf, stepOf, readOf, digitOf};
+ghost use Rattle.check_digits.specs.Mirror.{Small, runStart, stepOf, readOf, digitOf};
 ghost use Rattle.check_digits.specs.Answers.{sized, checkAnswer, makeAnswer};
 use classes::Class;
 use refusal::Answer;
@@ -54,7 +54,7 @@ fn carried(p: u64, d: u64) -> u64
 
 // Where each rule starts.
 fn started(rule: Rule) -> Run
-    ensures { λ r. ⌜ r ≡ startOf rule ⌝ }
+    ensures { λ r. ⌜ r ≡ runStart rule ⌝ }
 {
     match rule {
         Rule::Ini => Run { sum: 0, sums: 0 },

@@ -12,7 +12,7 @@ use borrow.Author.Tests.{ltb-true, leb-true, eq-eqb, ne-eqb}
 use Rattle.text.specs.declared.Found.{Found}
 use Rattle.text.specs.declared.Found.the-variants.{At, Nothing}
 use Rattle.classes.proofs.Choices.{both-true}
-use Rattle.codes.specs.Codes.{codes, placeIn, codePlace}
+use Rattle.codes.specs.Codes.{codes, firstIn, codePlace}
 use Rattle.codes.proofs.Laws.{place-tells}
 
 -- ---------------------------------------------------------------------------
@@ -71,8 +71,8 @@ each-within a b (c ∷ s) (suc j) e h = each-within a b s j (both-true (leb a c 
 -- Found exactly where it stands
 
 -- what an ascending list holds is found at its place
-found-there : (s : List ℕ) (i : ℕ) → ascending s ≡ true → i < length s → placeIn (getD s i 0) s ≡ At i
-unfolding placeIn
+found-there : (s : List ℕ) (i : ℕ) → ascending s ≡ true → i < length s → firstIn (getD s i 0) s ≡ At i
+unfolding firstIn
 found-there [] i e h = absurd (omega arith)
 found-there (c ∷ s) zero e h = rw (eq-eqb c c refl)
 found-there (c ∷ s) (suc j) e h =

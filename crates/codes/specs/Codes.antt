@@ -15,10 +15,10 @@ codes =
     640 ∷ 650 ∷ 660 ∷ 690 ∷ 699 ∷ []
 
 -- where a number first stands in a list, counted from 0
-unfoldable pub placeIn : ℕ → List ℕ → Found
-placeIn n [] = Nothing
-placeIn n (c ∷ cs) = cond (eqb n c) (At 0) (later (placeIn n cs))
+unfoldable pub firstIn : ℕ → List ℕ → Found
+firstIn n [] = Nothing
+firstIn n (c ∷ cs) = cond (eqb n c) (At 0) (later (firstIn n cs))
 
 -- where a code stands in the list; another number stands nowhere
 unfoldable pub codePlace : ℕ → Found
-codePlace n = placeIn n codes
+codePlace n = firstIn n codes

@@ -2,7 +2,7 @@
 //
 // Source 004's list, "ŠIFARNIK VRSTA OSOBNIH PRIMANJA": 55 codes, ascending. Requests W4, W6 and W14 go by it too.
 ghost use mathlib.Core.Path.{_≡_};
-ghost use Rattle.codes.specs.Codes.{placeIn, codePlace};
+ghost use Rattle.codes.specs.Codes.{firstIn, codePlace};
 use text::Found;
 
 // The codes, in the order of the list.
@@ -73,7 +73,7 @@ fn wide(n: u16) -> u64
 
 // Where a number first stands in a list, counted from 0.
 fn place_in(list: &[u16], code: u64) -> Found
-    ensures { λ r. ⌜ r ≡ placeIn code (now (list .entry)) ⌝ }
+    ensures { λ r. ⌜ r ≡ firstIn code (now (list .entry)) ⌝ }
 {
     let mut i = 0;
     while i < list.len() {

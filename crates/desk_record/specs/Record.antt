@@ -5,7 +5,7 @@ use Rattle.condition.specs.Record.{stageOf, isRefused, refusalIn, beyond}
 use Rattle.condition.specs.declared.Condition.{Condition}
 use Rattle.condition.specs.declared.Condition.the-variants.{Fresh, Labelled, Grouped, Closed, Refused}
 use Rattle.condition.specs.declared.Judge.{Judge}
-use Rattle.boundary.specs.Told.{accepted, refusal, placeIn}
+use Rattle.boundary.specs.Told.{accepted, refusal, toldPlace}
 use Rattle.boundary.specs.declared.Told.{Told}
 use Rattle.desk_record.specs.declared.Record.{Record}
 
@@ -17,7 +17,7 @@ conditionOf n t =
     (cond (eqb n 1) Labelled
     (cond (eqb n 2) Grouped
     (cond (eqb n 3) Closed
-    (cond (eqb n 4) (Refused (refusalOf (t .number) (placeIn t) (t .needed)))
+    (cond (eqb n 4) (Refused (refusalOf (t .number) (toldPlace t) (t .needed)))
     (Refused beyond)))))
 
 -- the judge that a record stands for

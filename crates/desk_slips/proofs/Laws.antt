@@ -17,7 +17,7 @@ pub slip-told :
     (cents : ℕ) (fields : List (List ℕ)) (out : List ℕ) (r : Written) (t : Valued) (after : List ℕ)
     → t ≡ writtenOf r → WritesSlip cents fields out r after → WritesSlipGiven cents fields out t after
 slip-told cents fields out r t after e w =
-    let both = told-and-left writtenOf (λ (x : Written). slip.leftBy x (slip.slipText cents fields) out) (slip.writeAnswer cents fields (length out)) r t after e w in
+    let both = told-and-left writtenOf (λ (x : Written). slip.leftBySlip x (slip.slipText cents fields) out) (slip.writeAnswer cents fields (length out)) r t after e w in
     record { answers = both .0; leaves = both .1 }
 
 -- a lent field is the front of the text behind the fields before it

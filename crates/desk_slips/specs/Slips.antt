@@ -33,4 +33,4 @@ elevenOf sizes text =
 -- a slip
 pub record WritesSlipGiven (cents : ℕ) (fields : List (List ℕ)) (out : List ℕ) (r : Valued) (after : List ℕ) : Type 0 where
   pub answers : r ≡ writtenOf (slip.writeAnswer cents fields (length out))
-  pub leaves : after ≡ slip.leftBy (slip.writeAnswer cents fields (length out)) (slip.slipText cents fields) out
+  pub leaves : after ≡ slip.leftBySlip (slip.writeAnswer cents fields (length out)) (slip.slipText cents fields) out

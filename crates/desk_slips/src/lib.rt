@@ -5,7 +5,7 @@
 ghost use mathlib.Core.Path.{_≡_};
 ghost use lib.ListN.{take};
 ghost use Rattle.slip.specs.Slip.{slipAnswer};
-ghost use Rattle.slip_handed.specs.Handed.{fieldPart, centsOf};
+ghost use Rattle.slip_handed.specs.Handed.{fieldPart, slipCents};
 ghost use Rattle.boundary.specs.Told.{toldOf};
 ghost use Rattle.desk_slips.specs.Slips.{centsTold, writtenOf, givenOf, elevenOf, WritesSlipGiven};
 use boundary::Told;
@@ -73,7 +73,7 @@ pub extern "C" fn lanecockle_slip_field(slip: &[u8], number: usize) -> Part
 // The amount of an accepted slip in cents.
 #[no_mangle]
 pub extern "C" fn lanecockle_slip_cents(slip: &[u8]) -> Valued
-    ensures { λ r. ⌜ r ≡ centsTold (centsOf (now (slip .entry))) ⌝ }
+    ensures { λ r. ⌜ r ≡ centsTold (slipCents (now (slip .entry))) ⌝ }
 {
     tell_amount(slip_handed::cents(slip))
 }

@@ -7,7 +7,7 @@ ghost use lib.ListN.{length};
 ghost use Rattle.account.specs.Answers.{isIban};
 ghost use Rattle.fillings.specs.Fillings.{fillings};
 ghost use Rattle.wet.specs.Wet.{ibanListing, referenceListing, referenceFillings};
-ghost use Rattle.fillings.specs.Answers.{leftBy};
+ghost use Rattle.fillings.specs.Answers.{leftByListing};
 ghost use Rattle.filling.specs.Filling.{filledAnswer, filledBy};
 ghost use Rattle.boundary.specs.Told.{toldOf};
 ghost use Rattle.desk_wet.specs.Listed.{listedOf};
@@ -28,7 +28,7 @@ fn tell_listed(l: Listed) -> Valued
 // Lists the fillings of an IBAN; the value is their count.
 #[no_mangle]
 pub extern "C" fn lanecockle_list_iban(text: &[u8], out: &mut [u16]) -> Valued
-    ensures { λ r. ⌜ (r ≡ listedOf (ibanListing (now (text .entry)) (length (now (out .entry))))) × (now (out .exit) ≡ leftBy (ibanListing (now (text .entry)) (length (now (out .entry)))) (fillings isIban (now (text .entry))) (now (out .entry))) ⌝ }
+    ensures { λ r. ⌜ (r ≡ listedOf (ibanListing (now (text .entry)) (length (now (out .entry))))) × (now (out .exit) ≡ leftByListing (ibanListing (now (text .entry)) (length (now (out .entry)))) (fillings isIban (now (text .entry))) (now (out .entry))) ⌝ }
 {
     tell_listed(wet::list_iban(text, out))
 }
@@ -36,7 +36,7 @@ pub extern "C" fn lanecockle_list_iban(text: &[u8], out: &mut [u16]) -> Valued
 // Lists the fillings of a reference under its model; the value is their count.
 #[no_mangle]
 pub extern "C" fn lanecockle_list_reference(model: &[u8], text: &[u8], out: &mut [u16]) -> Valued
-    ensures { λ r. ⌜ (r ≡ listedOf (referenceListing (now (model .entry)) (now (text .entry)) (length (now (out .entry))))) × (now (out .exit) ≡ leftBy (referenceListing (now (model .entry)) (now (text .entry)) (length (now (out .entry)))) (referenceFillings (now (model .entry)) (now (text .entry))) (now (out .entry))) ⌝ }
+    ensures { λ r. ⌜ (r ≡ listedOf (referenceListing (now (model .entry)) (now (text .entry)) (length (now (out .entry))))) × (now (out .exit) ≡ leftByListing (referenceListing (now (model .entry)) (now (text .entry)) (length (now (out .entry)))) (referenceFillings (now (model .entry)) (now (text .entry))) (now (out .entry))) ⌝ }
 {
     tell_listed(wet::list_reference(model, text, out))
 }

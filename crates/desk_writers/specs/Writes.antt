@@ -8,4 +8,4 @@ use Rattle.boundary.specs.declared.Told.{Told}
 -- a wage line
 pub record WritesLine (a : Answer) (line out : List ℕ) (r : Told) (after : List ℕ) : Type 0 where
   pub answers : r ≡ toldOf a
-  pub leaves : after ≡ wage.leftBy a line out
+  pub leaves : after ≡ wage.leftByLine a line out

@@ -12,7 +12,7 @@ use lib.ListN.{length, getD, drop}
 use borrow.Author.Tests.{eq-eqb, ne-eqb, eqb-true, eqb-false}
 use Rattle.text.specs.Bytes.{countOf, marks}
 use Rattle.filling.specs.Filling.{fill}
-use Rattle.filling.specs.Claims.{Fills, numberIn}
+use Rattle.filling.specs.Claims.{Fills, fillingNumber}
 
 -- ---------------------------------------------------------------------------
 -- The texts that fill a text
@@ -61,12 +61,12 @@ fill-rest (b ∷ s) d k = go (eqb b 63) (λ d. fill-rest s d k)
     go false ih = rw (ih d)
 
 -- the number of a filling is the number, as far as the marks have digits for it
-pub number-of-fill : (s : List ℕ) (k : ℕ) → numberIn s (fill s k) ≡ k % 10 ^ marks s
-unfolding fill countOf numberIn
+pub number-of-fill : (s : List ℕ) (k : ℕ) → fillingNumber s (fill s k) ≡ k % 10 ^ marks s
+unfolding fill countOf fillingNumber
 number-of-fill [] k = sym (mod-one k)
 number-of-fill (b ∷ s) k = go (eqb b 63) (number-of-fill s k)
   where
-    go : (t : Bool) → numberIn s (fill s k) ≡ k % 10 ^ marks s → cond t ((cond t (48 + (k / 10 ^ marks s) % 10) b - 48) * 10 ^ marks s + numberIn s (fill s k)) (numberIn s (fill s k)) ≡ k % 10 ^ cond t (suc (marks s)) (marks s)
+    go : (t : Bool) → fillingNumber s (fill s k) ≡ k % 10 ^ marks s → cond t ((cond t (48 + (k / 10 ^ marks s) % 10) b - 48) * 10 ^ marks s + fillingNumber s (fill s k)) (fillingNumber s (fill s k)) ≡ k % 10 ^ cond t (suc (marks s)) (marks s)
     go true ih =
         let e : 48 + (k / 10 ^ marks s) % 10 - 48 ≡ (k / 10 ^ marks s) % 10 = omega arith in
         rw (e, ih, pow-succ', mod-mul k {m = 10} {c = 10 ^ marks s} (omega arith) (one-le-pow (marks s) 10 (omega arith)))
@@ -74,36 +74,36 @@ number-of-fill (b ∷ s) k = go (eqb b 63) (number-of-fill s k)
 
 -- two numbers, two fillings
 pub fill-injective : (s : List ℕ) (k k′ : ℕ) → k < 10 ^ marks s → k′ < 10 ^ marks s → fill s k ≡ fill s k′ → k ≡ k′
-fill-injective s k k′ h h′ e = sym (mod-eq-of-lt h) ∙ sym (number-of-fill s k) ∙ ap (numberIn s) e ∙ number-of-fill s k′ ∙ mod-eq-of-lt h′
+fill-injective s k k′ h h′ e = sym (mod-eq-of-lt h) ∙ sym (number-of-fill s k) ∙ ap (fillingNumber s) e ∙ number-of-fill s k′ ∙ mod-eq-of-lt h′
 
 -- the number of a text that fills s has as many digits as s has marks
-number-below : (s t : List ℕ) → Fills s t → numberIn s t < 10 ^ marks s
-unfolding countOf numberIn
+number-below : (s t : List ℕ) → Fills s t → fillingNumber s t < 10 ^ marks s
+unfolding countOf fillingNumber
 number-below [] t f = omega arith
 number-below (b ∷ s) [] f = absurd (omega (arith, f .size))
 number-below (b ∷ s) (c ∷ t) f = go (eqb b 63) refl (number-below s t (rest-fills b c s t f))
   where
-    go : (x : Bool) → eqb b 63 ≡ x → numberIn s t < 10 ^ marks s → cond x ((c - 48) * 10 ^ marks s + numberIn s t) (numberIn s t) < 10 ^ cond x (suc (marks s)) (marks s)
+    go : (x : Bool) → eqb b 63 ≡ x → fillingNumber s t < 10 ^ marks s → cond x ((c - 48) * 10 ^ marks s + fillingNumber s t) (fillingNumber s t) < 10 ^ cond x (suc (marks s)) (marks s)
     go true e ih = let h = f .digit 0 (omega arith) (eqb-true b 63 e) in rw pow-succ' (digits-lt (omega arith) ih)
     go false e ih = ih
 
 -- a text that fills s is the filling by its number
-fill-of-number : (s t : List ℕ) → Fills s t → fill s (numberIn s t) ≡ t
-unfolding fill countOf numberIn
+fill-of-number : (s t : List ℕ) → Fills s t → fill s (fillingNumber s t) ≡ t
+unfolding fill countOf fillingNumber
 fill-of-number [] [] f = refl
 fill-of-number [] (c ∷ t) f = absurd (omega (arith, f .size))
 fill-of-number (b ∷ s) [] f = absurd (omega (arith, f .size))
 fill-of-number (b ∷ s) (c ∷ t) f = go (eqb b 63) refl (fill-of-number s t (rest-fills b c s t f))
   where
-    go : (x : Bool) → eqb b 63 ≡ x → fill s (numberIn s t) ≡ t → _≡_ {A = List ℕ} (cond x (48 + (cond x ((c - 48) * 10 ^ marks s + numberIn s t) (numberIn s t) / 10 ^ marks s) % 10) b ∷ fill s (cond x ((c - 48) * 10 ^ marks s + numberIn s t) (numberIn s t))) (c ∷ t)
+    go : (x : Bool) → eqb b 63 ≡ x → fill s (fillingNumber s t) ≡ t → _≡_ {A = List ℕ} (cond x (48 + (cond x ((c - 48) * 10 ^ marks s + fillingNumber s t) (fillingNumber s t) / 10 ^ marks s) % 10) b ∷ fill s (cond x ((c - 48) * 10 ^ marks s + fillingNumber s t) (fillingNumber s t))) (c ∷ t)
     go true e ih =
         let h = f .digit 0 (omega arith) (eqb-true b 63 e) in
-        rw (fill-rest s (c - 48) (numberIn s t), ih, digits-div (c - 48) (number-below s t (rest-fills b c s t f))) (ap (λ (x : ℕ). x ∷ t) (omega arith))
+        rw (fill-rest s (c - 48) (fillingNumber s t), ih, digits-div (c - 48) (number-below s t (rest-fills b c s t f))) (ap (λ (x : ℕ). x ∷ t) (omega arith))
     go false e ih = rw (ih, f .same 0 (omega arith) (eqb-false b 63 e))
 
 -- every text that fills s is its filling by a number of as many digits as s has marks
 pub fill-onto : (s t : List ℕ) → Fills s t → (k : ℕ) × ((k < 10 ^ marks s) × (fill s k ≡ t))
-fill-onto s t f = (numberIn s t, (number-below s t f, fill-of-number s t f))
+fill-onto s t f = (fillingNumber s t, (number-below s t f, fill-of-number s t f))
 
 -- a text with no mark stays as it is
 pub fill-dry : (s : List ℕ) (k : ℕ) → marks s ≡ 0 → fill s k ≡ s

@@ -9,7 +9,7 @@ pub record Fills (s t : List ℕ) : Type 0 where
   pub digit : (i : ℕ) → i < length s → getD s i 0 ≡ 63 → (48 ≤ getD t i 0) × (getD t i 0 ≤ 57)
 
 -- "Read left to right, the digits filled in form a number": the number that the digits of t at the marks of s form
-unfoldable pub numberIn : List ℕ → List ℕ → ℕ
-numberIn [] t = 0
-numberIn (b ∷ s) [] = 0
-numberIn (b ∷ s) (c ∷ t) = cond (eqb b 63) ((c - 48) * 10 ^ marks s + numberIn s t) (numberIn s t)
+unfoldable pub fillingNumber : List ℕ → List ℕ → ℕ
+fillingNumber [] t = 0
+fillingNumber (b ∷ s) [] = 0
+fillingNumber (b ∷ s) (c ∷ t) = cond (eqb b 63) ((c - 48) * 10 ^ marks s + fillingNumber s t) (fillingNumber s t)

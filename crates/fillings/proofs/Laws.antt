@@ -27,7 +27,7 @@ use Rattle.fillings.specs.declared.Aim.{Aim}
 use Rattle.fillings.specs.declared.Listed.{Listed}
 use Rattle.fillings.specs.declared.Listed.the-variants.{Count, Refused}
 use Rattle.fillings.specs.Fillings.{among, fillings}
-use Rattle.fillings.specs.Answers.{roomAnswer, leftBy, listing}
+use Rattle.fillings.specs.Answers.{listedInRoom, leftByListing, listing}
 use Rattle.fillings.specs.Mirror.{between, block, accepts}
 
 -- ---------------------------------------------------------------------------
@@ -267,12 +267,12 @@ unfolding between fillings
 written-all p s u e w = rw (e, zero-mul) at w
 
 -- more than there is room for: refused
-pub room-refused : (xs : List ℕ) (room n : ℕ) (place : Place) → n ≡ 0 + length xs → room < n → place ≡ none → Refused (Room place n) ≡ roomAnswer xs room
+pub room-refused : (xs : List ℕ) (room n : ℕ) (place : Place) → n ≡ 0 + length xs → room < n → place ≡ none → Refused (Room place n) ≡ listedInRoom xs room
 room-refused xs room n place e h g = let z : n ≡ length xs = omega arith in rw (lt-ltb room (length xs) (omega arith), z, g)
 
 -- there is room: counted, and written at the front
 pub room-counted :
-    (xs b after : List ℕ) (n m : ℕ) → n ≡ 0 + length xs → Stands b 0 xs m after → length xs ≤ length b → (Count n ≡ roomAnswer xs (length b)) × (after ≡ xs ++ drop (length xs) b)
+    (xs b after : List ℕ) (n m : ℕ) → n ≡ 0 + length xs → Stands b 0 xs m after → length xs ≤ length b → (Count n ≡ listedInRoom xs (length b)) × (after ≡ xs ++ drop (length xs) b)
 room-counted xs b after n m e w h = let z : n ≡ length xs = omega arith in (rw (le-ltb (length b) (length xs) h, z), front-stands b after xs m w h)
 
 -- ---------------------------------------------------------------------------
@@ -285,15 +285,15 @@ none-accepted s aim m = among-none (λ (k : ℕ). accepts aim (fill s k)) 0 (10 
 
 -- what a listing over the rule p answers and leaves
 abbrev pub ListedBy : (List ℕ → Bool) → List ℕ → List ℕ → Listed → List ℕ → Type 0
-ListedBy p s out r o = (r ≡ listing p s (length out)) × (o ≡ leftBy r (fillings p s) out)
+ListedBy p s out r o = (r ≡ listing p s (length out)) × (o ≡ leftByListing r (fillings p s) out)
 
 module _ (s : List ℕ) (h : length s ≤ 22) (g : marks s ≤ 4) where
   -- neither 1 nor 16
-  pub taken-on : (p : List ℕ → Bool) (room : ℕ) → listing p s room ≡ roomAnswer (fillings p s) room
+  pub taken-on : (p : List ℕ → Bool) (room : ℕ) → listing p s room ≡ listedInRoom (fillings p s) room
   taken-on p room = rw (le-leb (length s) 22 h, le-leb (marks s) 4 g)
 
   -- so the count and the room are left
-  pub all-listed : (p : List ℕ → Bool) (out : List ℕ) (r : Listed) (o : List ℕ) → (r ≡ roomAnswer (fillings p s) (length out)) × (o ≡ leftBy r (fillings p s) out) → ListedBy p s out r o
+  pub all-listed : (p : List ℕ → Bool) (out : List ℕ) (r : Listed) (o : List ℕ) → (r ≡ listedInRoom (fillings p s) (length out)) × (o ≡ leftByListing r (fillings p s) out) → ListedBy p s out r o
   all-listed p out r o v = (v .0 ∙ sym (taken-on p (length out)), v .1)
 
   -- nothing is listed

@@ -8,17 +8,17 @@ use Rattle.fillings.specs.declared.Listed.{Listed}
 use Rattle.fillings.specs.declared.Listed.the-variants.{Count, Refused}
 
 -- "15 exactly when the count exceeds the room"
-abbrev pub roomAnswer : List ℕ → ℕ → Listed
-roomAnswer xs room = cond (ltb room (length xs)) (Refused (Room none (length xs))) (Count (length xs))
+abbrev pub listedInRoom : List ℕ → ℕ → Listed
+listedInRoom xs room = cond (ltb room (length xs)) (Refused (Room none (length xs))) (Count (length xs))
 
 -- 1 above 22 bytes, 16 above four marks, then 15
 abbrev pub listing : (List ℕ → Bool) → List ℕ → ℕ → Listed
 listing p s room =
     cond (leb (length s) 22)
-    (cond (leb (marks s) 4) (roomAnswer (fillings p s) room) (Refused (Marks none)))
+    (cond (leb (marks s) 4) (listedInRoom (fillings p s) room) (Refused (Marks none)))
     (Refused (Size none))
 
 -- "Entries beyond the count stay"; no refusal changes lent memory
-abbrev pub leftBy : Listed → List ℕ → List ℕ → List ℕ
-leftBy (Count n) xs out = xs ++ drop (length xs) out
-leftBy (Refused r) xs out = out
+abbrev pub leftByListing : Listed → List ℕ → List ℕ → List ℕ
+leftByListing (Count n) xs out = xs ++ drop (length xs) out
+leftByListing (Refused r) xs out = out

@@ -11,7 +11,7 @@ ghost use Rattle.text.specs.Bytes.{marks};
 ghost use Rattle.fillings.specs.Fillings.{fillings};
 ghost use Rattle.text.specs.Stands.{Stands};
 ghost use Rattle.fillings.specs.Mirror.{block, accepts};
-ghost use Rattle.fillings.specs.Answers.{listing, leftBy};
+ghost use Rattle.fillings.specs.Answers.{listing, leftByListing};
 use classes::Class;
 use models::Model;
 use refusal::Refusal;
@@ -110,7 +110,7 @@ fn list(
 // alone. Four marks have ten thousand at most; where `out` has room for fewer they are counted first, so that a refusal
 // leaves it as it was. Refusals: 1 (above 22 bytes), 16, 15; W13's 26 will be asked behind 16.
 pub fn list_into(aim: Aim, s: &[u8], out: &mut [u16]) -> Listed
-    ensures { λ r. ⌜ (r ≡ listing (accepts aim) (now (s .entry)) (length (now (out .entry)))) × (now (out .exit) ≡ leftBy r (fillings (accepts aim) (now (s .entry))) (now (out .entry))) ⌝ }
+    ensures { λ r. ⌜ (r ≡ listing (accepts aim) (now (s .entry)) (length (now (out .entry)))) × (now (out .exit) ≡ leftByListing r (fillings (accepts aim) (now (s .entry))) (now (out .entry))) ⌝ }
 {
     let n = s.len();
     if 22 < n {

@@ -7,7 +7,7 @@ use Prim.Native.Nat.{ℕ, _+_, _/_, _%_, _≤_}
 use native.Mathlib.Omega.{arith}
 use lib.Dec.{eqb, leb}
 use lib.ListN.{length}
-use Rattle.refusal.specs.Refusal.{none, placeOf, inLine, firstOf}
+use Rattle.refusal.specs.Refusal.{none, refusalPlace, inLine, firstOf}
 use Rattle.refusal.specs.declared.Answer.{Answer}
 use Rattle.refusal.specs.declared.Answer.the-variants.{Accepted, Refused}
 use Rattle.refusal.specs.declared.Refusal.{Refusal}
@@ -18,12 +18,12 @@ use Rattle.wage_line.specs.declared.Typed.the-variants as typed
 use Rattle.wage_line.specs.Line.{typedOf}
 use Rattle.wage_line.specs.Pieces.{pieces}
 use Rattle.wage_fields.specs.Rules.{placesAnswer}
-use Rattle.lent_order.specs.Order.{answerIn, orderFrom, orderAnswer}
+use Rattle.lent_order.specs.Order.{answerOfLine, orderFrom, lentOrderAnswer}
 use Rattle.wage_orders.specs.Orders.{ordersFrom, groupOrders}
 use Rattle.line_room.proofs.Laws.{noRoom}
 
 -- the line that is told
-line-told : (n : ℕ) (r : Refusal) → placeOf (inLine n r) .line ≡ n
+line-told : (n : ℕ) (r : Refusal) → refusalPlace (inLine n r) .line ≡ n
 line-told n (Size p) = refl
 line-told n (Ends p) = refl
 line-told n (Byte p) = refl
@@ -43,23 +43,23 @@ line-told n (Marks p) = refl
 line-told n (Beyond p) = refl
 
 -- the refusal that is told of a line
-told-of : (n : ℕ) (q r : Refusal) → Refused (inLine n q) ≡ Refused r → placeOf r .line ≡ n
+told-of : (n : ℕ) (q r : Refusal) → Refused (inLine n q) ≡ Refused r → refusalPlace r .line ≡ n
 told-of n q r e = let g : inLine n q ≡ r = cc in rw (← g) (line-told n q)
 
 module _ (day kind : ℕ) (r : Refusal) where
   -- of one line
-  order-line : (n : ℕ) (s : List ℕ) → orderAnswer day kind n s ≡ Refused r → placeOf r .line ≡ n
-  unfolding orderAnswer
+  order-line : (n : ℕ) (s : List ℕ) → lentOrderAnswer day kind n s ≡ Refused r → refusalPlace r .line ≡ n
+  unfolding lentOrderAnswer
   order-line n s e = go (typedOf s) e
     where
-      places : (a : Answer) → answerIn n a ≡ Refused r → placeOf r .line ≡ n
+      places : (a : Answer) → answerOfLine n a ≡ Refused r → refusalPlace r .line ≡ n
       places Accepted g = let z : _≡_ {A = ℕ} 0 1 = cc in absurd (omega arith)
       places (Refused q) g = told-of n q r g
 
-      other : Refused (Misplaced (record { line = n; field = 0; byte = 0 })) ≡ Refused r → placeOf r .line ≡ n
+      other : Refused (Misplaced (record { line = n; field = 0; byte = 0 })) ≡ Refused r → refusalPlace r .line ≡ n
       other g = told-of n (Misplaced none) r g
 
-      go : (t : Typed) → orderFrom day kind n s t ≡ Refused r → placeOf r .line ≡ n
+      go : (t : Typed) → orderFrom day kind n s t ≡ Refused r → refusalPlace r .line ≡ n
       go (typed.Line Label) g = other g
       go (typed.Line Group) g = other g
       go (typed.Line Order) g = places (placesAnswer day kind Order s) g
@@ -67,14 +67,14 @@ module _ (day kind : ℕ) (r : Refusal) where
       go (typed.Refused q) g = told-of n q r g
 
   -- of lines from one on
-  orders-line : (n : ℕ) (ss : List (List ℕ)) → ordersFrom day kind n ss ≡ Refused r → n ≤ placeOf r .line
+  orders-line : (n : ℕ) (ss : List (List ℕ)) → ordersFrom day kind n ss ≡ Refused r → n ≤ refusalPlace r .line
   unfolding ordersFrom
   orders-line n [] e = let z : _≡_ {A = ℕ} 0 1 = cc in absurd (omega arith)
-  orders-line n (s ∷ ss) e = go (orderAnswer day kind n s) refl e (orders-line (n + 1) ss)
+  orders-line n (s ∷ ss) e = go (lentOrderAnswer day kind n s) refl e (orders-line (n + 1) ss)
     where
       go :
-          (a : Answer) → orderAnswer day kind n s ≡ a → firstOf a (ordersFrom day kind (n + 1) ss) ≡ Refused r
-          → (ordersFrom day kind (n + 1) ss ≡ Refused r → n + 1 ≤ placeOf r .line) → n ≤ placeOf r .line
+          (a : Answer) → lentOrderAnswer day kind n s ≡ a → firstOf a (ordersFrom day kind (n + 1) ss) ≡ Refused r
+          → (ordersFrom day kind (n + 1) ss ≡ Refused r → n + 1 ≤ refusalPlace r .line) → n ≤ refusalPlace r .line
       go Accepted f g later = omega (arith, later g)
       go (Refused q) f g later = omega (arith, order-line n s (f ∙ g))
 

@@ -24,7 +24,7 @@ use Rattle.parts.specs.Mirror.{endsFrom, endsOf, endOf}
 use Rattle.parts.proofs.Pieces.{bound, spanOf, Solid, bound-parts, formed-solid}
 use Rattle.parts.proofs.Ends.{bound-some, end-gone, end-next, end-some, end-there, parts-span, solid-take}
 use Rattle.groups.specs.Groups.{present, groupRight, groupsRight, partsRight}
-use Rattle.groups.specs.Mirror.{startOf, upTo, stretchRight, groupAt, groupsAt, obeysAt}
+use Rattle.groups.specs.Mirror.{groupStart, upTo, stretchRight, groupAt, groupsAt, obeysAt}
 
 -- ---------------------------------------------------------------------------
 -- Parts of the text are stretches of it
@@ -130,13 +130,13 @@ module _ (g : Group) (ps : List (List ℕ)) (s : Solid ps) (h : spanOf ps ≤ 10
   group-right = go (g .skipped) (g .joins)
     where
       go : (k j : ℕ) →
-          cond (eqb j 0 || eqb (endOf k (endsFrom 0 ps)) 0) true (stretchRight (g .rule) (startOf k (endsFrom 0 ps)) (upTo (endOf (k + j - 1) (endsFrom 0 ps)) (bound ps)) (bound ps))
+          cond (eqb j 0 || eqb (endOf k (endsFrom 0 ps)) 0) true (stretchRight (g .rule) (groupStart k (endsFrom 0 ps)) (upTo (endOf (k + j - 1) (endsFrom 0 ps)) (bound ps)) (bound ps))
           ≡ groupRight g (take j (drop k ps))
       go k zero = refl
       go k (suc j) = there (ltb k (length ps)) refl
         where
           there : (b : Bool) → ltb k (length ps) ≡ b →
-              cond (eqb (suc j) 0 || eqb (endOf k (endsFrom 0 ps)) 0) true (stretchRight (g .rule) (startOf k (endsFrom 0 ps)) (upTo (endOf (k + suc j - 1) (endsFrom 0 ps)) (bound ps)) (bound ps))
+              cond (eqb (suc j) 0 || eqb (endOf k (endsFrom 0 ps)) 0) true (stretchRight (g .rule) (groupStart k (endsFrom 0 ps)) (upTo (endOf (k + suc j - 1) (endsFrom 0 ps)) (bound ps)) (bound ps))
               ≡ groupRight g (take (suc j) (drop k ps))
           there true e =
               let l = ltb-true k (length ps) e in

@@ -11,8 +11,8 @@ use Rattle.parts.specs.Mirror.{endOf}
 -- Check groups as stretches of the text, hyphens and all
 
 -- the byte at which part k begins
-abbrev pub startOf : ℕ → ℕ → ℕ
-startOf k ends = cond (eqb k 0) 0 (endOf (k - 1) ends + 1)
+abbrev pub groupStart : ℕ → ℕ → ℕ
+groupStart k ends = cond (eqb k 0) 0 (endOf (k - 1) ends + 1)
 
 -- the end of a stretch, that of a part or, where there is no such part, that of the text
 abbrev pub upTo : ℕ → List ℕ → ℕ
@@ -27,7 +27,7 @@ abbrev pub groupAt : Group → ℕ → List ℕ → Bool
 groupAt g ends s =
     cond (eqb (g .joins) 0 || eqb (endOf (g .skipped) ends) 0)
     true
-    (stretchRight (g .rule) (startOf (g .skipped) ends) (upTo (endOf (g .skipped + g .joins - 1) ends) s) s)
+    (stretchRight (g .rule) (groupStart (g .skipped) ends) (upTo (endOf (g .skipped + g .joins - 1) ends) s) s)
 
 unfoldable pub groupsAt : List Group → ℕ → List ℕ → Bool
 groupsAt [] ends s = true

@@ -2,14 +2,14 @@
 //
 // Document 01, "Reference models". Whoever asks has read the parts and knows where they end (crate `parts`).
 ghost use mathlib.Core.Path.{_≡_};
-ghost use Rattle.groups.specs.Mirror.{startOf, stretchRight, groupAt, obeysAt};
+ghost use Rattle.groups.specs.Mirror.{groupStart, stretchRight, groupAt, obeysAt};
 use check_digits::Rule;
 use models::Group;
 use models::Model;
 
 // The byte at which a part begins.
 fn start_of(k: usize, ends: usize) -> usize
-    ensures { λ r. ⌜ r ≡ startOf k ends ⌝ }
+    ensures { λ r. ⌜ r ≡ groupStart k ends ⌝ }
 {
     if k == 0 {
         return 0;

@@ -13,9 +13,9 @@ use Rattle.wage_line.specs.Line.{typedOf}
 use Rattle.wage_fields.specs.Rules.{placesAnswer}
 
 -- an answer of line n, a refusal's field and byte kept
-abbrev pub answerIn : ℕ → Answer → Answer
-answerIn n Accepted = Accepted
-answerIn n (answer.Refused r) = answer.Refused (inLine n r)
+abbrev pub answerOfLine : ℕ → Answer → Answer
+answerOfLine n Accepted = Accepted
+answerOfLine n (answer.Refused r) = answer.Refused (inLine n r)
 
 -- another type
 abbrev pub noOrder : ℕ → Answer
@@ -24,10 +24,10 @@ noOrder n = answer.Refused (Misplaced (record { line = n; field = 0; byte = 0 })
 abbrev pub orderFrom : ℕ → ℕ → ℕ → List ℕ → Typed → Answer
 orderFrom day kind n s (Line Label) = noOrder n
 orderFrom day kind n s (Line Group) = noOrder n
-orderFrom day kind n s (Line Order) = answerIn n (placesAnswer day kind Order s)
+orderFrom day kind n s (Line Order) = answerOfLine n (placesAnswer day kind Order s)
 orderFrom day kind n s (Line Closing) = noOrder n
 orderFrom day kind n s (Refused r) = answer.Refused (inLine n r)
 
 -- line n of a group's orders
-unfoldable pub orderAnswer : ℕ → ℕ → ℕ → List ℕ → Answer
-orderAnswer day kind n s = orderFrom day kind n s (typedOf s)
+unfoldable pub lentOrderAnswer : ℕ → ℕ → ℕ → List ℕ → Answer
+lentOrderAnswer day kind n s = orderFrom day kind n s (typedOf s)

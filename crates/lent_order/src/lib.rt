@@ -4,7 +4,7 @@
 // group".
 ghost use mathlib.Core.Path.{_≡_};
 ghost use Rattle.wage_fields.specs.Rules.{placesAnswer};
-ghost use Rattle.lent_order.specs.Order.{answerIn, noOrder, orderAnswer};
+ghost use Rattle.lent_order.specs.Order.{answerOfLine, noOrder, lentOrderAnswer};
 use refusal::Answer;
 use refusal::Place;
 use refusal::Refusal;
@@ -25,7 +25,7 @@ fn no_order(n: usize) -> Answer
 
 // An order's fields, a refusal told of its line.
 fn judge_fields(day: u64, kind: u64, n: usize, s: &[u8]) -> Answer
-    ensures { λ r. ⌜ r ≡ answerIn n (placesAnswer day kind LineType.Order (now (s .entry))) ⌝ }
+    ensures { λ r. ⌜ r ≡ answerOfLine n (placesAnswer day kind LineType.Order (now (s .entry))) ⌝ }
 {
     match wage_fields::judge_places(day, kind, LineType::Order, s) {
         Answer::Accepted => Answer::Accepted,
@@ -35,7 +35,7 @@ fn judge_fields(day: u64, kind: u64, n: usize, s: &[u8]) -> Answer
 
 // One line of a group's orders.
 pub fn judge_order(day: u64, kind: u64, n: usize, s: &[u8]) -> Answer
-    ensures { λ r. ⌜ r ≡ orderAnswer day kind n (now (s .entry)) ⌝ }
+    ensures { λ r. ⌜ r ≡ lentOrderAnswer day kind n (now (s .entry)) ⌝ }
 {
     match wage_line::read_type(s) {
         Typed::Line(t) => match t {

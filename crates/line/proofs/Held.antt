@@ -10,7 +10,7 @@ use lib.ListN.{length, take, set, length-append, length-take, length-set}
 use lib.Seq.{take-all, take-suc-set, take-append-le, take-nil}
 use borrow.Author.Tests.{ltb-true, ltb-false}
 use Rattle.line.specs.Mirror.{Kept, took, feed}
-use Rattle.line.specs.Line.{before, after, has, lineOf, headOf, tailOf}
+use Rattle.line.specs.Line.{before, following, has, lineOf, headOf, tailOf}
 use Rattle.classes.proofs.Choices.{taken, left}
 use Rattle.line.proofs.Laws.{took-feed, took-behind, took-space, took-ahead, feed-ended}
 
@@ -107,7 +107,7 @@ module _ (m n : ℕ) where
 
   -- and from before it
   pub rest-ahead : (s hs : List ℕ) (k : Kept) → State m n hs [] false false k → State m n (hs ++ headOf s) (tailOf s) (has 32 (lineOf s)) (has 10 s) (feed k s)
-  unfolding feed before after has
+  unfolding feed before following has
   rest-ahead [] hs k g = rw append-nil g
   rest-ahead (b ∷ s) hs k g =
       cases (eqb b 10)

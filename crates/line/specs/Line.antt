@@ -7,9 +7,9 @@ before c [] = []
 before c (b ∷ s) = cond (eqb b c) [] (b ∷ before c s)
 
 -- what stands after the first byte c; nothing where there is none
-unfoldable pub after : ℕ → List ℕ → List ℕ
-after c [] = []
-after c (b ∷ s) = cond (eqb b c) s (after c s)
+unfoldable pub following : ℕ → List ℕ → List ℕ
+following c [] = []
+following c (b ∷ s) = cond (eqb b c) s (following c s)
 
 -- whether there is a byte c
 unfoldable pub has : ℕ → List ℕ → Bool
@@ -25,4 +25,4 @@ abbrev pub headOf : List ℕ → List ℕ
 headOf s = before 32 (lineOf s)
 
 abbrev pub tailOf : List ℕ → List ℕ
-tailOf s = after 32 (lineOf s)
+tailOf s = following 32 (lineOf s)

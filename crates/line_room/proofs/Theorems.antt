@@ -12,18 +12,18 @@ use Rattle.refusal.specs.declared.Answer.{Answer}
 use Rattle.refusal.specs.declared.Answer.the-variants.{Accepted, Refused}
 use Rattle.refusal.specs.declared.Refusal.{Refusal}
 use Rattle.dates.specs.Dates.{isDate}
-use Rattle.line_room.specs.LineRoom.{forRoom, closingAnswer, leftBy}
+use Rattle.line_room.specs.LineRoom.{forRoom, closingAnswer, leftByLine}
 use Rattle.line_room.proofs.Laws.{noRoom, day-before, room-before}
 
 -- ---------------------------------------------------------------------------
 -- What is not changed
 
 -- a refusal leaves the whole room as it was
-pub refusal-leaves-all : (r : Refusal) (line out : List ℕ) → leftBy (Refused r) line out ≡ out
+pub refusal-leaves-all : (r : Refusal) (line out : List ℕ) → leftByLine (Refused r) line out ≡ out
 refusal-leaves-all r line out = refl
 
 -- and a line leaves what is behind it
-pub behind-kept : (a : Answer) (line out : List ℕ) → length line ≡ 1002 → drop 1002 (leftBy a line out) ≡ drop 1002 out
+pub behind-kept : (a : Answer) (line out : List ℕ) → length line ≡ 1002 → drop 1002 (leftByLine a line out) ≡ drop 1002 out
 behind-kept Accepted line out e = drop-at line (drop 1002 out) 1002 e
 behind-kept (Refused r) line out e = refl
 

@@ -28,11 +28,11 @@ closingAnswer day room = forDay day (forRoom room)
 -- What is left in the lent room
 
 -- the line at the front, "changes nothing after the line"; a refusal changes nothing
-abbrev pub leftBy : Answer → List ℕ → List ℕ → List ℕ
-leftBy Accepted line out = line ++ drop 1002 out
-leftBy (Refused r) line out = out
+abbrev pub leftByLine : Answer → List ℕ → List ℕ → List ℕ
+leftByLine Accepted line out = line ++ drop 1002 out
+leftByLine (Refused r) line out = out
 
 -- a call that answers so, and leaves that
 pub record Writes (a : Answer) (line out : List ℕ) (r : Answer) (after : List ℕ) : Type 0 where
   pub answers : r ≡ a
-  pub leaves : after ≡ leftBy a line out
+  pub leaves : after ≡ leftByLine a line out

@@ -3,12 +3,12 @@
 use mathlib.Core.Path.{_≡_, refl}
 use Rattle.refusal.specs.declared.Refusal.{Refusal}
 use Rattle.refusal.specs.declared.Refusal.the-variants.{Size, Ends, Byte, Length, Form, Check, Model, Parts, Digit, Misplaced, Date, Orders, Sum, Unfinished, Room, Marks, Beyond}
-use Rattle.refusal.specs.Refusal.{numberOf, placeOf, neededOf, refusalOf}
+use Rattle.refusal.specs.Refusal.{refusalNumber, refusalPlace, neededOf, refusalOf}
 
 -- ---------------------------------------------------------------------------
 -- The paper's number, the place and the needed number say all that a refusal holds
 
-pub numbers-tell-all : (r : Refusal) → refusalOf (numberOf r) (placeOf r) (neededOf r) ≡ r
+pub numbers-tell-all : (r : Refusal) → refusalOf (refusalNumber r) (refusalPlace r) (neededOf r) ≡ r
 numbers-tell-all (Size p) = refl
 numbers-tell-all (Ends p) = refl
 numbers-tell-all (Byte p) = refl

@@ -11,44 +11,44 @@ abbrev pub none : Place
 none = record { line = 0; field = 0; byte = 0 }
 
 -- the numbers of the table
-abbrev pub numberOf : Refusal → ℕ
-numberOf (Size p) = 1
-numberOf (Ends p) = 2
-numberOf (Byte p) = 3
-numberOf (Length p) = 4
-numberOf (Form p) = 5
-numberOf (Check p) = 6
-numberOf (Model p) = 7
-numberOf (Parts p) = 8
-numberOf (Digit p) = 9
-numberOf (Misplaced p) = 10
-numberOf (Date p) = 11
-numberOf (Orders p) = 12
-numberOf (Sum p) = 13
-numberOf (Unfinished p) = 14
-numberOf (Room p n) = 15
-numberOf (Marks p) = 16
-numberOf (Beyond p) = 17
+abbrev pub refusalNumber : Refusal → ℕ
+refusalNumber (Size p) = 1
+refusalNumber (Ends p) = 2
+refusalNumber (Byte p) = 3
+refusalNumber (Length p) = 4
+refusalNumber (Form p) = 5
+refusalNumber (Check p) = 6
+refusalNumber (Model p) = 7
+refusalNumber (Parts p) = 8
+refusalNumber (Digit p) = 9
+refusalNumber (Misplaced p) = 10
+refusalNumber (Date p) = 11
+refusalNumber (Orders p) = 12
+refusalNumber (Sum p) = 13
+refusalNumber (Unfinished p) = 14
+refusalNumber (Room p n) = 15
+refusalNumber (Marks p) = 16
+refusalNumber (Beyond p) = 17
 
 -- line, field and byte
-abbrev pub placeOf : Refusal → Place
-placeOf (Size p) = p
-placeOf (Ends p) = p
-placeOf (Byte p) = p
-placeOf (Length p) = p
-placeOf (Form p) = p
-placeOf (Check p) = p
-placeOf (Model p) = p
-placeOf (Parts p) = p
-placeOf (Digit p) = p
-placeOf (Misplaced p) = p
-placeOf (Date p) = p
-placeOf (Orders p) = p
-placeOf (Sum p) = p
-placeOf (Unfinished p) = p
-placeOf (Room p n) = p
-placeOf (Marks p) = p
-placeOf (Beyond p) = p
+abbrev pub refusalPlace : Refusal → Place
+refusalPlace (Size p) = p
+refusalPlace (Ends p) = p
+refusalPlace (Byte p) = p
+refusalPlace (Length p) = p
+refusalPlace (Form p) = p
+refusalPlace (Check p) = p
+refusalPlace (Model p) = p
+refusalPlace (Parts p) = p
+refusalPlace (Digit p) = p
+refusalPlace (Misplaced p) = p
+refusalPlace (Date p) = p
+refusalPlace (Orders p) = p
+refusalPlace (Sum p) = p
+refusalPlace (Unfinished p) = p
+refusalPlace (Room p n) = p
+refusalPlace (Marks p) = p
+refusalPlace (Beyond p) = p
 
 -- "the needed number is told" by 15; the others need none
 abbrev pub neededOf : Refusal → ℕ
@@ -93,16 +93,16 @@ refusalOf k p n =
 
 -- the same refusal, told of the place q
 abbrev pub moved : Place → Refusal → Refusal
-moved q r = refusalOf (numberOf r) q (neededOf r)
+moved q r = refusalOf (refusalNumber r) q (neededOf r)
 
 -- a refusal of a line, its field and byte kept
 abbrev pub inLine : ℕ → Refusal → Refusal
-inLine n r = moved (record { line = n; field = placeOf r .field; byte = placeOf r .byte }) r
+inLine n r = moved (record { line = n; field = refusalPlace r .field; byte = refusalPlace r .byte }) r
 
 -- an answer's number: 0 is acceptance
 abbrev pub answerNumber : Answer → ℕ
 answerNumber Accepted = 0
-answerNumber (Refused r) = numberOf r
+answerNumber (Refused r) = refusalNumber r
 
 -- an answer refuses nothing
 abbrev pub isAccepted : Answer → Bool

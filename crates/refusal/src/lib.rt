@@ -3,7 +3,7 @@
 // What the paper's number, place and needed count of a refusal are is said once, in specs/Refusal.antt,
 // and every promise above speaks of refusals through it. A request of document 02 adds a case here.
 ghost use mathlib.Core.Path.{_≡_};
-ghost use Rattle.refusal.specs.Refusal.{none, numberOf, placeOf, neededOf, refusalOf, moved, inLine, isAccepted};
+ghost use Rattle.refusal.specs.Refusal.{none, refusalNumber, refusalPlace, neededOf, refusalOf, moved, inLine, isAccepted};
 
 // Where a refusal stands. Lines and fields count from 1, bytes from 0; 0 stands for "none".
 pub struct Place {
@@ -53,7 +53,7 @@ pub fn nowhere() -> Place
 
 // The paper's number of a refusal.
 pub fn number(refusal: Refusal) -> u32
-    ensures { λ r. ⌜ r ≡ numberOf refusal ⌝ }
+    ensures { λ r. ⌜ r ≡ refusalNumber refusal ⌝ }
 {
     match refusal {
         Refusal::Size(_) => 1,
@@ -78,7 +78,7 @@ pub fn number(refusal: Refusal) -> u32
 
 // The place that a refusal tells.
 pub fn told(refusal: Refusal) -> Place
-    ensures { λ r. ⌜ r ≡ placeOf refusal ⌝ }
+    ensures { λ r. ⌜ r ≡ refusalPlace refusal ⌝ }
 {
     match refusal {
         Refusal::Size(p) => p,

@@ -20,14 +20,14 @@ use Rattle.text.proofs.Laws.{to-the-end}
 use Rattle.classes.proofs.Choices.{left, entered}
 use Rattle.slip.specs.Slip.{slipAnswer, pieceOf}
 use Rattle.slip.proofs.Laws.{first-piece, split-at, split-whole}
-use Rattle.slip_handed.specs.Handed.{startOf, piecePart, isHanded, fieldPart, fieldOf}
+use Rattle.slip_handed.specs.Handed.{pieceStart, piecePart, isHanded, fieldPart, fieldOf}
 
 -- ---------------------------------------------------------------------------
 -- Where a piece stands
 
 -- with pieces behind a first one of i bytes
-start-behind : (s t : List ℕ) (i k : ℕ) → i ≤ length s → startOf (suc k) (take i s ∷ split 10 t) ≡ i + 1 + startOf k (split 10 t)
-unfolding startOf
+start-behind : (s t : List ℕ) (i k : ℕ) → i ≤ length s → pieceStart (suc k) (take i s ∷ split 10 t) ≡ i + 1 + pieceStart k (split 10 t)
+unfolding pieceStart
 start-behind s t i k h = rw (first-piece 10 t .2, length-take-le i s h)
 
 -- a part further on in the text
@@ -40,7 +40,7 @@ behind-none p = rw (zero-add (p .start))
 
 -- past the end of a text without a line feed there is no piece
 piece-past : (s : List ℕ) (k : ℕ) → 0 < k → firstBad Line s ≡ Nothing → piecePart k (split 10 s) ≡ record { start = 0; length = 0 }
-unfolding startOf pieceOf
+unfolding pieceStart pieceOf
 piece-past s zero h e = absurd (omega arith)
 piece-past s (suc k) h e = rw (split-whole s e)
 
@@ -60,7 +60,7 @@ module _ (s : List ℕ) (at left : ℕ) where
       (i : ℕ) → 0 < left → firstBad Line (take (length s - at) (drop at s)) ≡ At i
       → behind at (piecePart left (split 10 (drop at s))) ≡ behind (at + (i + 1)) (piecePart (left - 1) (split 10 (drop (at + (i + 1)) s)))
   piece-again i h e =
-      let q : at + (i + 1 + startOf (left - 1) (split 10 (drop (at + (i + 1)) s))) ≡ at + (i + 1) + startOf (left - 1) (split 10 (drop (at + (i + 1)) s)) = omega arith in
+      let q : at + (i + 1 + pieceStart (left - 1) (split 10 (drop (at + (i + 1)) s))) ≡ at + (i + 1) + pieceStart (left - 1) (split 10 (drop (at + (i + 1)) s)) = omega arith in
       ap (behind at) (piece-on (drop at s) left i h (rw (to-the-end at s) at e)) ∙ rw (drop-drop (i + 1) at s, q)
 
   -- none: it has no byte
@@ -74,7 +74,7 @@ module _ (s : List ℕ) (at left : ℕ) where
   pub piece-here :
       (r : ℕ) → left ≤ 0 → r ≡ length (pieceOf 0 (split 10 (take (length s - at) (drop at s))))
       → record { start = at; length = r } ≡ behind at (piecePart left (split 10 (drop at s)))
-  unfolding startOf
+  unfolding pieceStart
   piece-here r h e = let z : left ≡ 0 = omega arith in rw (z, e, to-the-end at s, add-zero at)
 
 -- its bytes are the piece's, and lie within the text
@@ -82,7 +82,7 @@ abbrev pub Stands : List ℕ → List ℕ → Part → Type 0
 Stands s piece p = (p .start + p .length ≤ length s) × (take (p .length) (drop (p .start) s) ≡ piece)
 
 pub piece-stands : (k : ℕ) (s : List ℕ) → Stands s (pieceOf k (split 10 s)) (piecePart k (split 10 s))
-unfolding pieceOf startOf
+unfolding pieceOf pieceStart
 piece-stands zero s = go (firstBad Line s) refl
   where
     go : (f : Found) → firstBad Line s ≡ f → Stands s (pieceOf 0 (split 10 s)) (piecePart 0 (split 10 s))
@@ -96,7 +96,7 @@ piece-stands (suc k) s = go (firstBad Line s) refl (λ t. piece-stands k t)
     go (At i) e on =
         let d = split-at s i e in
         let t = drop (i + 1) s in
-        rw (d .1, start-behind s t i k (omega (arith, d .0)), ← (drop-drop (startOf k (split 10 t)) (i + 1) s))
+        rw (d .1, start-behind s t i k (omega (arith, d .0)), ← (drop-drop (pieceStart k (split 10 t)) (i + 1) s))
         (omega (arith, on t .0, d .0, length-drop (i + 1) s), on t .1)
     go Nothing e on = rw (split-whole s e) (omega arith, refl)
 

@@ -24,15 +24,15 @@ unfoldable pub fieldOf : List ℕ → ℕ → List ℕ
 fieldOf s n = cond (isHanded s n) (pieceOf (n - 1) (split 10 s)) []
 
 -- where the piece at a place begins, behind the pieces before it and their line feeds
-unfoldable pub startOf : ℕ → List (List ℕ) → ℕ
-startOf zero ps = 0
-startOf (suc k) [] = 0
-startOf (suc k) (p ∷ []) = 0
-startOf (suc k) (p ∷ (q ∷ ps)) = length p + 1 + startOf k (q ∷ ps)
+unfoldable pub pieceStart : ℕ → List (List ℕ) → ℕ
+pieceStart zero ps = 0
+pieceStart (suc k) [] = 0
+pieceStart (suc k) (p ∷ []) = 0
+pieceStart (suc k) (p ∷ (q ∷ ps)) = length p + 1 + pieceStart k (q ∷ ps)
 
 -- the same field told as start and length
 abbrev pub piecePart : ℕ → List (List ℕ) → Part
-piecePart k ps = record { start = startOf k ps; length = length (pieceOf k ps) }
+piecePart k ps = record { start = pieceStart k ps; length = length (pieceOf k ps) }
 
 unfoldable pub fieldPart : List ℕ → ℕ → Part
 fieldPart s n = cond (isHanded s n) (piecePart (n - 1) (split 10 s)) (record { start = 0; length = 0 })
@@ -49,5 +49,5 @@ centsFrom s Accepted = Cents (amountOf s)
 centsFrom s (Refused r) = amount.Refused r
 
 -- the amount of an accepted slip in cents; else its refusal
-abbrev pub centsOf : List ℕ → Amount
-centsOf s = centsFrom s (slipAnswer s)
+abbrev pub slipCents : List ℕ → Amount
+slipCents s = centsFrom s (slipAnswer s)

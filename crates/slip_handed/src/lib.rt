@@ -7,7 +7,7 @@ ghost use lib.ListN.{length, take, drop};
 ghost use Rattle.refusal.specs.Refusal.{isAccepted};
 ghost use Rattle.text.specs.Split.{split};
 ghost use Rattle.slip.specs.Slip.{slipAnswer, pieceOf};
-ghost use Rattle.slip_handed.specs.Handed.{piecePart, fieldPart, fieldOf, centsOf};
+ghost use Rattle.slip_handed.specs.Handed.{piecePart, fieldPart, fieldOf, slipCents};
 use classes::Class;
 use refusal::Answer;
 use refusal::Refusal;
@@ -109,7 +109,7 @@ pub enum Amount {
 
 // The amount of a slip in cents.
 pub fn cents(s: &[u8]) -> Amount
-    ensures { λ r. ⌜ r ≡ centsOf (now (s .entry)) ⌝ }
+    ensures { λ r. ⌜ r ≡ slipCents (now (s .entry)) ⌝ }
 {
     match slip::read(s) {
         Answer::Accepted => Amount::Cents(sums::number(bytes(s, piece(s, 2)))),

@@ -18,7 +18,7 @@ use Rattle.slip_fields.specs.Fields.{hrvhub30}
 use Rattle.room.proofs.Digits.{digits-length}
 use Rattle.slip_given.specs.Given.{givenAnswer, three}
 use Rattle.slip_writer.specs.declared.Written.{Written}
-use Rattle.slip_writer.specs.Writer.{joinLines, slipText, roomAnswer, writeAnswer}
+use Rattle.slip_writer.specs.Writer.{joinLines, slipText, writtenInRoom, writeAnswer}
 use Rattle.slip_writer.specs.Steps.{WritesSlip, WritesAccepted}
 
 -- ---------------------------------------------------------------------------
@@ -110,11 +110,11 @@ module _ (cents : ℕ) (ps qs rs : List (List ℕ)) where
 
 -- more than there is room for: refused
 pub room-refused :
-    (s : List ℕ) (room n : ℕ) (place : Place) → n ≡ length s → room < n → place ≡ none → Written.Refused (Room place n) ≡ roomAnswer s room
+    (s : List ℕ) (room n : ℕ) (place : Place) → n ≡ length s → room < n → place ≡ none → Written.Refused (Room place n) ≡ writtenInRoom s room
 room-refused s room n place e h g = rw (lt-ltb room (length s) (omega arith), e, g)
 
 -- there is room: counted
-pub room-counted : (s : List ℕ) (room n : ℕ) → n ≡ length s → n ≤ room → Written.Bytes n ≡ roomAnswer s room
+pub room-counted : (s : List ℕ) (room n : ℕ) → n ≡ length s → n ≤ room → Written.Bytes n ≡ writtenInRoom s room
 room-counted s room n e h = rw (le-ltb room (length s) (omega arith), e)
 
 -- ---------------------------------------------------------------------------

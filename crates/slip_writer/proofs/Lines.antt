@@ -13,7 +13,7 @@ use Rattle.classes.specs.declared.Class.the-variants.{Line}
 use Rattle.text.specs.Split.{longer, split}
 use Rattle.classes.proofs.Choices.{both-true}
 use Rattle.slip_writer.specs.Writer.{joinLines}
-use Rattle.slip_writer.specs.Claims.{EachLine, none, more, linesOf}
+use Rattle.slip_writer.specs.Claims.{EachLine, none, more, slipLines}
 
 -- ---------------------------------------------------------------------------
 -- Lines joined, then split
@@ -89,14 +89,14 @@ split-some (b ∷ s) = go (eqb b 10)
     go false = longer-some b (split 10 s)
 
 -- the lines and what stands behind the last one make up the text
-split-join : (s : List ℕ) → joinLines (linesOf (split 10 s)) ++ lastPiece (split 10 s) ≡ s
+split-join : (s : List ℕ) → joinLines (slipLines (split 10 s)) ++ lastPiece (split 10 s) ≡ s
 unfolding split joinLines
 split-join [] = refl
 split-join (b ∷ s) = go (eqb b 10) refl (split 10 s) (split-some s) (split-join s)
   where
     go :
-        (t : Bool) → eqb b 10 ≡ t → (qs : List (List ℕ)) → 0 < length qs → joinLines (linesOf qs) ++ lastPiece qs ≡ s
-        → joinLines (linesOf (cond t ([] ∷ qs) (longer b qs))) ++ lastPiece (cond t ([] ∷ qs) (longer b qs)) ≡ b ∷ s
+        (t : Bool) → eqb b 10 ≡ t → (qs : List (List ℕ)) → 0 < length qs → joinLines (slipLines qs) ++ lastPiece qs ≡ s
+        → joinLines (slipLines (cond t ([] ∷ qs) (longer b qs))) ++ lastPiece (cond t ([] ∷ qs) (longer b qs)) ≡ b ∷ s
     go t e [] l ih = absurd (omega arith)
     go true e (q ∷ qs) l ih = rw (eqb-true b 10 e, ih)
     go false e (q ∷ []) l ih = rw ih
@@ -123,14 +123,14 @@ free-last (b ∷ []) e l g = eqb-false b 10 (line-first b [] e .0) g
 free-last (b ∷ (c ∷ p)) e l g = free-last (c ∷ p) (line-first b (c ∷ p) e .1) (omega arith) (sym (last-append (b ∷ []) (c ∷ p) (omega arith)) ∙ g)
 
 -- a text that ends in a line feed is its lines
-pub joined-split : (s : List ℕ) → getD s (length s - 1) 0 ≡ 10 → joinLines (linesOf (split 10 s)) ≡ s
+pub joined-split : (s : List ℕ) → getD s (length s - 1) 0 ≡ 10 → joinLines (slipLines (split 10 s)) ≡ s
 joined-split s e = go (lastPiece (split 10 s)) refl
   where
-    go : (p : List ℕ) → lastPiece (split 10 s) ≡ p → joinLines (linesOf (split 10 s)) ≡ s
-    go [] g = sym (append-nil (joinLines (linesOf (split 10 s)))) ∙ rw g at (split-join s)
+    go : (p : List ℕ) → lastPiece (split 10 s) ≡ p → joinLines (slipLines (split 10 s)) ≡ s
+    go [] g = sym (append-nil (joinLines (slipLines (split 10 s)))) ∙ rw g at (split-join s)
     go (b ∷ p) g =
-        let w : joinLines (linesOf (split 10 s)) ++ (b ∷ p) ≡ s = rw g at (split-join s) in
-        absurd (free-last (b ∷ p) (rw g at (last-free s)) (omega arith) (sym (last-append (joinLines (linesOf (split 10 s))) (b ∷ p) (omega arith)) ∙ rw w e))
+        let w : joinLines (slipLines (split 10 s)) ++ (b ∷ p) ≡ s = rw g at (split-join s) in
+        absurd (free-last (b ∷ p) (rw g at (last-free s)) (omega arith) (sym (last-append (joinLines (slipLines (split 10 s))) (b ∷ p) (omega arith)) ∙ rw w e))
 
 -- ---------------------------------------------------------------------------
 -- How many
@@ -151,17 +151,17 @@ pieces-counted (b ∷ s) = go (eqb b 10) (pieces-counted s)
     go false ih = longer-length b (split 10 s) (split-some s) ∙ ih
 
 -- one line fewer than pieces
-lines-counted : (ps : List (List ℕ)) → length (linesOf ps) ≡ length ps - 1
+lines-counted : (ps : List (List ℕ)) → length (slipLines ps) ≡ length ps - 1
 lines-counted [] = omega arith
 lines-counted (p ∷ []) = omega arith
 lines-counted (p ∷ (q ∷ ps)) = omega (arith, lines-counted (q ∷ ps))
 
 -- as many lines as line feeds
-pub lines-of-text : (s : List ℕ) → length (linesOf (split 10 s)) ≡ countOf 10 s
+pub lines-of-text : (s : List ℕ) → length (slipLines (split 10 s)) ≡ countOf 10 s
 lines-of-text s = omega (arith, lines-counted (split 10 s), pieces-counted s)
 
 -- a line is the piece at its place
-pub line-at : (ps : List (List ℕ)) (i : ℕ) → i < length (linesOf ps) → getD (linesOf ps) i [] ≡ getD ps i []
+pub line-at : (ps : List (List ℕ)) (i : ℕ) → i < length (slipLines ps) → getD (slipLines ps) i [] ≡ getD ps i []
 line-at [] i h = refl
 line-at (p ∷ []) i h = absurd (omega arith)
 line-at (p ∷ (q ∷ ps)) zero h = refl

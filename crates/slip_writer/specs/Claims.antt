@@ -16,14 +16,14 @@ pub data EachLine : List (List ℕ) → Type 0 where
   more : {p : List ℕ} {ps : List (List ℕ)} → allOf Line p ≡ true → EachLine ps → EachLine (p ∷ ps)
 
 -- all pieces but the last: the lines of a text
-abbrev pub linesOf : List (List ℕ) → List (List ℕ)
-linesOf [] = []
-linesOf (p ∷ []) = []
-linesOf (p ∷ (q ∷ ps)) = p ∷ linesOf (q ∷ ps)
+abbrev pub slipLines : List (List ℕ) → List (List ℕ)
+slipLines [] = []
+slipLines (p ∷ []) = []
+slipLines (p ∷ (q ∷ ps)) = p ∷ slipLines (q ∷ ps)
 
 -- the fields 4 to 14 of a slip
-abbrev pub fieldsOf : List ℕ → List (List ℕ)
-fieldsOf s =
+abbrev pub slipFields : List ℕ → List (List ℕ)
+slipFields s =
     eleven (fieldOf s 4) (fieldOf s 5) (fieldOf s 6) (fieldOf s 7) (fieldOf s 8) (fieldOf s 9) (fieldOf s 10) (fieldOf s 11) (fieldOf s 12) (fieldOf s 13) (fieldOf s 14)
 
 -- a slip of n bytes was written: the reader accepts it, and it has the amount and the fields that were given
@@ -36,6 +36,6 @@ pub record ReadsBack (cents : ℕ) (fields : List (List ℕ)) (n : ℕ) : Type 0
 
 -- the amount and the fields of a slip make up the slip, and the writer refuses none of them
 pub record WritesBack (s : List ℕ) : Type 0 where
-  pub same : slipText (amountOf s) (fieldsOf s) ≡ s
+  pub same : slipText (amountOf s) (slipFields s) ≡ s
   pub small : amountOf s < 10 ^ 15
-  pub given : givenAnswer 4 [] (fieldsOf s) ≡ Accepted
+  pub given : givenAnswer 4 [] (slipFields s) ≡ Accepted

@@ -27,11 +27,11 @@ slipText cents fields = joinLines (hrvhub30 ∷ (eur ∷ (digitsText 15 cents �
 -- Answers
 
 -- "then 15 exactly when the room is too small"
-abbrev pub roomAnswer : List ℕ → ℕ → Written
-roomAnswer s room = cond (ltb room (length s)) (Refused (Room none (length s))) (Bytes (length s))
+abbrev pub writtenInRoom : List ℕ → ℕ → Written
+writtenInRoom s room = cond (ltb room (length s)) (Refused (Room none (length s))) (Bytes (length s))
 
 abbrev pub afterFields : Answer → List ℕ → ℕ → Written
-afterFields answer.Accepted s room = roomAnswer s room
+afterFields answer.Accepted s room = writtenInRoom s room
 afterFields (answer.Refused r) s room = Refused r
 
 -- "the amount in cents (10^15 or more is 4)"
@@ -42,6 +42,6 @@ writeAnswer cents fields room =
     (Refused (Length (record { line = 0; field = 3; byte = 0 })))
 
 -- "It writes at the front and changes nothing after the slip"; no refusal changes lent memory
-abbrev pub leftBy : Written → List ℕ → List ℕ → List ℕ
-leftBy (Bytes n) s out = s ++ drop (length s) out
-leftBy (Refused r) s out = out
+abbrev pub leftBySlip : Written → List ℕ → List ℕ → List ℕ
+leftBySlip (Bytes n) s out = s ++ drop (length s) out
+leftBySlip (Refused r) s out = out

@@ -22,7 +22,7 @@ use Rattle.bare_line.specs.Bare.{bareLine}
 use Rattle.bare_line.proofs.Theorems.{bare-line}
 use Rattle.lent_fields.specs.Fields.{fieldsOf}
 use Rattle.lent_fields.proofs.Laws.{fields-joined}
-use Rattle.wage_draft.specs.Draft.{Draft, placed, goingOn, drafted, partsOf, sizesOf, blanked, plainElsewhere}
+use Rattle.wage_draft.specs.Draft.{Draft, placed, goingOn, drafted, partsOfLine, sizesOf, blanked, plainElsewhere}
 use Rattle.wage_draft.proofs.Laws.{drafted-first, going-twice, no-places, later-field, empty-fields, places-rising, drafted-kept, drafted-accepted, drafted-plain, parts-drafted, parts-sized}
 
 -- ---------------------------------------------------------------------------
@@ -84,7 +84,7 @@ pub record DraftedRight (day kind : ℕ) (t : LineType) (fs : List (List ℕ)) (
   pub plain : plainElsewhere t line
 
 -- a line's part at a place, by its order
-part-at : (t : LineType) (s : List ℕ) (k : ℕ) → getD (partsOf t s) k [] ≡ partAt (placeAt t k) s
+part-at : (t : LineType) (s : List ℕ) (k : ℕ) → getD (partsOfLine t s) k [] ≡ partAt (placeAt t k) s
 part-at t s k = List·getD-map (λ (p : Spot). partAt p s) (spots t) k noSpot
 
 module _ (day kind : ℕ) (t : LineType) where
@@ -114,7 +114,7 @@ module _ (day kind : ℕ) (t : LineType) where
   -- "Read and written again, a file is the same where those places held that": of each line
   pub right-drafted :
       (s : List ℕ) → typedOf s ≡ Line t → placesAnswer day kind t s ≡ Accepted → plainElsewhere t s
-      → drafted day kind t (spots t) (partsOf t s) (bareLine t) ≡ record { answer = Accepted; line = s }
+      → drafted day kind t (spots t) (partsOfLine t s) (bareLine t) ≡ record { answer = Accepted; line = s }
   unfolding placesAnswer
   right-drafted s e f h = rw (← h) (parts-drafted day kind t 0 (spots t) (places-rising t) s (typed-exactly t s .0 e .whole) f)
 
@@ -126,7 +126,7 @@ module _ (day kind : ℕ) (t : LineType) where
     (λ (e : drafted day kind t (spots t) fs (bareLine t) ≡ record { answer = Accepted; line = s }).
         rw e at (drafted-right fs (ap (λ (d : Draft). d .answer) e))),
     (λ (w : DraftedRight day kind t fs s).
-        drafted-by-fields day kind t (spots t) fs (partsOf t s) (bareLine t) (λ k h. sym (w .holds k h) ∙ sym (part-at t s k)) ∙
+        drafted-by-fields day kind t (spots t) fs (partsOfLine t s) (bareLine t) (λ k h. sym (w .holds k h) ∙ sym (part-at t s k)) ∙
         right-drafted s (w .typed) (w .right) (w .plain)),
   )
 
@@ -135,5 +135,5 @@ module _ (day kind : ℕ) (t : LineType) where
 
 module _ (t : LineType) (s : List ℕ) where
   -- one behind the other, with the places' sizes, they are lent as themselves
-  pub fields-of-parts : length s ≡ 1002 → fieldsOf (sizesOf t) (joined (partsOf t s)) ≡ partsOf t s
-  fields-of-parts h = rw (← (parts-sized t 0 (spots t) (places-rising t) s h)) (fields-joined (partsOf t s))
+  pub fields-of-parts : length s ≡ 1002 → fieldsOf (sizesOf t) (joined (partsOfLine t s)) ≡ partsOfLine t s
+  fields-of-parts h = rw (← (parts-sized t 0 (spots t) (places-rising t) s h)) (fields-joined (partsOfLine t s))

@@ -46,8 +46,8 @@ drafted day kind t (p ∷ ps) (f ∷ fs) line =
 -- A line's own fields
 
 -- the bytes of each place of a line, in order
-abbrev pub partsOf : LineType → List ℕ → List (List ℕ)
-partsOf t s = map (λ (p : Spot). partAt p s) (spots t)
+abbrev pub partsOfLine : LineType → List ℕ → List (List ℕ)
+partsOfLine t s = map (λ (p : Spot). partAt p s) (spots t)
 
 -- how many bytes each place has
 abbrev pub sizesOf : LineType → List ℕ

@@ -9,7 +9,7 @@ use native.Mathlib.Omega.{arith}
 use lib.Dec.{eqb, leb, ltb}
 use lib.ListN.{length, drop, getD, length-take, List·getD-eq-default}
 use borrow.Author.Tests.{leb-true, ltb-true, ltb-false, eqb-true, ne-eqb}
-use Rattle.refusal.specs.Refusal.{none, numberOf, placeOf, neededOf, refusalOf, answerNumber, firstOf}
+use Rattle.refusal.specs.Refusal.{none, refusalNumber, refusalPlace, neededOf, refusalOf, answerNumber, firstOf}
 use Rattle.verdict.specs.Verdict.{verdictByte, verdictNumber, answerOf, answerAt, Within}
 use Rattle.refusal.specs.declared.Answer.{Answer}
 use Rattle.refusal.specs.declared.Answer.the-variants.{Accepted, Refused}
@@ -71,14 +71,14 @@ size-right n a e = go (eqb n 1002) refl e
     go false z h = let z : _≡_ {A = ℕ} 0 1 = cc in absurd (omega arith)
 
 -- what a refusal tells: its place, and no needed number
-pub told-place : (v field byte : ℕ) (r : Refusal) → answerOf v field byte ≡ Refused r → (placeOf r ≡ record { line = 0; field = field; byte = byte }) × (neededOf r ≡ 0)
+pub told-place : (v field byte : ℕ) (r : Refusal) → answerOf v field byte ≡ Refused r → (refusalPlace r ≡ record { line = 0; field = field; byte = byte }) × (neededOf r ≡ 0)
 told-place v field byte r e = go (eqb v 0) e
   where
     at : Place
     at = record { line = 0; field = field; byte = byte }
 
     Tells : Refusal → Type 0
-    Tells x = (placeOf x ≡ at) × (neededOf x ≡ 0)
+    Tells x = (refusalPlace x ≡ at) × (neededOf x ≡ 0)
 
     chosen : (b : Bool) (x y : Refusal) → Tells x → Tells y → Tells (cond b x y)
     chosen true x y f g = f
@@ -98,21 +98,21 @@ told-place v field byte r e = go (eqb v 0) e
 -- the byte that a refusal tells: of a 3 one of the n bytes that were judged, of any other the first of them
 pub told-byte :
     (n v field start : ℕ) (r : Refusal) → Within n v → 0 < n → answerAt field start v ≡ Refused r →
-    (numberOf r ≡ 3 → (start ≤ placeOf r .byte) × (placeOf r .byte < start + n)) × ((numberOf r ≡ 3 → ⊥) → placeOf r .byte ≡ start)
+    (refusalNumber r ≡ 3 → (start ≤ refusalPlace r .byte) × (refusalPlace r .byte < start + n)) × ((refusalNumber r ≡ 3 → ⊥) → refusalPlace r .byte ≡ start)
 told-byte n v field start r w some e = go (leb 32 v) refl
   where
-    byte : placeOf r .byte ≡ start + verdictByte v
+    byte : refusalPlace r .byte ≡ start + verdictByte v
     byte = ap (λ (x : Place). x .byte) (told-place v field (start + verdictByte v) r e .0)
 
     go :
         (t : Bool) → leb 32 v ≡ t →
-        (numberOf r ≡ 3 → (start ≤ placeOf r .byte) × (placeOf r .byte < start + n)) × ((numberOf r ≡ 3 → ⊥) → placeOf r .byte ≡ start)
+        (refusalNumber r ≡ 3 → (start ≤ refusalPlace r .byte) × (refusalPlace r .byte < start + n)) × ((refusalNumber r ≡ 3 → ⊥) → refusalPlace r .byte ≡ start)
     go true f =
         let h : 32 ≤ v = leb-true 32 v f in
         let b = byte in
         let d : verdictByte v ≡ v - 32 = rw f in
         let z : eqb v 0 ≡ false = ne-eqb v 0 (λ q. omega arith) in
-        let three : 3 ≡ numberOf r = rw (z, f) at (ap answerNumber e) in
+        let three : 3 ≡ refusalNumber r = rw (z, f) at (ap answerNumber e) in
         ((λ q. (omega arith, omega arith)), (λ no. absurd (no (sym three))))
     go false f = let b = byte in let d : verdictByte v ≡ 0 = rw f in ((λ q. (omega arith, omega arith)), (λ no. omega arith))
 

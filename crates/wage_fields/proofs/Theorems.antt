@@ -9,7 +9,7 @@ use native.Mathlib.Omega.{arith}
 use lib.Dec.{ltb}
 use lib.ListN.{length, getD}
 use borrow.Author.Tests.{ltb-true}
-use Rattle.refusal.specs.Refusal.{numberOf, placeOf}
+use Rattle.refusal.specs.Refusal.{refusalNumber, refusalPlace}
 use Rattle.verdict.specs.Verdict.{verdictByte}
 use Rattle.refusal.specs.declared.Answer.the-variants.{Accepted, Refused}
 use Rattle.refusal.specs.declared.Place.{Place}
@@ -117,13 +117,13 @@ module _ (day k k′ : ℕ) (s : List ℕ) where
 
 -- no line, a field of the type's places; a 3 a byte of that place, any other refusal its first byte
 pub record Told (t : LineType) (r : Refusal) : Type 0 where
-  pub no-line : placeOf r .line ≡ 0
+  pub no-line : refusalPlace r .line ≡ 0
   pub order : ℕ
   pub known : order < length (spots t)
-  pub numbered : placeOf r .field ≡ placeAt t order .field
-  pub some-field : 0 < placeOf r .field
-  pub inside : numberOf r ≡ 3 → (placeAt t order .start ≤ placeOf r .byte) × (placeOf r .byte < placeAt t order .start + placeAt t order .size)
-  pub first : (numberOf r ≡ 3 → ⊥) → placeOf r .byte ≡ placeAt t order .start
+  pub numbered : refusalPlace r .field ≡ placeAt t order .field
+  pub some-field : 0 < refusalPlace r .field
+  pub inside : refusalNumber r ≡ 3 → (placeAt t order .start ≤ refusalPlace r .byte) × (refusalPlace r .byte < placeAt t order .start + placeAt t order .size)
+  pub first : (refusalNumber r ≡ 3 → ⊥) → refusalPlace r .byte ≡ placeAt t order .start
 
 -- every place has a number and a byte: a test, which each table passes
 all-numbered : (t : LineType) → each (λ p. ltb 0 (p .field) && ltb 0 (p .size)) (spots t) ≡ true
@@ -148,7 +148,7 @@ module _ (day kind : ℕ) (t : LineType) (s : List ℕ) (r : Refusal) where
       let p = placeAt t k in
       let v = placeVerdict day kind t p s in
       let q = told-place v (p .field) (p .start + verdictByte v) r (rw whole at (w .here)) .0 in
-      let f : placeOf r .field ≡ p .field = ap (λ (x : Place). x .field) q in
+      let f : refusalPlace r .field ≡ p .field = ap (λ (x : Place). x .field) q in
       let g = both-true _ _ (each-at (λ x. ltb 0 (x .field) && ltb 0 (x .size)) (spots t) (all-numbered t) k (w .known)) in
       let n : 0 < p .field = ltb-true 0 (p .field) (g .0) in
       let size = place-size t s whole k (w .known) in

@@ -22,7 +22,7 @@ use Rattle.wage_fields.specs.Rules.{placesAnswer}
 use Rattle.wage_fields.specs.Right.{RightLine}
 use Rattle.worked_out.specs.Amounts.{amounts}
 use Rattle.worked_out.proofs.Theorems.{amounts-small}
-use Rattle.lent_order.specs.Order.{answerIn, orderFrom, orderAnswer}
+use Rattle.lent_order.specs.Order.{answerOfLine, orderFrom, lentOrderAnswer}
 use Rattle.wage_orders.specs.Orders.{ordersFrom, groupOrders}
 
 -- ---------------------------------------------------------------------------
@@ -30,11 +30,11 @@ use Rattle.wage_orders.specs.Orders.{ordersFrom, groupOrders}
 
 module _ (day kind : ℕ) where
   -- an accepted line is a right order
-  order-told : (n : ℕ) (s : List ℕ) → orderAnswer day kind n s ≡ answer.Accepted → RightLine day kind Order s
-  unfolding orderAnswer
+  order-told : (n : ℕ) (s : List ℕ) → lentOrderAnswer day kind n s ≡ answer.Accepted → RightLine day kind Order s
+  unfolding lentOrderAnswer
   order-told n s e = go (typedOf s) refl e
     where
-      fields : (a : Answer) → answerIn n a ≡ answer.Accepted → a ≡ answer.Accepted
+      fields : (a : Answer) → answerOfLine n a ≡ answer.Accepted → a ≡ answer.Accepted
       fields answer.Accepted g = refl
       fields (answer.Refused r) g = let z : _≡_ {A = ℕ} 0 1 = cc in absurd (omega arith)
 
@@ -46,8 +46,8 @@ module _ (day kind : ℕ) where
       go (typed.Refused r) f g = let z : _≡_ {A = ℕ} 0 1 = cc in absurd (omega arith)
 
   -- a right order is accepted
-  order-made : (n : ℕ) (s : List ℕ) → RightLine day kind Order s → orderAnswer day kind n s ≡ answer.Accepted
-  unfolding orderAnswer
+  order-made : (n : ℕ) (s : List ℕ) → RightLine day kind Order s → lentOrderAnswer day kind n s ≡ answer.Accepted
+  unfolding lentOrderAnswer
   order-made n s w = rw (w .typed, w .fields)
 
   -- each line of some is a right order
@@ -58,9 +58,9 @@ module _ (day kind : ℕ) where
   orders-told : (n : ℕ) (ss : List (List ℕ)) → ordersFrom day kind n ss ≡ answer.Accepted → EachRight ss
   unfolding ordersFrom
   orders-told n [] e = λ k h. absurd (omega arith)
-  orders-told n (s ∷ ss) e = go (orderAnswer day kind n s) refl e (orders-told (n + 1) ss)
+  orders-told n (s ∷ ss) e = go (lentOrderAnswer day kind n s) refl e (orders-told (n + 1) ss)
     where
-      go : (a : Answer) → orderAnswer day kind n s ≡ a → firstOf a (ordersFrom day kind (n + 1) ss) ≡ answer.Accepted → (ordersFrom day kind (n + 1) ss ≡ answer.Accepted → EachRight ss) → EachRight (s ∷ ss)
+      go : (a : Answer) → lentOrderAnswer day kind n s ≡ a → firstOf a (ordersFrom day kind (n + 1) ss) ≡ answer.Accepted → (ordersFrom day kind (n + 1) ss ≡ answer.Accepted → EachRight ss) → EachRight (s ∷ ss)
       go answer.Accepted f g rest = each-more (RightLine day kind Order) [] s ss (order-told n s f) (rest g)
       go (answer.Refused r) f g rest = let z : _≡_ {A = ℕ} 0 1 = cc in absurd (omega arith)
 

@@ -8,12 +8,12 @@ use Rattle.refusal.specs.declared.Answer.the-variants.{Accepted}
 use Rattle.refusal.specs.declared.Refusal.the-variants.{Size, Misplaced, Orders}
 use Rattle.wage_line.specs.declared.Typed.the-variants.{Refused}
 use Rattle.wage_line.specs.Pieces.{pieces}
-use Rattle.lent_order.specs.Order.{orderAnswer}
+use Rattle.lent_order.specs.Order.{lentOrderAnswer}
 
 -- the orders from line n on
 unfoldable pub ordersFrom : ℕ → ℕ → ℕ → List (List ℕ) → Answer
 ordersFrom day kind n [] = Accepted
-ordersFrom day kind n (s ∷ ss) = firstOf (orderAnswer day kind n s) (ordersFrom day kind (n + 1) ss)
+ordersFrom day kind n (s ∷ ss) = firstOf (lentOrderAnswer day kind n s) (ordersFrom day kind (n + 1) ss)
 
 -- the lent lines of a group
 unfoldable pub groupOrders : ℕ → ℕ → List ℕ → Answer

@@ -35,7 +35,7 @@ use Rattle.wage_fields.proofs.Theorems.{label-kind, group-number-digits, group-
 use Rattle.wage_fields.specs.Right.{RightLine}
 use Rattle.worked_out.specs.Amounts.{amounts}
 use Rattle.wage_file.specs.Right.{Payments, kindOf, RightGroup}
-use Rattle.wage_draft.specs.Draft.{partsOf}
+use Rattle.wage_draft.specs.Draft.{partsOfLine}
 use Rattle.lent_fields.proofs.Laws.{fields-joined}
 use Rattle.wage_draft.proofs.Theorems.{DraftedRight, drafted-right}
 use Rattle.wage_orders.specs.Orders.{groupOrders}
@@ -170,7 +170,7 @@ module _ (s : List ℕ) (whole : length s ≡ 1002) where
       rw (← z) (fields-joined (fiveParts s))
 
   -- with the number and the sum they are all of its fields
-  pub seven-parts : (n cents : ℕ) → digitsText 5 n ≡ partOf Group 5 s → digitsText 20 cents ≡ partOf Group 6 s → groupFields (fiveParts s) n cents ≡ partsOf Group s
+  pub seven-parts : (n cents : ℕ) → digitsText 5 n ≡ partOf Group 5 s → digitsText 20 cents ≡ partOf Group 6 s → groupFields (fiveParts s) n cents ≡ partsOfLine Group s
   unfolding spots spotIn
   seven-parts n cents a b = rw (a, b)
 

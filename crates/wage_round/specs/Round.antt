@@ -10,7 +10,7 @@ use Rattle.wage_line.specs.Pieces.{pieces}
 use Rattle.wage_file.specs.Right.{Payments, File, linesOf, kindOf}
 use Rattle.lent_fields.specs.Fields.{fieldsOf}
 use Rattle.bare_line.specs.Bare.{bareLine}
-use Rattle.wage_draft.specs.Draft.{partsOf, sizesOf, plainElsewhere}
+use Rattle.wage_draft.specs.Draft.{partsOfLine, sizesOf, plainElsewhere}
 use Rattle.wage_writer.specs.Writer.{labelDraft, orderDraft, labelAnswer}
 use Rattle.group_writer.specs.GroupDraft.{groupDraft}
 use Rattle.group_writer.specs.GroupWriter.{groupAnswer}
@@ -70,7 +70,7 @@ writtenOrders day kind fss = map (λ (fs : List (List ℕ)). orderDraft day kind
 
 -- the fields of a line, as they are lent to its writer: the bytes of each place, one behind the other, with the places' sizes
 abbrev pub readFields : LineType → List ℕ → List (List ℕ)
-readFields t s = fieldsOf (sizesOf t) (joined (partsOf t s))
+readFields t s = fieldsOf (sizesOf t) (joined (partsOfLine t s))
 
 -- the five fields of a 301 that its writer is given: all but the number of orders and their sum
 abbrev pub fiveParts : List ℕ → List (List ℕ)

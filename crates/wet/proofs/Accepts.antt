@@ -27,7 +27,7 @@ use Rattle.filling.proofs.Theorems.{fill-length}
 use Rattle.fillings.specs.declared.Aim.{Aim}
 use Rattle.fillings.specs.Mirror.{accepts}
 use Rattle.fillings.specs.Fillings.{fillings}
-use Rattle.fillings.specs.Answers.{leftBy}
+use Rattle.fillings.specs.Answers.{leftByListing}
 use Rattle.fillings.specs.declared.Listed.{Listed}
 use Rattle.fillings.proofs.Laws.{ListedBy, taken-on}
 use Rattle.fillings.proofs.Theorems.{changed-rule}
@@ -75,13 +75,13 @@ pub short-is-not-wet : (s : List ℕ) → length s < 2 → false ≡ wetIban s
 short-is-not-wet s h = rw (List·getD-eq-default s 0 {n = 1} (omega arith)) (sym (and-false (eqb (getD s 0 0) 72)))
 
 -- 16 and 15 are the listing's own
-pub iban-listed : (s out : List ℕ) (aim : Aim) (r : Listed) (o : List ℕ) → aim .mendable ≡ true → aim .iban ≡ true → length s ≡ 21 → wetIban s ≡ true → ListedBy (accepts aim) s out r o → (r ≡ ibanListing s (length out)) × (o ≡ leftBy r (fillings isIban s) out)
+pub iban-listed : (s out : List ℕ) (aim : Aim) (r : Listed) (o : List ℕ) → aim .mendable ≡ true → aim .iban ≡ true → length s ≡ 21 → wetIban s ≡ true → ListedBy (accepts aim) s out r o → (r ≡ ibanListing s (length out)) × (o ≡ leftByListing r (fillings isIban s) out)
 iban-listed s out aim r o x i n e h =
     let g : ListedBy isIban s out r o = rw (iban-fillings s aim x i) h in
     (entered _ _ _ _ (eq-eqb (length s) 21 n) (entered _ _ _ _ e (rw (le-leb (length s) 22 (omega arith)) at (g .0))), g .1)
 
 -- 15 is
-pub reference-listed : (model : Model) (s out : List ℕ) (r : Listed) (o : List ℕ) → model .handled ≡ true → length s ≤ 22 → marks s ≤ 4 → ListedBy (accepts (aimFrom model (partsFound model (fill s 0)))) s out r o → (r ≡ modelListing model s (length out)) × (o ≡ leftBy r (fillings (obeys model) s) out)
+pub reference-listed : (model : Model) (s out : List ℕ) (r : Listed) (o : List ℕ) → model .handled ≡ true → length s ≤ 22 → marks s ≤ 4 → ListedBy (accepts (aimFrom model (partsFound model (fill s 0)))) s out r o → (r ≡ modelListing model s (length out)) × (o ≡ leftByListing r (fillings (obeys model) s) out)
 reference-listed model s out r o e l m h =
     let g : ListedBy (obeys model) s out r o = rw (reference-fillings model s l) h in
     (entered _ _ _ _ e (g .0 ∙ taken-on s l m (obeys model) (length out)), g .1)

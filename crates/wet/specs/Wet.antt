@@ -12,7 +12,7 @@ use Rattle.model_text.specs.Texts.{modelNumber}
 use Rattle.models.specs.Models.{modelOf}
 use Rattle.reference.specs.Answers.{obeys}
 use Rattle.fillings.specs.Fillings.{fillings}
-use Rattle.fillings.specs.Answers.{roomAnswer}
+use Rattle.fillings.specs.Answers.{listedInRoom}
 use Rattle.fillings.specs.declared.Aim.{Aim}
 use Rattle.fillings.specs.declared.Listed.{Listed}
 use Rattle.fillings.specs.declared.Listed.the-variants.{Refused}
@@ -29,7 +29,7 @@ abbrev pub ibanListing : List ℕ → ℕ → Listed
 ibanListing s room =
     cond (eqb (length s) 21)
     (cond (wetIban s)
-    (cond (leb (marks s) 4) (roomAnswer (fillings isIban s) room) (Refused (Marks none)))
+    (cond (leb (marks s) 4) (listedInRoom (fillings isIban s) room) (Refused (Marks none)))
     (Refused (Byte none)))
     (Refused (Size none))
 
@@ -43,7 +43,7 @@ aimFrom model Nothing = record { iban = false; mendable = false; model = model; 
 
 -- 7, then 15
 abbrev pub modelListing : declared.Model → List ℕ → ℕ → Listed
-modelListing model s room = cond (model .handled) (roomAnswer (fillings (obeys model) s) room) (Refused (Model none))
+modelListing model s room = cond (model .handled) (listedInRoom (fillings (obeys model) s) room) (Refused (Model none))
 
 -- 5, then the rest
 abbrev pub numberListing : Found → List ℕ → ℕ → Listed

@@ -10,7 +10,7 @@ ghost use Rattle.parts.specs.Mirror.{partsFound};
 ghost use Rattle.reference.specs.Answers.{obeys};
 ghost use Rattle.filling.specs.Filling.{fill};
 ghost use Rattle.fillings.specs.Fillings.{fillings};
-ghost use Rattle.fillings.specs.Answers.{leftBy};
+ghost use Rattle.fillings.specs.Answers.{leftByListing};
 ghost use Rattle.wet.specs.Wet.{wetIban, ibanListing, aimFrom, modelListing, numberListing, numberFillings, referenceListing, referenceFillings};
 use classes::Class;
 use fillings::Aim;
@@ -37,7 +37,7 @@ fn is_wet_iban(s: &[u8]) -> bool
 
 // The fillings of an IBAN that the rules accept, ascending, at the front of `out`. Refusals: 1, 3, 16, 15.
 pub fn list_iban(s: &[u8], out: &mut [u16]) -> Listed
-    ensures { λ r. ⌜ (r ≡ ibanListing (now (s .entry)) (length (now (out .entry)))) × (now (out .exit) ≡ leftBy r (fillings isIban (now (s .entry))) (now (out .entry))) ⌝ }
+    ensures { λ r. ⌜ (r ≡ ibanListing (now (s .entry)) (length (now (out .entry)))) × (now (out .exit) ≡ leftByListing r (fillings isIban (now (s .entry))) (now (out .entry))) ⌝ }
 {
     if s.len() != 21 {
         return Listed::Refused(Refusal::Size(refusal::nowhere()));
@@ -85,7 +85,7 @@ fn aimed(model: Model, s: &[u8]) -> Aim
 // The listing under a model: 7, then 15.
 fn list_model(model: Model, s: &[u8], out: &mut [u16]) -> Listed
     requires { ⌜ (length (now s) ≤ 22) × (marks (now s) ≤ 4) ⌝ }
-    ensures { λ r. ⌜ (r ≡ modelListing model (now (s .entry)) (length (now (out .entry)))) × (now (out .exit) ≡ leftBy r (fillings (obeys model) (now (s .entry))) (now (out .entry))) ⌝ }
+    ensures { λ r. ⌜ (r ≡ modelListing model (now (s .entry)) (length (now (out .entry)))) × (now (out .exit) ≡ leftByListing r (fillings (obeys model) (now (s .entry))) (now (out .entry))) ⌝ }
 {
     let handled = model.handled;
     if !handled {
@@ -97,7 +97,7 @@ fn list_model(model: Model, s: &[u8], out: &mut [u16]) -> Listed
 // The listing under a model's number: 5, then what the model says.
 fn list_numbered(number: Found, s: &[u8], out: &mut [u16]) -> Listed
     requires { ⌜ (length (now s) ≤ 22) × (marks (now s) ≤ 4) ⌝ }
-    ensures { λ r. ⌜ (r ≡ numberListing number (now (s .entry)) (length (now (out .entry)))) × (now (out .exit) ≡ leftBy r (numberFillings number (now (s .entry))) (now (out .entry))) ⌝ }
+    ensures { λ r. ⌜ (r ≡ numberListing number (now (s .entry)) (length (now (out .entry)))) × (now (out .exit) ≡ leftByListing r (numberFillings number (now (s .entry))) (now (out .entry))) ⌝ }
 {
     match number {
         Found::At(n) => list_model(models::rules(n), s, out),
@@ -107,7 +107,7 @@ fn list_numbered(number: Found, s: &[u8], out: &mut [u16]) -> Listed
 
 // The fillings of a reference that its model accepts, ascending, at the front of `out`. Refusals: 1, 3, 16, 5, 7, 15.
 pub fn list_reference(model: &[u8], s: &[u8], out: &mut [u16]) -> Listed
-    ensures { λ r. ⌜ (r ≡ referenceListing (now (model .entry)) (now (s .entry)) (length (now (out .entry)))) × (now (out .exit) ≡ leftBy r (referenceFillings (now (model .entry)) (now (s .entry))) (now (out .entry))) ⌝ }
+    ensures { λ r. ⌜ (r ≡ referenceListing (now (model .entry)) (now (s .entry)) (length (now (out .entry)))) × (now (out .exit) ≡ leftByListing r (referenceFillings (now (model .entry)) (now (s .entry))) (now (out .entry))) ⌝ }
 {
     if 22 < s.len() {
         return Listed::Refused(Refusal::Size(refusal::nowhere()));

@@ -4,13 +4,13 @@ use Prim.Native.Nat.{_≤_, _-_}
 use mathlib.Core.Path.{_≡_, refl, sym, ap, _∙_}
 use native.Mathlib.Omega.{arith}
 use lib.ListN.{length, drop, getD}
-use Rattle.check_digits.specs.Mirror.{Small, startOf, runOf, digitOf}
+use Rattle.check_digits.specs.Mirror.{Small, runStart, runOf, digitOf}
 use Rattle.check_digits.proofs.Laws.{start-small, read-small, run-on, run-ends, read-check-digit}
 use Rattle.check_digits.proofs.check_digit.Statement.{statement}
 use Rattle.check_digits.proofs.check_digit.Tie as tie
 
 abbrev Inv-loop : tie.InvT-loop
-Inv-loop rule s run₀ i₀ run i = (i ≤ length s) × ((Small run) × (runOf rule (startOf rule) s ≡ runOf rule run (drop i s)))
+Inv-loop rule s run₀ i₀ run i = (i ≤ length s) × ((Small run) × (runOf rule (runStart rule) s ≡ runOf rule run (drop i s)))
 
 abbrev μ-loop : tie.MeasureT-loop
 μ-loop rule s run₀ i₀ run i = length s - i

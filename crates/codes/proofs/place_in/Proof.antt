@@ -4,20 +4,20 @@ use mathlib.Core.Path.{_≡_, sym, _∙_}
 use native.Mathlib.Omega.{arith}
 use lib.ListN.{length, drop}
 use Rattle.text.proofs.Laws.{shifted, shifted-zero}
-use Rattle.codes.specs.Codes.{placeIn}
+use Rattle.codes.specs.Codes.{firstIn}
 use Rattle.codes.proofs.Laws.{search-on, search-stops, search-ends}
 use borrow.Author.Needs.{needs}
 use Rattle.codes.proofs.place_in.Statement.{statement}
 use Rattle.codes.proofs.place_in.Tie as tie
 
 abbrev Inv-loop : tie.InvT-loop
-Inv-loop list code i₀ i = (i ≤ length list) × (placeIn code list ≡ shifted i (placeIn code (drop i list)))
+Inv-loop list code i₀ i = (i ≤ length list) × (firstIn code list ≡ shifted i (firstIn code (drop i list)))
 
 abbrev μ-loop : tie.MeasureT-loop
 μ-loop list code i₀ i = length list - i
 
 loop-holds : tie.Need-loop-holds Inv-loop μ-loop
-loop-holds c = (omega arith, shifted-zero (placeIn (c .before .args .code) (c .before .args .list .now)))
+loop-holds c = (omega arith, shifted-zero (firstIn (c .before .args .code) (c .before .args .list .now)))
 
 returns : tie.Need-returns Inv-loop μ-loop
 returns c =
