@@ -25,7 +25,7 @@ use Rattle.question.specs.Question.{pieceAt, fieldAt, behindBars, placeA
 
 module _ (c : ℕ) where
   -- what pieces a text has: itself, or its bytes before the first c and the pieces behind it
-  abbrev pub Apart : List ℕ → List (List ℕ) → Type 0
+  abbrev Apart : List ℕ → List (List ℕ) → Type 0
   Apart s [] = ⊥
   Apart s (p ∷ []) = p ≡ s
   Apart s (p ∷ (q ∷ ps)) = (length p < length s) × ((p ≡ take (length p) s) × (q ∷ ps ≡ split c (drop (length p + 1) s)))
@@ -41,7 +41,7 @@ module _ (c : ℕ) where
   apart-none b s [] h e = absurd h
   apart-none b s (p ∷ ps) h e = (omega arith, (refl, e))
 
-  pub apart : (s : List ℕ) → Apart s (split c s)
+  apart : (s : List ℕ) → Apart s (split c s)
   unfolding split
   apart [] = refl
   apart (b ∷ s) = go (eqb b c) (apart s)
@@ -59,7 +59,7 @@ module _ (c : ℕ) where
       go (p ∷ []) h = rw h (omega arith, take-all (length s) s (omega arith))
       go (p ∷ (q ∷ ps)) h = let l = h .0 in (omega arith, sym (h .1 .0))
 
-  -- so is that of what is left from a place on
+  -- that of what is left from a place on ends within the text
   pub first-ends : (s : List ℕ) (at n : ℕ) → at ≤ length s → n ≡ length (pieceAt c 0 (take (length s - at) (drop at s))) → at + n ≤ length s
   first-ends s at n h e =
       let f : n ≡ length (pieceAt c 0 (drop at s)) = e ∙ rw (to-the-end at s) in
@@ -76,6 +76,7 @@ module _ (c : ℕ) where
       go true (p ∷ ps) h e = omega arith
       go false (p ∷ ps) h e = e
 
+  -- which are no more than its bytes
   pub count-within : (s : List ℕ) → countOf c s ≤ length s
   unfolding countOf
   count-within [] = omega arith
