@@ -1,33 +1,42 @@
--- `cases::answer_all` is safe and ends. The loop's invariant: the next line starts within the text, or just past it, and the lent slices
--- keep their lengths. Assumes nothing.
+-- `cases::answer_all` is safe and ends. The loop's invariant: the next line starts within the text, or just past it. Assumes nothing.
 use Prim.Native.Nat.{_≤_, _+_, _-_}
-use mathlib.Core.Path.{_≡_, refl, _∙_}
 use native.Mathlib.Omega.{arith}
 use borrow.Author.Needs.{needs}
-use lib.ListN.{length, drop, length-take, length-drop}
+use lib.ListN.{length}
+use Rattle.question.proofs.Laws.{first-ends}
 use Rattle.cases.proofs.answer_all.Statement.{statement}
 use Rattle.cases.proofs.answer_all.Tie as tie
 
 abbrev Inv-loop : tie.InvT-loop
-Inv-loop s memory₀ kept₀ r₀ at₀ memory kept r at = (at ≤ length s + 1) × (length memory ≡ length memory₀) × (length kept ≡ length kept₀)
+Inv-loop s at₀ at = at ≤ length s + 1
 
 abbrev μ-loop : tie.MeasureT-loop
-μ-loop s memory₀ kept₀ r₀ at₀ memory kept r at = length s + 1 - at
+μ-loop s at₀ at = length s + 1 - at
 
 add-end : tie.Need-add-end Inv-loop μ-loop
-add-end c = let s = c .before .before .before .before .before .before .before .before .args .s .now in let at = c .before .before .before .loop .at in omega (arith, c .find .ensures, length-take (length s - at) (drop at s), length-drop at s)
+add-end c =
+    let h = first-ends 10 (c .before .before .before .before .before .args .s .now) (c .before .before .before .loop .at) _ (omega arith) (c .find .ensures) in
+    omega arith
 
 add-at : tie.Need-add-at Inv-loop μ-loop
-add-at c = let s = c .before .before .before .before .before .before .before .before .args .s .now in let at = c .before .before .before .loop .at in omega (arith, c .find .ensures, length-take (length s - at) (drop at s), length-drop at s)
+add-at c =
+    let h = first-ends 10 (c .before .before .before .before .before .args .s .now) (c .before .before .before .loop .at) _ (omega arith) (c .find .ensures) in
+    omega arith
 
-part-question-end : tie.Need-part-question-end Inv-loop μ-loop
-part-question-end c = let s = c .before .before .before .before .before .before .before .before .args .s .now in let at = c .before .before .before .loop .at in omega (arith, c .find .ensures, length-take (length s - at) (drop at s), length-drop at s)
+part-answer-end : tie.Need-part-answer-end Inv-loop μ-loop
+part-answer-end c =
+    let h = first-ends 10 (c .before .before .before .before .before .args .s .now) (c .before .before .before .loop .at) _ (omega arith) (c .find .ensures) in
+    omega arith
 
 loop-less : tie.Need-loop-less Inv-loop μ-loop
-loop-less c = let s = c .before .before .before .before .before .before .before .before .before .before .before .before .before .before .before .before .before .before .args .s .now in let at = c .before .before .before .before .before .before .before .before .before .before .before .before .before .loop .at in omega (arith, c .before .before .before .before .before .before .before .before .before .before .find .ensures, length-take (length s - at) (drop at s), length-drop at s)
+loop-less c =
+    let h = first-ends 10 (c .before .before .before .before .before .before .before .args .s .now) (c .before .before .before .before .before .loop .at) _ (omega arith) (c .before .before .find .ensures) in
+    omega arith
 
 loop-again : tie.Need-loop-again Inv-loop μ-loop
-loop-again c = let s = c .before .before .before .before .before .before .before .before .before .before .before .before .before .before .before .before .before .before .args .s .now in let at = c .before .before .before .before .before .before .before .before .before .before .before .before .before .loop .at in (omega (arith, c .before .before .before .before .before .before .before .before .before .before .find .ensures, length-take (length s - at) (drop at s), length-drop at s), c .before .before .before .before .before .before .answer .kept .1 .0 ∙ c .before .before .before .before .before .before .before .before .before .before .before .before .before .loop .inv .1, c .before .before .before .before .before .before .answer .kept .1 .1 .0 ∙ c .before .before .before .before .before .before .before .before .before .before .before .before .before .loop .inv .2)
+loop-again c =
+    let h = first-ends 10 (c .before .before .before .before .before .before .before .args .s .now) (c .before .before .before .before .before .loop .at) _ (omega arith) (c .before .before .find .ensures) in
+    omega arith
 
 pub answer-all-spec : {M : Type 1} → statement M
 answer-all-spec =
@@ -35,21 +44,17 @@ answer-all-spec =
     (tie.spec
     Inv-loop
     μ-loop
-    (λ c κs. tt)
-    (λ c. (omega arith, refl, refl))
     (λ c. omega arith)
     (λ c. omega arith)
     (λ c. omega arith)
-    (λ c κs. tt)
+    (λ c. omega arith)
+    (λ c κs. search needs)
     add-end
     add-at
     (λ c. omega arith)
     (λ c. omega arith)
-    part-question-end
-    (λ c κs. tt)
-    (λ c κs. tt)
+    part-answer-end
+    (λ c κs. search needs)
     loop-less
     loop-again
-    (λ c. search needs)
-    (λ c. search needs)
     (λ c. tt))

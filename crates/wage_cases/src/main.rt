@@ -1,0 +1,183 @@
+// Runs the cases of a person's choosing on the wage file, written and judged: one question a line on standard input, each
+// written back with its answer. An independent second implementation answers the same questions (`second cases`), and the
+// gate compares.
+//
+// A question is a verb and its fields, divided by bars; second/README.md lists the verbs. From question to question stay a
+// memory, at whose front stands what was written last, the lines kept for a group, and the judge's record. Other verbs are
+// answered by the program `cases`.
+use boundary::Told;
+use desk_record::Record;
+use question::behind;
+use question::count;
+use question::field;
+use question::find;
+use question::number_at;
+use question::number_of;
+use question::put_fields;
+use question::put_sizes;
+use question::tell;
+use words::front;
+use words::say;
+
+fn main() {
+    let mut input = [0u8; 300000];
+    let n = io::read_full(0, &mut input);
+    let mut memory = [0u8; 1100];
+    let mut kept = [0u8; 8016];
+    answer_all(&input[..n], &mut memory, &mut kept);
+}
+
+// Answers each line. The judge's verbs are `judge_by`'s, all others `respond`'s.
+fn answer_all(s: &[u8], memory: &mut [u8], kept: &mut [u8]) {
+    let mut r = desk_judge::lanecockle_judge_begin(0);
+    let mut at = 0;
+    while at < s.len() {
+        let start = at;
+        let e = find(&s[start..], 10);
+        let end = start + e;
+        at = end + 1;
+        let question = &s[start..end];
+        let verb = answer(question, memory, kept);
+        r = judge_by(verb, question, r, memory);
+    }
+}
+
+// Writes a question back with its answer, and gives its verb's number.
+fn answer(question: &[u8], memory: &mut [u8], kept: &mut [u8]) -> usize {
+    say(question);
+    say(b" -> ");
+    let verb = number_of(
+        field(question, 0),
+        b"300|301|309|399|keep|poke|place|show|begin|step|end",
+    );
+    respond(verb, question, memory, kept);
+    verb
+}
+
+// Answers a question by its verb's number.
+fn respond(verb: usize, question: &[u8], memory: &mut [u8], kept: &mut [u8]) {
+    match verb {
+        0..=3 => write(verb, question, memory, kept),
+        4..=5 => keep(verb, question, memory, kept),
+        6..=7 => show(verb, question, memory),
+        8..=10 => {}
+        _ => say(b"unknown"),
+    }
+}
+
+// ---------------------------------------------------------------------------
+// Lines written
+
+// 300, 301, 309, 399: into a room at the front of the memory.
+fn write(verb: usize, question: &[u8], memory: &mut [u8], kept: &[u8]) {
+    let room = number_at(question, 1);
+    if memory.len() < room {
+        say(b"unknown");
+        return;
+    }
+    let orders = front(kept, number_at(question, 4));
+    tell(write_fields(verb, question, orders, &mut memory[0..room]));
+}
+
+// From the fields behind the first five.
+fn write_fields(verb: usize, question: &[u8], orders: &[u8], out: &mut [u8]) -> Told {
+    let mut text = [0u8; 1024];
+    let mut sizes = [0usize; 16];
+    write_in(verb, question, &mut text, &mut sizes, orders, out)
+}
+
+fn write_in(
+    verb: usize,
+    question: &[u8],
+    text: &mut [u8],
+    sizes: &mut [usize],
+    orders: &[u8],
+    out: &mut [u8],
+) -> Told {
+    let fields = behind(question, 5);
+    put_fields(text, fields);
+    put_sizes(sizes, fields);
+    let day = number_at(question, 2) as u64;
+    let kind = number_at(question, 3) as u64;
+    write_line(verb, day, kind, text, sizes, orders, out)
+}
+
+fn write_line(
+    verb: usize,
+    day: u64,
+    kind: u64,
+    text: &[u8],
+    sizes: &[usize],
+    orders: &[u8],
+    out: &mut [u8],
+) -> Told {
+    if verb == 0 {
+        return desk_writers::lanecockle_write_label(day, text, sizes, out);
+    }
+    if verb == 1 {
+        return desk_writers::lanecockle_write_group(day, kind, text, sizes, orders, out);
+    }
+    if verb == 2 {
+        return desk_writers::lanecockle_write_order(day, kind, text, sizes, out);
+    }
+    desk_writers::lanecockle_write_closing(day, out)
+}
+
+// ---------------------------------------------------------------------------
+// The memory
+
+// keep, poke.
+fn keep(verb: usize, question: &[u8], memory: &mut [u8], kept: &mut [u8]) {
+    let n = number_at(question, 1);
+    if verb == 4 {
+        room::put(kept, n, front(memory, 1002));
+        return;
+    }
+    room::put(memory, n, &[(number_at(question, 2) % 256) as u8]);
+}
+
+// place, show.
+fn show(verb: usize, question: &[u8], memory: &[u8]) {
+    let s = front(memory, number_at(question, 1));
+    if verb == 6 {
+        say(wage_line::place(s, number_at(question, 2)));
+        return;
+    }
+    say(s);
+}
+
+// ---------------------------------------------------------------------------
+// The judge
+
+// begin, step, end: the record after it. Ends the line of every answer.
+fn judge_by(verb: usize, question: &[u8], r: Record, memory: &[u8]) -> Record {
+    let n = number_at(question, 1);
+    match verb {
+        8 => told(desk_judge::lanecockle_judge_begin(n as u64)),
+        9 => told(desk_judge::lanecockle_judge_step(r, front(memory, n))),
+        10 => ended(r),
+        _ => over(r),
+    }
+}
+
+fn told(r: Record) -> Record {
+    let t = r.told;
+    tell(t);
+    over(r)
+}
+
+fn ended(r: Record) -> Record {
+    let e = desk_judge::lanecockle_judge_end(r);
+    let t = e.told;
+    tell(t);
+    count(b" lines ", e.lines);
+    count(b" groups ", e.groups);
+    count(b" orders ", e.orders);
+    over(r)
+}
+
+// Ends an answer's line.
+fn over(r: Record) -> Record {
+    say(b"\n");
+    r
+}
