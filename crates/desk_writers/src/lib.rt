@@ -4,8 +4,7 @@
 // for C. No call has a `requires`: whatever numbers and bytes arrive get an answer.
 ghost use lib.ListN.{length};
 ghost use Rattle.wage_writer.specs.Writer.{labelAnswer, labelDraft, orderAnswer, orderDraft};
-ghost use Rattle.group_writer.specs.GroupWriter.{groupAnswer};
-ghost use Rattle.group_writer.specs.GroupDraft.{groupDraft};
+ghost use Rattle.group_writer.specs.GroupWriter.{groupAnswer, groupDraft};
 ghost use Rattle.line_room.specs.LineRoom.{closingAnswer};
 ghost use Rattle.bare_line.specs.Bare.{bareLine};
 ghost use Rattle.lent_fields.specs.Fields.{fieldsOf};

@@ -15,8 +15,7 @@ use Rattle.wage_orders.specs.Orders.{groupOrders}
 use Rattle.line_room.specs.LineRoom.{forRoom}
 use Rattle.line_room.proofs.Laws.{noRoom, day-before, kind-before, accepted-before, room-before}
 use Rattle.wage_writer.proofs.Refusals.{draft-no-room}
-use Rattle.group_writer.specs.GroupDraft.{groupDraft}
-use Rattle.group_writer.specs.GroupWriter.{groupAnswer}
+use Rattle.group_writer.specs.GroupWriter.{groupDraft, groupAnswer}
 use Rattle.group_writer.proofs.Refusals.{orders-no-room}
 
 -- ---------------------------------------------------------------------------

@@ -1,3 +1,2 @@
 -- The definitions of the crate `group_writer`.
 pub mod GroupWriter
-pub mod GroupDraft

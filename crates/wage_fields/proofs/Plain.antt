@@ -31,8 +31,7 @@ use Rattle.wage_contents.specs.Contents.{oneOf, twoOf}
 use Rattle.wage_contents.proofs.Accepted.{bytes-accepted, among-accepted, oib-accepted, employer-accepted, currency-accepted, zeros-accepted, today-accepted, later-accepted, iban-place-accepted, iban-whole-accepted}
 use Rattle.order_contents.specs.Contents.{isFound}
 use Rattle.order_contents.proofs.Accepted.{isHandled, isObeyed, purpose-accepted, sign-accepted, model-accepted, reference-accepted, description-accepted, code-modelled-accepted}
-use Rattle.wage_fields.specs.Rules.{ruleVerdict, placesFrom, placesAnswer}
-use Rattle.wage_fields.specs.Right.{RightLine}
+use Rattle.wage_fields.specs.Rules.{ruleVerdict, placesFrom, placesAnswer, RightLine}
 use Rattle.wage_fields.proofs.Laws.{accept-both}
 use Rattle.wage_fields.proofs.Theorems.{place-right, closing-has-none}
 

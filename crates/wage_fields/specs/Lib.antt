@@ -1,3 +1,2 @@
 -- The definitions of the crate `wage_fields`.
 pub mod Rules
-pub mod Right

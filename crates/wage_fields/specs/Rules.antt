@@ -1,6 +1,6 @@
 -- Document 01, "The wage file": the rule of a place, by its line's type and its field's number, and a line's places in order. f are the
 -- place's own bytes, s the line that it stands in.
-use Rattle.refusal.specs.Basics.{ℕ, zero, suc, cond, List, [], _∷_, eqb, length, getD}
+use Rattle.refusal.specs.Basics.{ℕ, zero, suc, cond, _≡_, List, [], _∷_, eqb, length, getD}
 use Rattle.refusal.specs.Refusal.{none, firstOf}
 use Rattle.verdict.specs.Verdict.{answerAt}
 use Rattle.refusal.specs.declared.Answer.{Answer}
@@ -10,6 +10,8 @@ use Rattle.wage_places.specs.declared.LineType.{LineType}
 use Rattle.wage_places.specs.declared.LineType.the-variants.{Label, Group, Order, Closing}
 use Rattle.wage_places.specs.declared.Spot.{Spot}
 use Rattle.wage_places.specs.Places.{spots, noSpot, partAt}
+use Rattle.wage_line.specs.declared.Typed.the-variants.{Line}
+use Rattle.wage_line.specs.Line.{typedOf}
 use Rattle.label_rules.specs.Rules.{labelRule}
 use Rattle.group_rules.specs.Rules.{groupRule}
 use Rattle.order_rules.specs.Rules.{orderRule}
@@ -39,6 +41,11 @@ placesFrom day kind t (p ∷ ps) s = firstOf (placeAnswer day kind t p s) (place
 -- "then the fields in order"
 unfoldable pub placesAnswer : ℕ → ℕ → LineType → List ℕ → Answer
 placesAnswer day kind t s = placesFrom day kind t (spots t) s
+
+-- a line of a type with its fields right, under a day and a kind
+pub record RightLine (day kind : ℕ) (t : LineType) (s : List ℕ) : Type 0 where
+  pub typed : typedOf s ≡ Line t
+  pub fields : placesAnswer day kind t s ≡ Accepted
 
 -- as many places, from an order on; past the last, no place
 unfoldable pub spotsFrom : LineType → ℕ → ℕ → List Spot

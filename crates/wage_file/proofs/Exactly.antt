@@ -18,8 +18,7 @@ use Rattle.wage_line.specs.declared.Typed.{Typed}
 use Rattle.wage_line.specs.declared.Typed.the-variants as typed
 use Rattle.wage_line.specs.Line.{typedOf}
 use Rattle.wage_line.proofs.PieceLaws.{Each, each-more}
-use Rattle.wage_fields.specs.Rules.{placesAnswer}
-use Rattle.wage_fields.specs.Right.{RightLine}
+use Rattle.wage_fields.specs.Rules.{placesAnswer, RightLine}
 use Rattle.condition.specs.declared.Counts.{Counts}
 use Rattle.condition.specs.declared.Ending.the-variants as ending
 use Rattle.condition.specs.declared.Judge.{Judge}

@@ -25,8 +25,7 @@ use Rattle.wage_line.specs.declared.Typed.the-variants as typed
 use Rattle.wage_places.specs.Places.{spots, spotIn, partOf}
 use Rattle.wage_line.specs.Line.{typedOf}
 use Rattle.wage_line.proofs.PieceLaws.{Each, each-more}
-use Rattle.wage_fields.specs.Rules.{placesAnswer}
-use Rattle.wage_fields.specs.Right.{RightLine}
+use Rattle.wage_fields.specs.Rules.{placesAnswer, RightLine}
 use Rattle.worked_out.specs.Amounts.{amounts}
 use Rattle.wage_fields.proofs.Theorems.{closing-has-none}
 use Rattle.condition.specs.declared.Condition.the-variants.{Grouped}

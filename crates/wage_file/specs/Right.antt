@@ -7,7 +7,7 @@ use Rattle.wage_places.specs.declared.LineType.the-variants.{Label, Group, Orde
 use Rattle.wage_line.specs.declared.Typed.the-variants.{Line}
 use Rattle.wage_line.specs.Line.{typedOf}
 use Rattle.wage_places.specs.Places.{partOf}
-use Rattle.wage_fields.specs.Right.{RightLine}
+use Rattle.wage_fields.specs.Rules.{RightLine}
 use Rattle.worked_out.specs.Amounts.{amounts}
 use Rattle.condition.specs.declared.Counts.{Counts}
 

@@ -18,8 +18,7 @@ use Rattle.wage_line.specs.declared.Typed.the-variants as typed
 use Rattle.wage_line.specs.Line.{typedOf}
 use Rattle.wage_line.specs.Pieces.{pieces}
 use Rattle.wage_line.proofs.PieceLaws.{Each, each-more}
-use Rattle.wage_fields.specs.Rules.{placesAnswer}
-use Rattle.wage_fields.specs.Right.{RightLine}
+use Rattle.wage_fields.specs.Rules.{placesAnswer, RightLine}
 use Rattle.worked_out.specs.Amounts.{amounts}
 use Rattle.worked_out.proofs.Theorems.{amounts-small}
 use Rattle.lent_order.specs.Order.{answerOfLine, orderFrom, lentOrderAnswer}

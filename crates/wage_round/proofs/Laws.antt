@@ -29,10 +29,9 @@ use Rattle.wage_places.proofs.Theorems.{field-size}
 use Rattle.wage_line.proofs.Theorems.{typed-exactly}
 use Rattle.wage_line.proofs.PieceLaws.{AllWhole}
 use Rattle.wage_contents.proofs.Accepted.{among-accepted}
-use Rattle.wage_fields.specs.Rules.{placesAnswer}
+use Rattle.wage_fields.specs.Rules.{placesAnswer, RightLine}
 use Rattle.verdict.proofs.Verdicts.{first-both}
 use Rattle.wage_fields.proofs.Theorems.{label-kind, group-number-digits, group-sum-digits}
-use Rattle.wage_fields.specs.Right.{RightLine}
 use Rattle.worked_out.specs.Amounts.{amounts}
 use Rattle.wage_file.specs.Right.{Payments, kindOf, RightGroup}
 use Rattle.wage_draft.specs.Draft.{partsOfLine}
@@ -40,9 +39,8 @@ use Rattle.lent_fields.proofs.Laws.{fields-joined}
 use Rattle.wage_draft.proofs.Theorems.{DraftedRight, drafted-right}
 use Rattle.wage_orders.specs.Orders.{groupOrders}
 use Rattle.wage_writer.specs.Writer.{labelDraft, orderDraft, labelAnswer, orderAnswer}
-use Rattle.group_writer.specs.GroupDraft.{groupFields, groupDraft}
+use Rattle.group_writer.specs.GroupWriter.{groupFields, groupDraft, groupAnswer}
 use Rattle.line_room.specs.LineRoom.{forDay, forKind, forRoom, closingAnswer}
-use Rattle.group_writer.specs.GroupWriter.{groupAnswer}
 use Rattle.wage_round.specs.Round.{fiveParts, fiveSizes, readFive}
 
 -- ---------------------------------------------------------------------------

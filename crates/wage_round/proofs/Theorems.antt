@@ -23,7 +23,7 @@ use Rattle.wage_places.proofs.Theorems.{placeAt, found-spot}
 use Rattle.wage_line.proofs.Theorems.{place-typed, typed-exactly}
 use Rattle.condition.specs.declared.Counts.{Counts}
 use Rattle.condition.specs.declared.Ending.the-variants as ending
-use Rattle.wage_fields.specs.Right.{RightLine}
+use Rattle.wage_fields.specs.Rules.{RightLine}
 use Rattle.worked_out.specs.Amounts.{amounts}
 use Rattle.wage_file.specs.Right.{Payments, File, groupLines, linesOf, tally, kindOf, RightGroup, RightFile}
 use Rattle.wage_file.specs.File.{fileAnswer}
@@ -38,8 +38,7 @@ use Rattle.wage_orders.specs.Orders.{groupOrders}
 use Rattle.wage_orders.proofs.Theorems.{orders-right}
 use Rattle.worked_out.proofs.Theorems.{amounts-small}
 use Rattle.wage_writer.specs.Writer.{labelDraft, orderDraft, labelAnswer, orderAnswer}
-use Rattle.group_writer.specs.GroupDraft.{groupFields, groupDraft}
-use Rattle.group_writer.specs.GroupWriter.{groupAnswer}
+use Rattle.group_writer.specs.GroupWriter.{groupFields, groupDraft, groupAnswer}
 use Rattle.line_room.specs.LineRoom.{closingAnswer}
 use Rattle.wage_round.specs.Round.{GivenGroup, Given, noGiven, kindGiven, writtenGroup, writtenFile, AllWritten, writtenOrders, readFields, readFive, readGroup, readFile, PlainGroup, PlainFile}
 use Rattle.wage_round.proofs.Laws.{label-passed, closing-passed, order-passed, group-passed, label-passes, closing-passes, order-passes, group-passes, read-number, label-known, five-read, seven-parts, declared, whole-append, whole-length}

@@ -12,8 +12,7 @@ use Rattle.lent_fields.specs.Fields.{fieldsOf}
 use Rattle.bare_line.specs.Bare.{bareLine}
 use Rattle.wage_draft.specs.Draft.{partsOfLine, sizesOf, plainElsewhere}
 use Rattle.wage_writer.specs.Writer.{labelDraft, orderDraft, labelAnswer}
-use Rattle.group_writer.specs.GroupDraft.{groupDraft}
-use Rattle.group_writer.specs.GroupWriter.{groupAnswer}
+use Rattle.group_writer.specs.GroupWriter.{groupDraft, groupAnswer}
 use Rattle.line_room.specs.LineRoom.{closingAnswer}
 
 -- ---------------------------------------------------------------------------
