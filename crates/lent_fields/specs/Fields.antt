@@ -1,5 +1,5 @@
 -- How fields are lent to a writer: one behind the other in one text, with the size of each. "Each field is the bytes of its positions".
-use Rattle.refusal.specs.Basics.{ℕ, _+_, _-_, _≤_, _≡_, cond, List, [], _∷_, ltb, length, take, drop}
+use Rattle.refusal.specs.Basics.{ℕ, _+_, _-_, _≤_, _≡_, Bool, cond, List, [], _∷_, eqb, ltb, length, take, drop}
 
 -- the fields: a size that runs past the text's end gives a shorter field
 unfoldable pub fieldsOf : List ℕ → List ℕ → List (List ℕ)
@@ -14,6 +14,15 @@ behind (n ∷ ns) text = behind ns (drop n text)
 -- where a field of a size ends that begins at a place: no later than the text
 abbrev pub fieldEnd : List ℕ → ℕ → ℕ → ℕ
 fieldEnd text at size = cond (ltb (length text) at) (length text) (cond (ltb (length text - at) size) (length text) (at + size))
+
+-- how many bytes some sizes make
+unfoldable pub together : List ℕ → ℕ
+together [] = 0
+together (n ∷ ns) = n + together ns
+
+-- the sizes of so many fields are together the text's: no byte is missing, and none is left over
+unfoldable pub sized : ℕ → List ℕ → List ℕ → Bool
+sized fields sizes text = eqb (together (take fields sizes)) (length text)
 
 -- ---------------------------------------------------------------------------
 -- Claims

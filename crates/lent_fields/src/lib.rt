@@ -3,7 +3,7 @@
 // Document 01, "The wage file", the writer: "Each field is the bytes of its positions".
 ghost use mathlib.Core.Path.{_≡_};
 ghost use lib.ListN.{getD, take, drop};
-ghost use Rattle.lent_fields.specs.Fields.{behind, fieldEnd};
+ghost use Rattle.lent_fields.specs.Fields.{behind, fieldEnd, sized};
 
 // The size of a field; one that is not there is empty.
 pub fn size_at(sizes: &[usize], i: usize) -> usize
@@ -42,6 +42,26 @@ pub fn text_behind<'a>(text: &'a [u8], sizes: &[usize], fields: usize) -> &'a [u
         i += 1;
     }
     &text[at..]
+}
+
+// Whether the sizes of as many fields are together the text's.
+pub fn is_sized(text: &[u8], sizes: &[usize], fields: usize) -> bool
+    ensures { λ r. ⌜ r ≡ sized fields (now (sizes .entry)) (now (text .entry)) ⌝ }
+{
+    let mut left = text.len();
+    let mut i = 0;
+    while i < sizes.len() {
+        if fields <= i {
+            return left == 0;
+        }
+        let size = sizes[i];
+        if left < size {
+            return false;
+        }
+        left -= size;
+        i += 1;
+    }
+    left == 0
 }
 
 // The sizes behind the first four.
