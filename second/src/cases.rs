@@ -5,7 +5,7 @@
 use crate::account::{iban, oib};
 use crate::checkdigit::Rule;
 use crate::reference::Model;
-use crate::refusal::Refusal;
+use crate::refusal::{Reason, Refusal};
 use crate::slip::{Slip, TEXTS};
 use crate::wage::record::Told;
 use crate::wage::{place, write_close, write_group, write_label, write_order, Judge, LINE};
@@ -83,11 +83,10 @@ impl Desk {
     /// Nothing where the memory has no such room.
     fn write_slip(&mut self, fields: &Fields) -> Option<String> {
         let room = Some(fields.size(0)).filter(|&n| n <= MEMORY)?;
-        let slip = Slip {
-            cents: fields.number(1),
-            texts: fields.behind::<TEXTS>(HEAD),
-        };
-        Some(match slip.write(room) {
+        let cents = fields.number(1);
+        let texts = fields.behind::<TEXTS>(HEAD);
+        let written = texts.and_then(|texts| Slip { cents, texts }.write(room));
+        Some(match written {
             Err(refusal) => format!("{} bytes 0|", told(refusal)),
             Ok(bytes) => {
                 self.memory[..bytes.len()].copy_from_slice(&bytes);
@@ -104,9 +103,13 @@ impl Desk {
         let orders = front(&self.kept, fields.size(3));
         let room = &mut self.memory[..room];
         Some(verdict(match verb {
-            b"300" => write_label(day, &fields.behind(HEAD), room),
-            b"301" => write_group(day, kind, &fields.behind(HEAD), orders, room),
-            b"309" => write_order(day, kind, &fields.behind(HEAD), room),
+            b"300" => fields.behind(HEAD).and_then(|f| write_label(day, &f, room)),
+            b"301" => fields
+                .behind(HEAD)
+                .and_then(|f| write_group(day, kind, &f, orders, room)),
+            b"309" => fields
+                .behind(HEAD)
+                .and_then(|f| write_order(day, kind, &f, room)),
             _ => write_close(day, room),
         }))
     }
@@ -173,8 +176,13 @@ impl<'a> Fields<'a> {
         u32::try_from(self.number(k)).unwrap_or(0)
     }
 
-    fn behind<const N: usize>(&self, head: usize) -> [&'a [u8]; N] {
-        std::array::from_fn(|k| self.text(head + k))
+    /// So many fields as a writer takes them: the bytes of one too many would be
+    /// left over in the text that they are lent in, which is 1.
+    fn behind<const N: usize>(&self, head: usize) -> Result<[&'a [u8]; N], Refusal> {
+        if self.0.iter().skip(head + N).any(|field| !field.is_empty()) {
+            return Err(Reason::Size.into());
+        }
+        Ok(std::array::from_fn(|k| self.text(head + k)))
     }
 }
 

@@ -10,6 +10,7 @@ pub mod cases;
 pub mod checkdigit;
 pub mod compare;
 pub mod generate;
+pub mod lent;
 pub mod reference;
 pub mod refusal;
 pub mod slip;

@@ -234,6 +234,18 @@ unfolding joined
 joined-longer b [] = refl
 joined-longer b (p ∷ ps) = refl
 
+-- the fields together are the bytes that are no bar
+pub joined-counted : (s : List ℕ) → length (joined (split 124 s)) + countOf 124 s ≡ length s
+unfolding joined split countOf
+joined-counted [] = refl
+joined-counted (b ∷ s) = go (eqb b 124) (joined-counted s)
+  where
+    go :
+        (t : Bool) → length (joined (split 124 s)) + countOf 124 s ≡ length s
+        → length (joined (cond t ([] ∷ split 124 s) (longer b (split 124 s)))) + cond t (suc (countOf 124 s)) (countOf 124 s) ≡ suc (length s)
+    go true h = omega arith
+    go false h = rw (joined-longer b (split 124 s)) (omega arith)
+
 module _ (s : List ℕ) (i : ℕ) where
   pub joined-bar : i < length s → getD s i 0 ≡ 124 → joined (split 124 (drop i s)) ≡ joined (split 124 (drop (i + 1) s))
   unfolding joined split

@@ -24,5 +24,8 @@ put-lines-one κs a z z′ w w′ p q = (refl, p ∙ sym q)
 pub put-fields-one : One _ here.put_fields.Kinds.ps here.put_fields.Kinds.r here.put_fields.Reads.Post
 put-fields-one κs a z z′ w w′ p q = (refl, p ∙ sym q)
 
+pub size-of-one : One _ here.size_of.Kinds.ps here.size_of.Kinds.r here.size_of.Reads.Post
+size-of-one κs a z z′ w w′ p q = p ∙ sym q
+
 pub put-sizes-one : One _ here.put_sizes.Kinds.ps here.put_sizes.Kinds.r here.put_sizes.Reads.Post
 put-sizes-one κs a z z′ w w′ p q = (refl, p ∙ sym q)

@@ -157,6 +157,13 @@ pub fn put_fields(out: &mut [u8], s: &[u8])
     }
 }
 
+// How many bytes the fields of a text are together.
+pub fn size_of(s: &[u8]) -> usize
+    ensures { λ r. ⌜ r ≡ length (joined (split 124 (now (s .entry)))) ⌝ }
+{
+    s.len() - text::count(124, s)
+}
+
 // The sizes of the fields of a text, as far as there is room.
 pub fn put_sizes(out: &mut [usize], s: &[u8])
     ensures { λ r. ⌜ now (out .exit) ≡ sets (now (out .entry)) 0 (lengthsOf (split 124 (now (s .entry)))) ⌝ }
