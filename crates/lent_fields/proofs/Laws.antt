@@ -6,12 +6,12 @@ use native.Mathlib.Numerals.{add-one}
 use native.Mathlib.Omega.{arith}
 use native.Mathlib.Nat.{add-zero}
 use mathlib.Core.Bool.{Bool, true, false, cond}
-use lib.Dec.{ltb}
-use borrow.Author.Tests.{le-ltb, ltb-true, ltb-false}
-use lib.ListN.{length, take, drop, getD, length-drop, drop-of-length-le}
+use lib.Dec.{eqb, ltb}
+use borrow.Author.Tests.{eq-eqb, ne-eqb, eqb-true, eqb-false, le-ltb, ltb-true, ltb-false}
+use lib.ListN.{length, take, drop, getD, length-drop, drop-of-length-le, length-append}
 use lib.Seq.{drop-cons, drop-drop, drop-length, take-all, take-nil, take-append-seam, drop-append-seam, getD-drop}
 use Rattle.text.specs.Split.{joined}
-use Rattle.lent_fields.specs.Fields.{fieldsOf, behind, fieldEnd, FieldEnd}
+use Rattle.lent_fields.specs.Fields.{fieldsOf, behind, fieldEnd, together, sized, FieldEnd}
 
 -- ---------------------------------------------------------------------------
 -- Where a field ends
@@ -104,6 +104,59 @@ behind-on sizes fields i text at end ended more known =
     rw (drop-cons sizes i 0 known, e, ended .rest, ← (add-one i))
 
 -- ---------------------------------------------------------------------------
+-- Equal numbers
+
+-- whether a number is 0, asked the other way round
+zero-last : (n : ℕ) → eqb n 0 ≡ eqb 0 n
+zero-last zero = refl
+zero-last (suc n) = ne-eqb (suc n) 0 (λ (e : suc n ≡ 0). omega (arith, e)) ∙ sym (ne-eqb 0 (suc n) (λ (e : 0 ≡ suc n). omega (arith, e)))
+
+-- the same taken away from both sides
+less-both : (a b n : ℕ) → a ≤ n → eqb (a + b) n ≡ eqb b (n - a)
+less-both a b n h = go (eqb b (n - a)) refl
+  where
+    go : (e : Bool) → eqb b (n - a) ≡ e → eqb (a + b) n ≡ e
+    go true e = let f = eqb-true b (n - a) e in eq-eqb (a + b) n (omega (arith, f))
+    go false e = ne-eqb (a + b) n (λ (f : a + b ≡ n). eqb-false b (n - a) e (omega (arith, f)))
+
+-- ---------------------------------------------------------------------------
+-- The size of the fields from one on, up to some number of fields, and of what is left of the text
+
+module _ (sizes : List ℕ) (fields i left : ℕ) where
+  -- whether they are the same
+  abbrev pub SizedFrom : Bool
+  SizedFrom = eqb (together (take (fields - i) (drop i sizes))) left
+
+  -- where no field is left
+  none-left : take (fields - i) (drop i sizes) ≡ [] → eqb left 0 ≡ SizedFrom
+  unfolding together
+  none-left e = rw e (zero-last left)
+
+  -- enough fields were counted
+  pub sized-last : fields ≤ i → eqb left 0 ≡ SizedFrom
+  sized-last h = let e : fields - i ≡ 0 = omega arith in none-left (rw e)
+
+  -- there are no more fields
+  pub sized-past : length sizes ≤ i → eqb left 0 ≡ SizedFrom
+  sized-past h = none-left (rw (drop-of-length-le sizes h, take-nil (fields - i)))
+
+  module _ (more : i < fields) (known : i < length sizes) where
+    -- the next field and those behind it
+    next-size : together (take (fields - i) (drop i sizes)) ≡ getD sizes i 0 + together (take (fields - (i + 1)) (drop (i + 1) sizes))
+    unfolding together
+    next-size =
+        let e : fields - i ≡ suc (fields - (i + 1)) = omega arith in
+        rw (drop-cons sizes i 0 known, e, ← (add-one i))
+
+    -- less is left than the next field
+    pub sized-short : left < getD sizes i 0 → false ≡ SizedFrom
+    sized-short h = sym (ne-eqb _ left (λ (e : together (take (fields - i) (drop i sizes)) ≡ left). omega (arith, e, next-size)))
+
+    -- one field further on
+    pub sized-on : getD sizes i 0 ≤ left → SizedFrom ≡ eqb (together (take (fields - (i + 1)) (drop (i + 1) sizes))) (left - getD sizes i 0)
+    sized-on h = rw next-size (less-both (getD sizes i 0) (together (take (fields - (i + 1)) (drop (i + 1) sizes))) left h)
+
+-- ---------------------------------------------------------------------------
 -- All of them
 
 -- texts one behind the other, with their lengths, are lent as themselves
@@ -111,6 +164,15 @@ pub fields-joined : (fs : List (List ℕ)) → fieldsOf (map (λ (f : List ℕ).
 unfolding fieldsOf joined
 fields-joined [] = refl
 fields-joined (f ∷ fs) = rw (take-append-seam f (joined fs), drop-append-seam f (joined fs), fields-joined fs)
+
+-- and those lengths are the text's
+pub joined-sized : (fs : List (List ℕ)) → sized (length fs) (map (λ (f : List ℕ). length f) fs) (joined fs) ≡ true
+unfolding sized together joined
+joined-sized fs = eq-eqb _ (length (joined fs)) (all-together fs)
+  where
+    all-together : (gs : List (List ℕ)) → together (take (length gs) (map (λ (g : List ℕ). length g) gs)) ≡ length (joined gs)
+    all-together [] = refl
+    all-together (g ∷ gs) = rw (all-together gs) (sym (length-append g (joined gs)))
 
 -- the fields behind the first k are those of the text behind
 pub fields-behind : (k : ℕ) (ns text : List ℕ) → drop k (fieldsOf ns text) ≡ fieldsOf (drop k ns) (behind (take k ns) text)

@@ -1,5 +1,9 @@
 -- How fields are lent to a writer: one behind the other in one text, with the size of each. "Each field is the bytes of its positions".
 use Rattle.refusal.specs.Basics.{ℕ, _+_, _-_, _≤_, _≡_, Bool, cond, List, [], _∷_, eqb, ltb, length, take, drop}
+use Rattle.refusal.specs.Refusal.{none}
+use Rattle.refusal.specs.declared.Answer.{Answer}
+use Rattle.refusal.specs.declared.Answer.the-variants.{Refused}
+use Rattle.refusal.specs.declared.Refusal.the-variants.{Size}
 
 -- the fields: a size that runs past the text's end gives a shorter field
 unfoldable pub fieldsOf : List ℕ → List ℕ → List (List ℕ)
@@ -23,6 +27,10 @@ together (n ∷ ns) = n + together ns
 -- the sizes of so many fields are together the text's: no byte is missing, and none is left over
 unfoldable pub sized : ℕ → List ℕ → List ℕ → Bool
 sized fields sizes text = eqb (together (take fields sizes)) (length text)
+
+-- "1": the sizes of so many fields are not the text's
+abbrev pub forSizes : ℕ → List ℕ → List ℕ → Answer → Answer
+forSizes fields sizes text rest = cond (sized fields sizes text) rest (Refused (Size none))
 
 -- ---------------------------------------------------------------------------
 -- Claims
