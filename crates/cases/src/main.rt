@@ -15,6 +15,7 @@ use question::number_of;
 use question::put_fields;
 use question::put_lines;
 use question::put_sizes;
+use question::size_of;
 use question::tell;
 use question::tell_value;
 use words::front;
@@ -159,7 +160,8 @@ fn write_in(question: &[u8], text: &mut [u8], sizes: &mut [usize], out: &mut [u8
     let fields = behind(question, 5);
     put_fields(text, fields);
     put_sizes(sizes, fields);
-    write_slip(question, text, sizes, &mut out[0..room]);
+    let lent = front(text, size_of(fields));
+    write_slip(question, lent, sizes, &mut out[0..room]);
 }
 
 fn write_slip(question: &[u8], text: &[u8], sizes: &[usize], out: &mut [u8]) {

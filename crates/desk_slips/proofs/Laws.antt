@@ -1,24 +1,36 @@
 -- A slip written, told across the boundary, and where a lent field stands.
 -- Assumes nothing.
 use mathlib.Core.Path.{_≡_, refl}
+use mathlib.Core.Bool.{true, false}
 use mathlib.Core.List.{List, [], _∷_}
 use Prim.Native.Nat.{ℕ, zero, suc}
 use lib.ListN.{take, drop, getD, length}
+use Rattle.classes.proofs.Choices.{left, entered}
+use Rattle.refusal.specs.declared.Refusal.the-variants.{Size}
+use Rattle.refusal.specs.Refusal.{none}
 use Rattle.slip_writer.specs.Steps.{WritesSlip}
 use Rattle.slip_writer.specs.declared.Written.{Written}
 use Rattle.slip_writer.specs.Writer as slip
-use Rattle.lent_fields.specs.Fields.{fieldsOf, behind}
+use Rattle.lent_fields.specs.Fields.{fieldsOf, behind, sized}
 use Rattle.boundary.specs.declared.Valued.{Valued}
+use Rattle.boundary.specs.Told.{refusal, valued}
 use Rattle.boundary.proofs.Laws.{told-and-left}
-use Rattle.desk_slips.specs.Slips.{givenOf, writtenOf, WritesSlipGiven}
+use Rattle.desk_slips.specs.Slips.{givenOf, elevenOf, writtenOf, WritesSlipGiven}
 
--- a slip
+-- a slip, where the sizes are the text's
 pub slip-told :
-    (cents : ℕ) (fields : List (List ℕ)) (out : List ℕ) (r : Written) (t : Valued) (after : List ℕ)
-    → t ≡ writtenOf r → WritesSlip cents fields out r after → WritesSlipGiven cents fields out t after
-slip-told cents fields out r t after e w =
+    (cents : ℕ) (sizes text out : List ℕ) (r : Written) (t : Valued) (after : List ℕ)
+    → sized 11 sizes text ≡ true → t ≡ writtenOf r → WritesSlip cents (elevenOf sizes text) out r after → WritesSlipGiven cents sizes text out t after
+slip-told cents sizes text out r t after h e w =
+    let fields = elevenOf sizes text in
     let both = told-and-left writtenOf (λ (x : Written). slip.leftBySlip x (slip.slipText cents fields) out) (slip.writeAnswer cents fields (length out)) r t after e w in
-    record { answers = both .0; leaves = both .1 }
+    record { answers = entered _ _ _ _ h (both .0); leaves = entered _ _ _ _ h (both .1) }
+
+-- and where they are not
+pub slip-unsized :
+    (cents : ℕ) (sizes text out : List ℕ) (t : Valued)
+    → sized 11 sizes text ≡ false → t ≡ valued (refusal (Size none)) 0 → WritesSlipGiven cents sizes text out t out
+slip-unsized cents sizes text out t h e = record { answers = left _ _ _ _ h e; leaves = left _ _ _ _ h refl }
 
 -- a lent field is the front of the text behind the fields before it
 pub front-behind : (sizes text : List ℕ) (k : ℕ) → take (getD sizes k 0) (behind (take k sizes) text) ≡ givenOf sizes text k

@@ -1,12 +1,14 @@
 -- What the calls of slips tell at the boundary, and what a call that writes answers and leaves.
-use Rattle.refusal.specs.Basics.{ℕ, _≡_, List, [], length, getD}
+use Rattle.refusal.specs.Basics.{ℕ, _≡_, cond, List, [], length, getD}
+use Rattle.refusal.specs.declared.Refusal.the-variants.{Size}
+use Rattle.refusal.specs.Refusal.{none}
 use Rattle.slip_handed.specs.declared.Amount.{Amount}
 use Rattle.slip_handed.specs.declared.Amount.the-variants as amount
 use Rattle.slip_writer.specs.declared.Written.{Written}
 use Rattle.slip_writer.specs.declared.Written.the-variants as written
 use Rattle.slip_given.specs.Given.{eleven}
 use Rattle.slip_writer.specs.Writer as slip
-use Rattle.lent_fields.specs.Fields.{fieldsOf}
+use Rattle.lent_fields.specs.Fields.{fieldsOf, sized}
 use Rattle.boundary.specs.declared.Valued.{Valued}
 use Rattle.boundary.specs.Told.{accepted, refusal, valued}
 
@@ -30,7 +32,8 @@ elevenOf sizes text =
     eleven (givenOf sizes text 0) (givenOf sizes text 1) (givenOf sizes text 2) (givenOf sizes text 3) (givenOf sizes text 4) (givenOf sizes text 5)
     (givenOf sizes text 6) (givenOf sizes text 7) (givenOf sizes text 8) (givenOf sizes text 9) (givenOf sizes text 10)
 
--- a slip
-pub record WritesSlipGiven (cents : ℕ) (fields : List (List ℕ)) (out : List ℕ) (r : Valued) (after : List ℕ) : Type 0 where
-  pub answers : r ≡ writtenOf (slip.writeAnswer cents fields (length out))
-  pub leaves : after ≡ slip.leftBySlip (slip.writeAnswer cents fields (length out)) (slip.slipText cents fields) out
+-- a slip: only where the sizes of its eleven fields are the text's
+pub record WritesSlipGiven (cents : ℕ) (sizes text out : List ℕ) (r : Valued) (after : List ℕ) : Type 0 where
+  pub answers : r ≡ cond (sized 11 sizes text) (writtenOf (slip.writeAnswer cents (elevenOf sizes text) (length out))) (valued (refusal (Size none)) 0)
+  pub leaves :
+      after ≡ cond (sized 11 sizes text) (slip.leftBySlip (slip.writeAnswer cents (elevenOf sizes text) (length out)) (slip.slipText cents (elevenOf sizes text)) out) out

@@ -8,8 +8,10 @@ ghost use Rattle.slip.specs.Slip.{slipAnswer};
 ghost use Rattle.slip_handed.specs.Handed.{fieldPart, slipCents};
 ghost use Rattle.boundary.specs.Told.{toldOf};
 ghost use Rattle.desk_slips.specs.Slips.{centsTold, writtenOf, givenOf, elevenOf, WritesSlipGiven};
+ghost use Rattle.slip_writer.specs.Steps.{WritesSlip};
 use boundary::Told;
 use boundary::Valued;
+use refusal::Refusal;
 use slip_handed::Amount;
 use slip_writer::Written;
 use text::Part;
@@ -54,6 +56,27 @@ fn given<'a>(text: &'a [u8], sizes: &[usize], k: usize) -> &'a [u8]
     )
 }
 
+// Writes a slip from its fields in a text of fields.
+fn write_given(cents: u64, text: &[u8], sizes: &[usize], out: &mut [u8]) -> Written
+    ensures { λ r. ⌜ WritesSlip cents (elevenOf (now (sizes .entry)) (now (text .entry))) (now (out .entry)) r (now (out .exit)) ⌝ }
+{
+    slip_writer::write(
+        cents,
+        given(text, sizes, 0),
+        given(text, sizes, 1),
+        given(text, sizes, 2),
+        given(text, sizes, 3),
+        given(text, sizes, 4),
+        given(text, sizes, 5),
+        given(text, sizes, 6),
+        given(text, sizes, 7),
+        given(text, sizes, 8),
+        given(text, sizes, 9),
+        given(text, sizes, 10),
+        out,
+    )
+}
+
 // Reads a slip.
 #[no_mangle]
 pub extern "C" fn lanecockle_slip_read(slip: &[u8]) -> Told
@@ -79,7 +102,7 @@ pub extern "C" fn lanecockle_slip_cents(slip: &[u8]) -> Valued
 }
 
 // Writes a slip of an amount in cents and the fields 4 to 14, which stand one behind the other in `text`; the value is how
-// many bytes were written.
+// many bytes were written. Sizes that are not the text's are refused with 1, so that no field is shortened without a word.
 #[no_mangle]
 pub extern "C" fn lanecockle_slip_write(
     cents: u64,
@@ -87,21 +110,10 @@ pub extern "C" fn lanecockle_slip_write(
     sizes: &[usize],
     out: &mut [u8],
 ) -> Valued
-    ensures { λ r. ⌜ WritesSlipGiven cents (elevenOf (now (sizes .entry)) (now (text .entry))) (now (out .entry)) r (now (out .exit)) ⌝ }
+    ensures { λ r. ⌜ WritesSlipGiven cents (now (sizes .entry)) (now (text .entry)) (now (out .entry)) r (now (out .exit)) ⌝ }
 {
-    tell_written(slip_writer::write(
-        cents,
-        given(text, sizes, 0),
-        given(text, sizes, 1),
-        given(text, sizes, 2),
-        given(text, sizes, 3),
-        given(text, sizes, 4),
-        given(text, sizes, 5),
-        given(text, sizes, 6),
-        given(text, sizes, 7),
-        given(text, sizes, 8),
-        given(text, sizes, 9),
-        given(text, sizes, 10),
-        out,
-    ))
+    if !lent_fields::is_sized(text, sizes, 11) {
+        return boundary::refuse_value(Refusal::Size(refusal::nowhere()));
+    }
+    tell_written(write_given(cents, text, sizes, out))
 }

@@ -15,6 +15,7 @@ use question::number_at;
 use question::number_of;
 use question::put_fields;
 use question::put_sizes;
+use question::size_of;
 use question::tell;
 use words::front;
 use words::say;
@@ -99,7 +100,8 @@ fn write_in(
     put_sizes(sizes, fields);
     let day = number_at(question, 2) as u64;
     let kind = number_at(question, 3) as u64;
-    write_line(verb, day, kind, text, sizes, orders, out)
+    let lent = front(text, size_of(fields));
+    write_line(verb, day, kind, lent, sizes, orders, out)
 }
 
 fn write_line(

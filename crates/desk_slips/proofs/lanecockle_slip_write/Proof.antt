@@ -1,13 +1,20 @@
--- `desk_slips::lanecockle_slip_write` meets its contract: the eleven fields given, written, and the answer told. Assumes nothing.
+-- `desk_slips::lanecockle_slip_write` meets its contract: the sizes asked, the slip written, and the answer told. Assumes nothing.
+use mathlib.Core.Path.{sym, _∙_}
 use borrow.Author.Needs.{needs}
-use Rattle.desk_slips.proofs.Laws.{slip-told}
+use borrow.Author.Tests.{not-true, not-false}
+use Rattle.desk_slips.proofs.Laws.{slip-told, slip-unsized}
 use Rattle.desk_slips.proofs.lanecockle_slip_write.Statement.{statement}
 use Rattle.desk_slips.proofs.lanecockle_slip_write.Tie as tie
 
 returns : tie.Need-returns
 returns c =
-    rw (← (c .before .before .before .before .before .before .before .before .before .before .before .before .before .before .before .given .ensures), ← (c .before .before .before .before .before .before .before .before .before .before .before .before .before .before .given2 .ensures), ← (c .before .before .before .before .before .before .before .before .before .before .before .before .before .given3 .ensures), ← (c .before .before .before .before .before .before .before .before .before .before .before .before .given4 .ensures), ← (c .before .before .before .before .before .before .before .before .before .before .before .given5 .ensures), ← (c .before .before .before .before .before .before .before .before .before .before .given6 .ensures), ← (c .before .before .before .before .before .before .before .before .before .given7 .ensures), ← (c .before .before .before .before .before .before .before .before .given8 .ensures), ← (c .before .before .before .before .before .before .before .given9 .ensures), ← (c .before .before .before .before .before .before .given10 .ensures), ← (c .before .before .before .before .before .given11 .ensures))
-    (slip-told _ _ _ _ _ _ (c .tell-written .ensures) (c .before .before .before .write .ensures))
+    slip-unsized _ _ _ _ _ (sym (c .before .before .before .is-sized .ensures) ∙ not-true _ (c .before .before .if1 .taken))
+    (rw (c .before .nowhere .ensures) at (c .refuse-value .ensures))
+
+returns-2 : tie.Need-returns-2
+returns-2 c =
+    slip-told _ _ _ _ _ _ _ (sym (c .before .before .before .before .before .before .is-sized .ensures) ∙ not-false _ (c .before .before .before .before .before .if1 .left)) (c .tell-written .ensures)
+    (c .before .before .before .write-given .ensures)
 
 pub lanecockle-slip-write-spec : {M : Type 1} → statement M
-lanecockle-slip-write-spec = tie.close (tie.spec (λ c κs. search needs) (λ c κs. search needs) (λ c κs. search needs) (λ c κs. search needs) (λ c κs. search needs) (λ c κs. search needs) (λ c κs. search needs) (λ c κs. search needs) (λ c κs. search needs) (λ c κs. search needs) (λ c κs. search needs) (λ c κs. search needs) (λ c κs. search needs) (λ c. search needs) returns)
+lanecockle-slip-write-spec = tie.close (tie.spec (λ c κs. search needs) (λ c κs. search needs) (λ c κs. search needs) returns (λ c κs. search needs) (λ c κs. search needs) (λ c. search needs) returns-2)
