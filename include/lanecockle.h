@@ -30,7 +30,7 @@ extern "C" {
  * `number` is 0 where all is right, and otherwise one refusal. Lines and fields count from 1, bytes from 0 in the slip or
  * in the line of the wage file; 0 stands for "none". `needed` is told for 15 alone.
  *
- *    1  wrong size of the whole input or line
+ *    1  wrong size of the whole input or line; or a writer's sizes are not those of its text
  *    2  line ends wrong: a slip has not exactly fourteen LF with one last; a file line lacks CR LF
  *    3  a byte that the field does not permit
  *    4  field too long or not of its fixed length
@@ -155,9 +155,11 @@ lanecockle_part lanecockle_slip_field(const uint8_t *slip, size_t length, size_t
 lanecockle_valued lanecockle_slip_cents(const uint8_t *slip, size_t length);
 
 /* Writes a slip at the front of `out`; `value` is how many bytes. The fields 4 to 14 stand one behind the other in `text`;
- * sizes[0] to sizes[10] are their bytes. A size that is not there is 0, and one that runs past the end of `text` ends with
- * it. Refusals: those of lanecockle_slip_read for the fields 3 to 14 (10^15 cents or more are 4), the byte of a 3 counted
- * within its field and 0 otherwise; then 15 with the needed number of bytes. 483 bytes are always enough. */
+ * sizes[0] to sizes[10] are their bytes. A size that is not there is 0, and sizes beyond the eleventh are not read. These
+ * eleven add up to `text_length`: a size that runs past the end of `text`, or a byte left over, is refused with 1, at no
+ * place and before all else. Refusals then: those of lanecockle_slip_read for the fields 3 to 14 (10^15 cents or more are
+ * 4), the byte of a 3 counted within its field and 0 otherwise; then 15 with the needed number of bytes. 483 bytes are
+ * always enough. */
 lanecockle_valued lanecockle_slip_write(uint64_t cents, const uint8_t *text, size_t text_length, const size_t *sizes,
                                         size_t count, uint8_t *out, size_t room);
 
@@ -226,9 +228,10 @@ lanecockle_part lanecockle_wage_place(const uint8_t *line, size_t length, size_t
  *
  * Each call writes one line, 1,002 bytes with its CR LF, at the front of `out`, and nothing behind it. The fields stand one
  * behind the other in `text`, each the bytes of its positions; `sizes` are their bytes, `count` how many sizes there are. A
- * size that is not there is 0, and one that runs past the end of `text` ends with it; sizes beyond the last field are not
- * read. Refusals, in this order, line 0 unless told: 11 for the day; 5 with field 0 for a kind that is not 4 or 5; those of
- * a 301's orders; the judge's for the fields, 4 (another length) first in each; 15 with 1,002 where the room is less. */
+ * size that is not there is 0, and sizes beyond the last field are not read. The sizes of the fields add up to
+ * `text_length`. Refusals, in this order, line 0 unless told: 1 where a size runs past the end of `text` or a byte is left
+ * over; 11 for the day; 5 with field 0 for a kind that is not 4 or 5; those of a 301's orders; the judge's for the fields, 4
+ * (another length) first in each; 15 with 1,002 where the room is less. */
 
 /* A 300: eight fields, 1 to 8. */
 lanecockle_told lanecockle_write_label(uint64_t day, const uint8_t *text, size_t text_length, const size_t *sizes,

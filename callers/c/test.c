@@ -321,7 +321,7 @@ static void test_filled(void)
 typedef struct {
     uint8_t text[2048];
     size_t length;
-    size_t sizes[16];
+    size_t sizes[17];
     size_t count;
 } fields;
 
@@ -521,29 +521,21 @@ static void test_slip_write_refusals(void)
     UNWRITTEN(0, f, LANECOCKLE_LENGTH, 10, 0);
 }
 
+/* A size that is not there is 0, and one beyond the eleventh is not read. */
 static void test_slip_write_sizes(void)
 {
-    fields f = slip_given(0, "");
-    const char *slip = slip_with(0, "");
-    size_t length = strlen(slip);
+    fields f = slip_given(14, "");
+    const char *slip = slip_with(14, "");
     uint8_t *out = fresh_room();
-    /* the last size runs past the text, and ends with it */
-    f.sizes[10] = SIZE_MAX;
-    VALUE(lanecockle_slip_write(12355, F(f), out, ROOM), length);
-    CHECK(memcmp(out, slip, length) == 0);
-    /* the first takes the whole text */
-    f.sizes[0] = SIZE_MAX;
-    UNWRITTEN(12355, f, LANECOCKLE_LENGTH, 4, 0);
-    /* the last is not there */
-    f = slip_given(0, "");
     f.count = 10;
-    slip = slip_with(14, "");
     VALUE(lanecockle_slip_write(12355, F(f), out, ROOM), strlen(slip));
-    CHECK(memcmp(out, slip, strlen(slip)) == 0);
-    /* and one too many is not read */
+    CHECK(memcmp(out, slip, strlen(slip)) == 0 && is_untouched(out, strlen(slip)));
     f = slip_given(0, "");
+    slip = slip_with(0, "");
     f.sizes[f.count++] = 7;
-    VALUE(lanecockle_slip_write(12355, F(f), out, ROOM), length);
+    out = fresh_room();
+    VALUE(lanecockle_slip_write(12355, F(f), out, ROOM), strlen(slip));
+    CHECK(memcmp(out, slip, strlen(slip)) == 0 && is_untouched(out, strlen(slip)));
 }
 
 /* Written, read, and written again from what was read. */
@@ -862,6 +854,75 @@ static void test_write_closing(void)
 }
 
 /* ---------------------------------------------------------------------------------------------------------------------
+ * Sizes that are not the text's */
+
+/* A call that writes: the number is a slip's cents, or a line's day. */
+typedef lanecockle_told writer(uint64_t number, fields f, uint8_t *out, size_t room);
+
+static lanecockle_told slip_told(uint64_t cents, fields f, uint8_t *out, size_t room)
+{
+    lanecockle_valued valued = lanecockle_slip_write(cents, F(f), out, room);
+    CHECK(valued.told.number == LANECOCKLE_ACCEPTED || valued.value == 0);
+    return valued.told;
+}
+
+static lanecockle_told label_told(uint64_t day, fields f, uint8_t *out, size_t room)
+{
+    return lanecockle_write_label(day, F(f), out, room);
+}
+
+static lanecockle_told order_told(uint64_t day, fields f, uint8_t *out, size_t room)
+{
+    return lanecockle_write_order(day, 4, F(f), out, room);
+}
+
+static lanecockle_told group_told(uint64_t day, fields f, uint8_t *out, size_t room)
+{
+    return lanecockle_write_group(day, 4, F(f), order_line("000000000012355"), LINE, out, room);
+}
+
+/* They are 1 before the cents or the day, and before the room; the room stays as it was. */
+static void check_unsized(writer *write, fields f, int line)
+{
+    uint8_t *out = fresh_room();
+    check_told(write(DAY, f, out, ROOM), LANECOCKLE_SIZE, 0, 0, 0, 0, "sizes that do not fit", line);
+    check_told(write(UINT64_MAX, f, out, ROOM), LANECOCKLE_SIZE, 0, 0, 0, 0, "1 before the number", line);
+    check_told(write(DAY, f, NULL, 0), LANECOCKLE_SIZE, 0, 0, 0, 0, "1 before the room", line);
+    check(is_untouched(out, 0), "sizes that do not fit leave the room", line);
+}
+
+#define UNSIZED(f) check_unsized(write, (f), line)
+
+static void check_sizes(writer *write, fields right, int line)
+{
+    size_t last = right.count - 1;
+    fields f = right;
+    check_told(write(DAY, right, fresh_room(), ROOM), LANECOCKLE_ACCEPTED, 0, 0, 0, 0, "sizes that fit", line);
+    /* a size too large: the last by one, the last and the first by far, and two that make the text's in 64 bits */
+    f.sizes[last]++, UNSIZED(f);
+    f.sizes[last] = SIZE_MAX, UNSIZED(f);
+    f = right, f.sizes[0] = SIZE_MAX, UNSIZED(f);
+    f.sizes[1] = right.sizes[0] + right.sizes[1] + 1, UNSIZED(f);
+    /* a byte left over: behind the last field, of the last field, and for a size that is not read */
+    f = right, f.text[f.length++] = ' ', UNSIZED(f);
+    f.sizes[f.count++] = 1, UNSIZED(f);
+    f = right, f.sizes[last]--, UNSIZED(f);
+    /* the last size not there, and none of them */
+    f = right, f.count--, UNSIZED(f);
+    f.count = 0, UNSIZED(f);
+}
+
+#define SIZES(write, right) check_sizes((write), (right), __LINE__)
+
+static void test_sizes(void)
+{
+    SIZES(slip_told, slip_given(0, ""));
+    SIZES(label_told, label_given(0, ""));
+    SIZES(order_told, order_given(0, ""));
+    SIZES(group_told, group_given(0, ""));
+}
+
+/* ---------------------------------------------------------------------------------------------------------------------
  * Wage files judged */
 
 enum { FILE_LINES = 5 };
@@ -1138,11 +1199,11 @@ static void (*const tests[])(void) = {
     test_slip_write_sizes, test_slip_round,   test_write_label,
     test_label_refusals, test_write_order,    test_order_refusals,
     test_write_group,    test_group_orders,   test_group_too_large,
-    test_group_refusals, test_write_closing,  test_wage_file,
-    test_wage_refusals,  test_judge_steps,    test_judge_parts,
-    test_judge_refused,  test_record_counts,  test_record_sums,
-    test_record_conditions, test_record_refusals, test_places,
-    test_wage_round,
+    test_group_refusals, test_write_closing,  test_sizes,
+    test_wage_file,      test_wage_refusals,  test_judge_steps,
+    test_judge_parts,    test_judge_refused,  test_record_counts,
+    test_record_sums,    test_record_conditions, test_record_refusals,
+    test_places,         test_wage_round,
 };
 
 int main(void)
