@@ -7,7 +7,7 @@ ghost use Rattle.wage_writer.specs.Writer.{labelAnswer, labelDraft, orderAnswer
 ghost use Rattle.group_writer.specs.GroupWriter.{groupAnswer, groupDraft};
 ghost use Rattle.line_room.specs.LineRoom.{closingAnswer};
 ghost use Rattle.bare_line.specs.Bare.{bareLine};
-ghost use Rattle.lent_fields.specs.Fields.{fieldsOf};
+ghost use Rattle.lent_fields.specs.Fields.{fieldsOf, forSizes};
 ghost use Rattle.desk_writers.specs.Writes.{WritesLine};
 use boundary::Told;
 use wage_places::LineType;
@@ -20,7 +20,7 @@ pub extern "C" fn lanecockle_write_label(
     sizes: &[usize],
     out: &mut [u8],
 ) -> Told
-    ensures { λ r. ⌜ WritesLine (labelAnswer day (fieldsOf (now (sizes .entry)) (now (text .entry))) (length (now (out .entry)))) (labelDraft day (fieldsOf (now (sizes .entry)) (now (text .entry))) .line) (now (out .entry)) r (now (out .exit)) ⌝ }
+    ensures { λ r. ⌜ WritesLine (forSizes 8 (now (sizes .entry)) (now (text .entry)) (labelAnswer day (fieldsOf (now (sizes .entry)) (now (text .entry))) (length (now (out .entry))))) (labelDraft day (fieldsOf (now (sizes .entry)) (now (text .entry))) .line) (now (out .entry)) r (now (out .exit)) ⌝ }
 {
     boundary::tell(wage_writer::write_label(day, text, sizes, out))
 }
@@ -34,7 +34,7 @@ pub extern "C" fn lanecockle_write_order(
     sizes: &[usize],
     out: &mut [u8],
 ) -> Told
-    ensures { λ r. ⌜ WritesLine (orderAnswer day kind (fieldsOf (now (sizes .entry)) (now (text .entry))) (length (now (out .entry)))) (orderDraft day kind (fieldsOf (now (sizes .entry)) (now (text .entry))) .line) (now (out .entry)) r (now (out .exit)) ⌝ }
+    ensures { λ r. ⌜ WritesLine (forSizes 16 (now (sizes .entry)) (now (text .entry)) (orderAnswer day kind (fieldsOf (now (sizes .entry)) (now (text .entry))) (length (now (out .entry))))) (orderDraft day kind (fieldsOf (now (sizes .entry)) (now (text .entry))) .line) (now (out .entry)) r (now (out .exit)) ⌝ }
 {
     boundary::tell(wage_writer::write_order(day, kind, text, sizes, out))
 }
@@ -49,7 +49,7 @@ pub extern "C" fn lanecockle_write_group(
     orders: &[u8],
     out: &mut [u8],
 ) -> Told
-    ensures { λ r. ⌜ WritesLine (groupAnswer day kind (fieldsOf (now (sizes .entry)) (now (text .entry))) (now (orders .entry)) (length (now (out .entry)))) (groupDraft day kind (fieldsOf (now (sizes .entry)) (now (text .entry))) (now (orders .entry)) .line) (now (out .entry)) r (now (out .exit)) ⌝ }
+    ensures { λ r. ⌜ WritesLine (forSizes 5 (now (sizes .entry)) (now (text .entry)) (groupAnswer day kind (fieldsOf (now (sizes .entry)) (now (text .entry))) (now (orders .entry)) (length (now (out .entry))))) (groupDraft day kind (fieldsOf (now (sizes .entry)) (now (text .entry))) (now (orders .entry)) .line) (now (out .entry)) r (now (out .exit)) ⌝ }
 {
     boundary::tell(group_writer::write_group(day, kind, text, sizes, orders, out))
 }

@@ -1,12 +1,12 @@
 // The writer of a 301, from its fields and its group's lent orders, into lent room.
 //
-// Document 01, "The wage file". Refusals in their order: the day, the kind, the lent orders, the fields, the room.
+// Document 01, "The wage file". Refusals in their order: the sizes of the fields, the day, the kind, the lent orders, the fields, the room.
 ghost use Prim.Native.Nat.{_<_, _/_};
 ghost use lib.ListN.{length, take, drop, replicate};
 ghost use Rattle.refusal.specs.Refusal.{firstOf};
 ghost use Rattle.wage_line.specs.Pieces.{pieces};
 ghost use Rattle.worked_out.specs.Amounts.{amounts};
-ghost use Rattle.lent_fields.specs.Fields.{fieldsOf};
+ghost use Rattle.lent_fields.specs.Fields.{fieldsOf, forSizes};
 ghost use Rattle.group_writer.specs.GroupWriter.{groupDraft, groupAnswer};
 ghost use Rattle.line_room.specs.LineRoom.{forRoom, Writes};
 ghost use mathlib.Core.Path.{_≡_};
@@ -113,8 +113,11 @@ pub fn write_group(
     orders: &[u8],
     out: &mut [u8],
 ) -> Answer
-    ensures { λ r. ⌜ Writes (groupAnswer day kind (fieldsOf (now (sizes .entry)) (now (text .entry))) (now (orders .entry)) (length (now (out .entry)))) (groupDraft day kind (fieldsOf (now (sizes .entry)) (now (text .entry))) (now (orders .entry)) .line) (now (out .entry)) r (now (out .exit)) ⌝ }
+    ensures { λ r. ⌜ Writes (forSizes 5 (now (sizes .entry)) (now (text .entry)) (groupAnswer day kind (fieldsOf (now (sizes .entry)) (now (text .entry))) (now (orders .entry)) (length (now (out .entry))))) (groupDraft day kind (fieldsOf (now (sizes .entry)) (now (text .entry))) (now (orders .entry)) .line) (now (out .entry)) r (now (out .exit)) ⌝ }
 {
+    if !lent_fields::is_sized(text, sizes, 5) {
+        return Answer::Refused(Refusal::Size(refusal::nowhere()));
+    }
     if !dates::is_date(day) {
         return Answer::Refused(Refusal::Date(refusal::nowhere()));
     }

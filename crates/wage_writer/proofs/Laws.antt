@@ -1,20 +1,33 @@
--- Laws of the writer: a draft, and its line put into the room. Assumes nothing.
-use mathlib.Core.Path.{_≡_, sym, _∙_}
+-- Laws of the writer: the sizes of its fields, a draft, and its line put into the room. Assumes nothing.
+use mathlib.Core.Path.{_≡_, refl, sym, _∙_}
+use mathlib.Core.Bool.{true, false}
 use mathlib.Core.List.{List}
 use Prim.Native.Nat.{ℕ, _-_}
 use native.Mathlib.Omega.{arith}
 use lib.ListN.{length, take, drop}
 use lib.Seq.{take-all}
-use Rattle.refusal.specs.Refusal.{firstOf}
+use Rattle.refusal.specs.Refusal.{none, firstOf}
+use Rattle.refusal.specs.declared.Place.{Place}
 use Rattle.refusal.specs.declared.Answer.{Answer}
 use Rattle.refusal.specs.declared.Answer.the-variants.{Accepted, Refused}
 use Rattle.refusal.specs.declared.Refusal.{Refusal}
+use Rattle.refusal.specs.declared.Refusal.the-variants.{Size}
 use Rattle.wage_places.specs.declared.LineType.{LineType}
 use Rattle.wage_places.specs.Places.{spots}
+use Rattle.lent_fields.specs.Fields.{sized, forSizes}
 use Rattle.bare_line.specs.Bare.{bareLine}
 use Rattle.wage_draft.specs.Draft.{Draft, drafted, Drafts}
 use Rattle.line_room.specs.LineRoom.{Writes}
 use Rattle.line_room.proofs.Laws.{accepted-first, refused-first}
+
+module _ (line out : List ℕ) (fields : ℕ) (sizes text : List ℕ) (rest : Answer) where
+  -- the sizes are not the text's
+  pub sizes-wrong : (p : Place) → sized fields sizes text ≡ false → p ≡ none → Writes (forSizes fields sizes text rest) line out (Refused (Size p)) out
+  sizes-wrong p e n = rw (e, n) (record { answers = refl; leaves = refl })
+
+  -- the sizes are the text's
+  pub sizes-right : (r : Answer) (after : List ℕ) → sized fields sizes text ≡ true → Writes rest line out r after → Writes (forSizes fields sizes text rest) line out r after
+  sizes-right r after e w = rw e w
 
 module _ (d : Draft) (r : Answer) (line : List ℕ) (w : Drafts d r line) (rest : Answer) (out : List ℕ) where
   -- a refused draft leaves the room as it was

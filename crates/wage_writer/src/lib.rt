@@ -1,12 +1,13 @@
 // The writer of a wage file: a 300 or a 309 from its fields, into lent room.
 //
-// Document 01, "The wage file". The fields are lent one behind the other in one text, with the size of each. A line is
-// drafted in scratch room and judged there by the judge's own rules; only a right one reaches the lent room.
+// Document 01, "The wage file". The fields are lent one behind the other in one text, with the size of each: sizes
+// that are together not the text's are refused with 1. A line is drafted in scratch room and judged there by the judge's own
+// rules; only a right one reaches the lent room.
 ghost use mathlib.Core.Path.{_≡_};
 ghost use lib.ListN.{length, replicate};
 ghost use Rattle.refusal.specs.Refusal.{firstOf};
 ghost use Rattle.wage_places.specs.Places.{spots};
-ghost use Rattle.lent_fields.specs.Fields.{fieldsOf};
+ghost use Rattle.lent_fields.specs.Fields.{fieldsOf, forSizes};
 ghost use Rattle.bare_line.specs.Bare.{bareLine};
 ghost use Rattle.wage_draft.specs.Draft.{drafted, Drafts};
 ghost use Rattle.wage_writer.specs.Writer.{labelDraft, orderDraft, labelAnswer, orderAnswer};
@@ -52,8 +53,11 @@ fn write_line(
 
 // Writes a 300 for a day from its fields 1 to 8.
 pub fn write_label(day: u64, text: &[u8], sizes: &[usize], out: &mut [u8]) -> Answer
-    ensures { λ r. ⌜ Writes (labelAnswer day (fieldsOf (now (sizes .entry)) (now (text .entry))) (length (now (out .entry)))) (labelDraft day (fieldsOf (now (sizes .entry)) (now (text .entry))) .line) (now (out .entry)) r (now (out .exit)) ⌝ }
+    ensures { λ r. ⌜ Writes (forSizes 8 (now (sizes .entry)) (now (text .entry)) (labelAnswer day (fieldsOf (now (sizes .entry)) (now (text .entry))) (length (now (out .entry))))) (labelDraft day (fieldsOf (now (sizes .entry)) (now (text .entry))) .line) (now (out .entry)) r (now (out .exit)) ⌝ }
 {
+    if !lent_fields::is_sized(text, sizes, 8) {
+        return Answer::Refused(Refusal::Size(refusal::nowhere()));
+    }
     if !dates::is_date(day) {
         return Answer::Refused(Refusal::Date(refusal::nowhere()));
     }
@@ -62,8 +66,11 @@ pub fn write_label(day: u64, text: &[u8], sizes: &[usize], out: &mut [u8]) -> An
 
 // Writes a 309 for a day and a kind from its fields 1, 2, 5 to 12 and 18 to 23.
 pub fn write_order(day: u64, kind: u64, text: &[u8], sizes: &[usize], out: &mut [u8]) -> Answer
-    ensures { λ r. ⌜ Writes (orderAnswer day kind (fieldsOf (now (sizes .entry)) (now (text .entry))) (length (now (out .entry)))) (orderDraft day kind (fieldsOf (now (sizes .entry)) (now (text .entry))) .line) (now (out .entry)) r (now (out .exit)) ⌝ }
+    ensures { λ r. ⌜ Writes (forSizes 16 (now (sizes .entry)) (now (text .entry)) (orderAnswer day kind (fieldsOf (now (sizes .entry)) (now (text .entry))) (length (now (out .entry))))) (orderDraft day kind (fieldsOf (now (sizes .entry)) (now (text .entry))) .line) (now (out .entry)) r (now (out .exit)) ⌝ }
 {
+    if !lent_fields::is_sized(text, sizes, 16) {
+        return Answer::Refused(Refusal::Size(refusal::nowhere()));
+    }
     if !dates::is_date(day) {
         return Answer::Refused(Refusal::Date(refusal::nowhere()));
     }
