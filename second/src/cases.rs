@@ -303,6 +303,7 @@ mod tests {
         let written = format!("accepted bytes 74|{}", slip.replace('|', "\n"));
         let nothing = |told: &str| format!("refused {told} bytes 0|");
         let much = nothing("4 line 0 field 3 byte 0 needed 0");
+        let left_over = "1 line 0 field 0 byte 0 needed 0";
         let refused = "refused 2 line 0 field 0 byte 0 needed 0";
         for (question, expected) in [
             (format!("slip|{slip}"), "accepted"),
@@ -321,6 +322,11 @@ mod tests {
             (
                 format!("write|1100|0000000000000000000007|||{tail}"),
                 &written,
+            ),
+            (format!("write|74|7|||{tail}|x"), &nothing(left_over)),
+            (
+                format!("write|0|9999999999999999|||{tail}||x"),
+                &nothing(left_over),
             ),
             (format!("write|1101|7|||{tail}"), "unknown"),
             (
@@ -356,6 +362,10 @@ mod tests {
                 "refused 15 line 0 field 0 byte 0 needed 1002",
             ),
             (&format!("300|1101|{LABEL}"), "unknown"),
+            (
+                &format!("300|0|{LABEL}|x"),
+                "refused 1 line 0 field 0 byte 0 needed 0",
+            ),
             (&format!("300|1003|{LABEL}"), "accepted"),
             ("place|1002|6", "00000000042"),
             ("place|1002|9", ""),
@@ -381,6 +391,15 @@ mod tests {
                 "301|1002|20240228|4||a|b|c|d|e",
                 "refused 10 line 0 field 0 byte 0 needed 0",
             ),
+            (
+                "301|1002|20240228|3||a|b|c|d|e|f",
+                "refused 1 line 0 field 0 byte 0 needed 0",
+            ),
+            (
+                "309|1002|0|3||||||||||||||||||f",
+                "refused 1 line 0 field 0 byte 0 needed 0",
+            ),
+            ("399|1002|20240228|||f", "accepted"),
             (
                 "begin|20240230",
                 "refused 11 line 0 field 0 byte 0 needed 0",

@@ -27,33 +27,42 @@ mod tests {
 
     const MOST: usize = usize::MAX;
 
-    fn three(sizes: &[usize]) -> Option<[&'static [u8]; 3]> {
-        fields(b"abcd", sizes).ok()
+    /// Three fields of a text, with bars between them.
+    fn three(text: &str, sizes: &[usize]) -> Option<String> {
+        let fields: Result<[&[u8]; 3], _> = fields(text.as_bytes(), sizes);
+        assert!(fields.is_ok() || fields == Err(Refusal::at(Reason::Size, 0)));
+        Some(String::from_utf8(fields.ok()?.join(&b'|')).expect("as it was given"))
     }
 
     #[test]
     fn sizes_of_the_text() {
-        assert_eq!(three(&[1, 0, 3]), Some([b"a", b"", b"bcd"]));
-        assert_eq!(three(&[0, 0, 4]), Some([b"", b"", b"abcd"]));
-        // Missing ones are 0, further ones are not read.
-        assert_eq!(three(&[4]), Some([b"abcd", b"", b""]));
-        assert_eq!(three(&[1, 1, 2, 7]), Some([b"a", b"b", b"cd"]));
-        assert_eq!(fields(b"", &[]), Ok([&b""[..]; 3]));
-        assert_eq!(fields(b"", &[3, MOST]), Ok([]));
+        for (text, sizes, expected) in [
+            ("abcd", &[1, 0, 3][..], "a||bcd"),
+            ("abcd", &[0, 0, 4], "||abcd"),
+            // Missing ones are 0, further ones are not read.
+            ("abcd", &[4], "abcd||"),
+            ("abcd", &[1, 1, 2, 7], "a|b|cd"),
+            ("", &[], "||"),
+            ("", &[0, 0, 0, MOST], "||"),
+        ] {
+            assert_eq!(three(text, sizes).as_deref(), Some(expected), "{sizes:?}");
+        }
     }
 
     #[test]
     fn other_sizes() {
-        // Past the end, by one and by more; two that together are 0 in 64 bits.
-        assert_eq!(three(&[1, 1, 3]), None);
-        assert_eq!(three(&[MOST, 0, 0]), None);
-        assert_eq!(three(&[4, MOST, 1]), None);
-        assert_eq!(three(&[2, 2, 1]), None);
-        // Bytes left over, also where a further size would take them.
-        assert_eq!(three(&[1, 1, 1]), None);
-        assert_eq!(three(&[1, 1, 1, 1]), None);
-        assert_eq!(three(&[]), None);
-        let refused: Result<[&[u8]; 3], _> = fields(b"a", &[]);
-        assert_eq!(refused, Err(Refusal::at(Reason::Size, 0)));
+        for (text, sizes) in [
+            // Past the end, by one and by far, and round to the text's in 64 bits.
+            ("abcd", &[1, 1, 3][..]),
+            ("abcd", &[MOST, 0, 0]),
+            ("abcd", &[4, 1, MOST]),
+            ("", &[0, 0, 1]),
+            // Bytes left over, also where a further size would take them.
+            ("abcd", &[1, 1, 1]),
+            ("abcd", &[1, 1, 1, 1]),
+            ("abcd", &[]),
+        ] {
+            assert_eq!(three(text, sizes), None, "{sizes:?}");
+        }
     }
 }

@@ -20,6 +20,34 @@ static int is(const char *name)
 static uint8_t peek(const void *at, ptrdiff_t place) { return ((const volatile uint8_t *)at)[place]; }
 static void poke(const void *at, size_t place) { volatile uint8_t *byte = (volatile uint8_t *)at + place; *byte = *byte; }
 
+/* Sizes as a library takes them that lets a field end with the text. */
+static const size_t *cut(const size_t *sizes, size_t count, size_t text_length)
+{
+    static size_t shorter[64];
+    size_t i;
+    for (i = 0; i < count; i++) {
+        shorter[i] = sizes[i] < text_length ? sizes[i] : text_length;
+        text_length -= shorter[i];
+    }
+    return shorter;
+}
+
+/* What the sizes of so many fields make, in 64 bits. */
+static size_t together(const size_t *sizes, size_t count, size_t fields)
+{
+    size_t i, sum = 0;
+    for (i = 0; i < count && i < fields; i++)
+        sum += sizes[i];
+    return sum;
+}
+
+/* A text as a library takes it that drops what its fields leave over. */
+static size_t dropped(const size_t *sizes, size_t count, size_t fields, size_t text_length)
+{
+    size_t sum = together(sizes, count, fields);
+    return sum < text_length ? sum : text_length;
+}
+
 /* Check digits, accounts, references */
 
 lanecockle_told right_lanecockle_check_digits(uint32_t, const uint8_t *, size_t);
@@ -167,12 +195,22 @@ lanecockle_valued lanecockle_slip_cents(const uint8_t *slip, size_t length)
 lanecockle_valued lanecockle_slip_write(uint64_t cents, const uint8_t *text, size_t text_length, const size_t *sizes,
                                         size_t count, uint8_t *out, size_t room)
 {
+    if (is("slip-write-cuts"))
+        sizes = cut(sizes, count, text_length);
+    if (is("slip-write-drops"))
+        text_length = dropped(sizes, count, 11, text_length);
     lanecockle_valued written = right_lanecockle_slip_write(cents, text, text_length, sizes, count, out, room);
     if (is("slip-write-behind") && written.told.number == 0 && room > written.value)
         out[written.value] ^= 1;
     if (is("slip-write-value") && written.told.number == 0)
         written.value--;
     if (is("slip-write-refused-writes") && written.told.number > 2 && room > 0)
+        out[0] ^= 1;
+    if (is("slip-write-wraps") && written.told.number == 1 && together(sizes, count, 11) == text_length)
+        written.told.number = 4;
+    if (is("slip-write-one-too-many") && written.told.number == 1 && together(sizes, count, 12) == text_length)
+        written.told.number = 4;
+    if (is("slip-write-refused-size-writes") && written.told.number == 1 && room > 0)
         out[0] ^= 1;
     if (is("slip-write-reads-sizes"))
         peek(sizes + count, 0);
@@ -275,6 +313,10 @@ lanecockle_told right_lanecockle_write_closing(uint64_t, uint8_t *, size_t);
 lanecockle_told lanecockle_write_label(uint64_t day, const uint8_t *text, size_t text_length, const size_t *sizes,
                                        size_t count, uint8_t *out, size_t room)
 {
+    if (is("label-cuts"))
+        sizes = cut(sizes, count, text_length);
+    if (is("label-drops"))
+        text_length = dropped(sizes, count, 8, text_length);
     lanecockle_told told = right_lanecockle_write_label(day, text, text_length, sizes, count, out, room);
     if (is("label-blanks") && told.number == 0)
         out[57] = '0';
@@ -286,7 +328,13 @@ lanecockle_told lanecockle_write_label(uint64_t day, const uint8_t *text, size_t
 lanecockle_told lanecockle_write_order(uint64_t day, uint64_t kind, const uint8_t *text, size_t text_length,
                                        const size_t *sizes, size_t count, uint8_t *out, size_t room)
 {
+    if (is("order-cuts"))
+        sizes = cut(sizes, count, text_length);
+    if (is("order-drops"))
+        text_length = dropped(sizes, count, 16, text_length);
     lanecockle_told told = right_lanecockle_write_order(day, kind, text, text_length, sizes, count, out, room);
+    if (is("order-day-first") && told.number == 1 && day > 99999999)
+        told.number = 11;
     if (is("order-zeros") && told.number == 0)
         memset(out + 539, ' ', 3);
     if (is("order-refused-writes") && told.number == 9 && room > 0)
@@ -300,6 +348,10 @@ lanecockle_told lanecockle_write_group(uint64_t day, uint64_t kind, const uint8_
                                        const size_t *sizes, size_t count, const uint8_t *orders, size_t orders_length,
                                        uint8_t *out, size_t room)
 {
+    if (is("group-cuts"))
+        sizes = cut(sizes, count, text_length);
+    if (is("group-drops"))
+        text_length = dropped(sizes, count, 5, text_length);
     lanecockle_told told = right_lanecockle_write_group(day, kind, text, text_length, sizes, count, orders,
                                                         orders_length, out, room);
     if (is("group-sum") && told.number == 0 && orders_length > 1002)

@@ -8,7 +8,7 @@ use crate::lane;
 use crate::lent::{Given, Shelf};
 use crate::trial::{told, Inputs, Plan, Trial};
 use second::generate::{right_slip, spoil_slip};
-use second::slip::{Slip, LARGEST, TOO_MUCH};
+use second::slip::{Slip, LARGEST, TEXTS, TOO_MUCH};
 
 pub fn run(plan: &Plan) {
     let (mut shelf, mut out) = (Shelf::new(), Room::new(4096));
@@ -20,15 +20,12 @@ pub fn run(plan: &Plan) {
 fn one(trial: &mut Trial, shelf: &mut Shelf, out: &mut Room) {
     let dice = &mut trial.dice;
     let (cents, given) = (cents(dice), given(dice));
-    let slip = Slip {
-        cents,
-        texts: given.fields(),
-    };
-    let size = room_for(dice, &slip);
+    let size = room_for(dice, given.text.len());
     let side = Side::any(dice);
     let (out, before) = out.lend::<u8>(dice, size, side);
     let ours = lane::slip_write(cents, shelf.lend(&given, side), out);
-    let theirs = slip.write(size);
+    let texts = given.fields();
+    let theirs = texts.and_then(|texts| Slip { cents, texts }.write(size));
     let sizes = &given.sizes[..];
     let inputs: Inputs = &[
         ("cents", &cents),
@@ -69,15 +66,16 @@ fn given(dice: &mut Dice) -> Given {
         spoil_slip(dice, &mut fields);
     }
     let mut given = Given::new(&fields[3..]);
-    if fate == 9 {
+    if fate >= 8 {
         given.mangle(dice);
     }
     given
 }
 
-/// A room about the size of the slip.
-fn room_for(dice: &mut Dice, slip: &Slip) -> usize {
-    let needed = 29 + slip.texts.iter().map(|text| text.len() + 1).sum::<usize>();
+/// A room about the size of the slip: fields 1 to 3, the text, and an LF behind
+/// each of its fields.
+fn room_for(dice: &mut Dice, length: usize) -> usize {
+    let needed = 29 + length + TEXTS;
     match dice.below(10) {
         0 => 0,
         1 | 2 => needed.saturating_sub(1),

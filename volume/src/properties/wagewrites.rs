@@ -105,9 +105,9 @@ fn second_writes(asked: &Asked, room: &mut [u8]) -> Result<(), Refusal> {
     let day = u32::try_from(asked.day).unwrap_or(0);
     let (kind, given) = (asked.kind, &asked.given);
     match asked.of {
-        Type::Label => write_label(day, &given.fields(), room),
-        Type::Group => write_group(day, kind, &given.fields(), &asked.orders, room),
-        Type::Order => write_order(day, kind, &given.fields(), room),
+        Type::Label => write_label(day, &given.fields()?, room),
+        Type::Group => write_group(day, kind, &given.fields()?, &asked.orders, room),
+        Type::Order => write_order(day, kind, &given.fields()?, room),
         Type::Close => write_close(day, room),
     }
 }
@@ -116,7 +116,7 @@ fn asked(maker: &mut Maker, dice: &mut Dice, of: Type) -> Asked {
     let (day, kind) = (right_day(dice), *dice.pick(&[4, 5]));
     let wrong = *dice.pick(&[0, 0, 0, 1, 1, 2, 3]);
     let mut given = Given::new(&spoilt_line(dice, of, day, kind, wrong));
-    if dice.one_in(12) {
+    if dice.one_in(6) {
         given.mangle(dice);
     }
     let orders = match of {
