@@ -33,7 +33,8 @@ impl Given {
     /// a text too short.
     fn overrun(&mut self, dice: &mut Dice) {
         let last = self.sizes.len().saturating_sub(1);
-        let place = *dice.pick(&[last, dice.below(last + 1)]);
+        let any = dice.below(last + 1);
+        let place = *dice.pick(&[last, any]);
         let Some(size) = self.sizes.get_mut(place) else {
             return;
         };
