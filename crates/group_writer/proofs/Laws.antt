@@ -17,9 +17,11 @@ use Rattle.refusal.specs.declared.Answer.{Answer}
 use Rattle.refusal.specs.declared.Answer.the-variants.{Accepted, Refused}
 use Rattle.refusal.specs.declared.Refusal.{Refusal}
 use Rattle.bare_line.specs.Bare.{bareLine}
+use Rattle.bare_line.proofs.Theorems.{bare-length}
 use Rattle.lent_fields.specs.Fields.{fieldsOf, behind}
 use Rattle.lent_fields.proofs.Laws.{fields-behind}
-use Rattle.wage_draft.specs.Draft.{Draft, drafted, goingOn, Drafts}
+use Rattle.wage_draft.specs.Draft.{Draft, drafted, goingOn, inScratch, Drafts, DraftsRight}
+use Rattle.wage_draft.proofs.Laws.{drafts-right}
 use Rattle.wage_draft.proofs.Theorems.{drafted-append, drafted-by-fields}
 
 -- what stands up to the end of what was just written
@@ -62,18 +64,18 @@ unfolding fieldsOf
 two-fields a b e f = rw (take-at a b 5 e, drop-at a b 5 e, take-all 20 b (omega arith))
 
 -- one run was refused
-run-stops : (d next : Draft) (r : Answer) (line : List ℕ) → Drafts d r line → (q : Refusal) → r ≡ Refused q → Drafts (goingOn (d .answer) d next) (Refused q) line
+run-stops : (d next : Draft) (r : Answer) (line : List ℕ) → DraftsRight d r line → (q : Refusal) → r ≡ Refused q → DraftsRight (goingOn (d .answer) d next) (Refused q) line
 run-stops d next r line w q e =
     let f : d .answer ≡ Refused q = sym (w .answers) ∙ e in
-    rw f (record { answers = refl; leaves = w .leaves })
+    rw f (record { answers = refl; leaves = λ (h : Refused q ≡ Accepted). w .leaves (e ∙ h) })
 
 -- one run was accepted, and the next goes on from its line
 run-goes-on :
-    (d : Draft) (next : List ℕ → Draft) (r : Answer) (line : List ℕ) → Drafts d r line → r ≡ Accepted
-    → (s : Answer) (after : List ℕ) → Drafts (next line) s after → Drafts (goingOn (d .answer) d (next (d .line))) s after
+    (d : Draft) (next : List ℕ → Draft) (r : Answer) (line : List ℕ) → DraftsRight d r line → r ≡ Accepted
+    → (s : Answer) (after : List ℕ) → DraftsRight (next line) s after → DraftsRight (goingOn (d .answer) d (next (d .line))) s after
 run-goes-on d next r line w e s after p =
     let f : d .answer ≡ Accepted = sym (w .answers) ∙ e in
-    rw (f, ← (w .leaves)) p
+    rw (f, ← (w .leaves e)) p
 
 -- the first four fields
 abbrev firstRun : ℕ → ℕ → List (List ℕ) → List ℕ → Draft
@@ -131,31 +133,47 @@ group-runs day kind fs a b line =
 
 module _
     (day kind : ℕ) (sizes text a b start line₁ : List ℕ) (r₁ : Answer) (bared : start ≡ bareLine Group)
-    (first : Drafts (firstRun day kind (fieldsOf sizes text) start) r₁ line₁)
+    (made₁ : Drafts (inScratch start (firstRun day kind (fieldsOf sizes text) start)) r₁ line₁)
   where
+    -- the room is a whole line
+    start-size : length start ≡ 1002
+    start-size = rw bared (bare-length Group)
+
+    -- what the first run says
+    first : DraftsRight (firstRun day kind (fieldsOf sizes text) start) r₁ line₁
+    first = drafts-right start (firstRun day kind (fieldsOf sizes text) start) start-size r₁ line₁ made₁
+
     -- the first four were refused
-    pub group-first : (q : Refusal) → r₁ ≡ Refused q → Drafts (drafted day kind Group (spots Group) (sevenFields (fieldsOf sizes text) a b) (bareLine Group)) (Refused q) line₁
+    pub group-first : (q : Refusal) → r₁ ≡ Refused q → DraftsRight (drafted day kind Group (spots Group) (sevenFields (fieldsOf sizes text) a b) (bareLine Group)) (Refused q) line₁
     group-first q e =
         let fs = fieldsOf sizes text in
         rw (← bared, group-runs day kind fs a b start) (run-stops (firstRun day kind fs start) (laterRuns day kind fs a b (firstRun day kind fs start .line)) r₁ line₁ first q e)
 
-    module _ (taken₁ : r₁ ≡ Accepted) (line₂ : List ℕ) (r₂ : Answer) (worked : Drafts (workedRun day kind a b line₁) r₂ line₂) where
-      -- the number or the sum was refused
-      pub group-worked : (q : Refusal) → r₂ ≡ Refused q → Drafts (drafted day kind Group (spots Group) (sevenFields (fieldsOf sizes text) a b) (bareLine Group)) (Refused q) line₂
-      group-worked q e =
-          let fs = fieldsOf sizes text in
-          rw (← bared, group-runs day kind fs a b start)
-          (run-goes-on (firstRun day kind fs start) (laterRuns day kind fs a b) r₁ line₁ first taken₁ (Refused q) line₂
-          (run-stops (workedRun day kind a b line₁) (lastRun day kind (drop 4 fs) (workedRun day kind a b line₁ .line)) r₂ line₂ worked q e))
+    module _
+        (taken₁ : r₁ ≡ Accepted) (size₁ : length line₁ ≡ length start) (line₂ : List ℕ) (r₂ : Answer)
+        (made₂ : Drafts (inScratch line₁ (workedRun day kind a b line₁)) r₂ line₂)
+      where
+        -- what the second run says
+        worked : DraftsRight (workedRun day kind a b line₁) r₂ line₂
+        worked = drafts-right line₁ (workedRun day kind a b line₁) (size₁ ∙ start-size) r₂ line₂ made₂
 
-      -- the last field says what the whole says
-      pub group-last :
-          r₂ ≡ Accepted → (ns rest : List ℕ) → ns ≡ drop 4 sizes → rest ≡ behind (take 4 sizes) text
-          → (r₃ : Answer) (line₃ : List ℕ) → Drafts (lastRun day kind (fieldsOf ns rest) line₂) r₃ line₃
-          → Drafts (drafted day kind Group (spots Group) (sevenFields (fieldsOf sizes text) a b) (bareLine Group)) r₃ line₃
-      group-last taken₂ ns rest n e r₃ line₃ last =
-          let fs = fieldsOf sizes text in
-          let g : fieldsOf ns rest ≡ drop 4 fs = rw (n, e) (sym (fields-behind 4 sizes text)) in
-          rw (← bared, group-runs day kind fs a b start)
-          (run-goes-on (firstRun day kind fs start) (laterRuns day kind fs a b) r₁ line₁ first taken₁ r₃ line₃
-          (run-goes-on (workedRun day kind a b line₁) (lastRun day kind (drop 4 fs)) r₂ line₂ worked taken₂ r₃ line₃ (rw g at last)))
+        -- the number or the sum was refused
+        pub group-worked : (q : Refusal) → r₂ ≡ Refused q → DraftsRight (drafted day kind Group (spots Group) (sevenFields (fieldsOf sizes text) a b) (bareLine Group)) (Refused q) line₂
+        group-worked q e =
+            let fs = fieldsOf sizes text in
+            rw (← bared, group-runs day kind fs a b start)
+            (run-goes-on (firstRun day kind fs start) (laterRuns day kind fs a b) r₁ line₁ first taken₁ (Refused q) line₂
+            (run-stops (workedRun day kind a b line₁) (lastRun day kind (drop 4 fs) (workedRun day kind a b line₁ .line)) r₂ line₂ worked q e))
+
+        -- the last field says what the whole says
+        pub group-last :
+            r₂ ≡ Accepted → length line₂ ≡ length line₁ → (ns rest : List ℕ) → ns ≡ drop 4 sizes → rest ≡ behind (take 4 sizes) text
+            → (r₃ : Answer) (line₃ : List ℕ) → Drafts (inScratch line₂ (lastRun day kind (fieldsOf ns rest) line₂)) r₃ line₃
+            → DraftsRight (drafted day kind Group (spots Group) (sevenFields (fieldsOf sizes text) a b) (bareLine Group)) r₃ line₃
+        group-last taken₂ size₂ ns rest n e r₃ line₃ made₃ =
+            let fs = fieldsOf sizes text in
+            let g : fieldsOf ns rest ≡ drop 4 fs = rw (n, e) (sym (fields-behind 4 sizes text)) in
+            let last = drafts-right line₂ (lastRun day kind (fieldsOf ns rest) line₂) (size₂ ∙ size₁ ∙ start-size) r₃ line₃ made₃ in
+            rw (← bared, group-runs day kind fs a b start)
+            (run-goes-on (firstRun day kind fs start) (laterRuns day kind fs a b) r₁ line₁ first taken₁ r₃ line₃
+            (run-goes-on (workedRun day kind a b line₁) (lastRun day kind (drop 4 fs)) r₂ line₂ worked taken₂ r₃ line₃ (rw g at last)))

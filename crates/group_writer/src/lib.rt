@@ -13,7 +13,7 @@ ghost use mathlib.Core.Path.{_≡_};
 ghost use mathlib.Core.List.{[], _∷_, _++_};
 ghost use Rattle.text.specs.Digits.{digitsText};
 ghost use Rattle.wage_places.specs.Places.{spots};
-ghost use Rattle.wage_draft.specs.Draft.{drafted, Drafts};
+ghost use Rattle.wage_draft.specs.Draft.{drafted, inScratch, Drafts, DraftsRight};
 use refusal::Answer;
 use refusal::Refusal;
 use sums::Sum;
@@ -36,7 +36,7 @@ fn put_worked(orders: &[u8], digits: &mut [u8])
 // Drafts the number and the sum of a 301.
 fn draft_worked(day: u64, kind: u64, orders: &[u8], line: &mut [u8]) -> Answer
     requires { ⌜ amounts (pieces (now orders)) < 100000000000000000000 ⌝ }
-    ensures { λ r. ⌜ Drafts (drafted day kind LineType.Group (take 2 (drop 4 (spots LineType.Group))) (digitsText 5 (length (now (orders .entry)) / 1002) ∷ (digitsText 20 (amounts (pieces (now (orders .entry)))) ∷ [])) (now (line .entry))) r (now (line .exit)) ⌝ }
+    ensures { λ r. ⌜ Drafts (inScratch (now (line .entry)) (drafted day kind LineType.Group (take 2 (drop 4 (spots LineType.Group))) (digitsText 5 (length (now (orders .entry)) / 1002) ∷ (digitsText 20 (amounts (pieces (now (orders .entry)))) ∷ [])) (now (line .entry)))) r (now (line .exit)) ⌝ }
 {
     let mut digits = [48u8; 25];
     put_worked(orders, &mut digits);
@@ -54,7 +54,7 @@ fn draft_group(
     line: &mut [u8],
 ) -> Answer
     requires { ⌜ (now line ≡ replicate 1002 32) × (amounts (pieces (now orders)) < 100000000000000000000) ⌝ }
-    ensures { λ r. ⌜ Drafts (groupDraft day kind (fieldsOf (now (sizes .entry)) (now (text .entry))) (now (orders .entry))) r (now (line .exit)) ⌝ }
+    ensures { λ r. ⌜ DraftsRight (groupDraft day kind (fieldsOf (now (sizes .entry)) (now (text .entry))) (now (orders .entry))) r (now (line .exit)) ⌝ }
 {
     bare_line::dress(LineType::Group, line);
     if let Answer::Refused(r) = wage_draft::draft(

@@ -3,20 +3,23 @@
 use mathlib.Core.Path.{_≡_, refl, sym, ap, _∙_}
 use mathlib.Core.Bool.{Bool, true, false, _&&_}
 use mathlib.Core.Logic.{inr}
-use mathlib.Core.List.{List, [], _∷_, _++_, map}
+use mathlib.Core.List.{List, [], _∷_, _++_, map, append-nil}
 use Prim.Native.Nat.{ℕ, zero, suc, _+_, _-_, _≤_, _<_}
 use native.Mathlib.Numerals.{add-one}
 use native.Mathlib.Omega.{arith}
 use lib.ListN.{length, length-replicate, replicate, take, drop, getD, drop-of-length-le}
 use lib.Dec.{eqb, leb, ltb}
-use lib.Seq.{sets, drop-cons, take-nil, take-take}
+use lib.Seq.{sets, drop-cons, drop-length, take-nil, take-take}
 use borrow.Author.Tests.{eq-eqb, ne-eqb, eqb-true, eqb-false, leb-true, ltb-true, ltb-false}
+use Rattle.refusal.specs.Refusal.{none}
+use Rattle.refusal.specs.declared.Place.{Place}
 use Rattle.refusal.specs.declared.Answer.{Answer}
 use Rattle.refusal.specs.declared.Answer.the-variants.{Accepted, Refused}
 use Rattle.refusal.specs.declared.Refusal.{Refusal}
+use Rattle.refusal.specs.declared.Refusal.the-variants.{Size}
 use Rattle.verdict.proofs.Verdicts.{first-both}
 use Rattle.classes.proofs.Choices.{both-true}
-use Rattle.room.proofs.Places.{sets-length, take-sets, drop-sets, place-filled, set-own, sets-over, sets-apart}
+use Rattle.room.proofs.Places.{sets-length, front, take-sets, drop-sets, place-filled, set-own, sets-over, sets-apart}
 use Rattle.wage_places.specs.declared.LineType.{LineType}
 use Rattle.wage_places.specs.declared.Spot.{Spot}
 use Rattle.wage_places.specs.declared.LineType.the-variants.{Label, Group, Order, Closing}
@@ -28,7 +31,7 @@ use Rattle.wage_fields.specs.Rules.{ruleVerdict, placeVerdict, placeAnswer, pla
 use Rattle.wage_fields.proofs.Laws.{accept-both}
 use Rattle.lent_fields.specs.Fields.{fieldsOf, FieldEnd}
 use Rattle.lent_fields.proofs.Laws.{field-from, fields-on}
-use Rattle.wage_draft.specs.Draft.{Draft, wrongLength, placed, goingOn, drafted, blanked, Drafts}
+use Rattle.wage_draft.specs.Draft.{Draft, wrongLength, placed, goingOn, drafted, inScratch, blanked, Drafts, DraftsRight}
 
 -- ---------------------------------------------------------------------------
 -- One place
@@ -97,6 +100,52 @@ pub draft-on :
 draft-on day kind t ps last k sizes i text at line end ended more known r after w e =
     let f : placed day kind t (getD ps k noSpot) (take (end - at) (drop at text)) line .answer ≡ Accepted = sym (w .answers) ∙ e in
     left-next day kind t ps last k sizes i text at line end ended more known ∙ rw (f, w .leaves)
+
+-- ---------------------------------------------------------------------------
+-- Drafts in scratch room
+
+-- a whole line put over another of its size
+pub put-whole : (s f : List ℕ) → length f ≡ length s → sets s 0 f ≡ f
+put-whole s f e = front s f (omega arith) ∙ rw (e, drop-length s) (append-nil f)
+
+module _ (line : List ℕ) (d : Draft) where
+  -- the line has not 1,002 bytes
+  pub scratch-short : (length line ≡ 1002 → ⊥) → (p : Place) → p ≡ none → Drafts (inScratch line d) (Refused (Size p)) line
+  unfolding inScratch
+  scratch-short h p n = rw (ne-eqb (length line) 1002 h, n) (record { answers = refl; leaves = refl })
+
+  module _ (whole : length line ≡ 1002) (r : Answer) (after : List ℕ) where
+    -- a refused draft leaves the line as it was
+    pub scratch-refused : Drafts d r after → (q : Refusal) → r ≡ Refused q → Drafts (inScratch line d) (Refused q) line
+    unfolding inScratch
+    scratch-refused w q e =
+        let f : d .answer ≡ Refused q = sym (w .answers) ∙ e in
+        rw (eq-eqb (length line) 1002 whole, f) (record { answers = refl; leaves = refl })
+
+    -- an accepted one is put back
+    pub scratch-accepted :
+        Drafts d r after → r ≡ Accepted → length after ≡ 1002 → (back : List ℕ) → back ≡ sets line 0 after → Drafts (inScratch line d) Accepted back
+    unfolding inScratch
+    scratch-accepted w e l back b =
+        let f : d .answer ≡ Accepted = sym (w .answers) ∙ e in
+        let g : back ≡ d .line = b ∙ put-whole line after (omega arith) ∙ w .leaves in
+        rw (eq-eqb (length line) 1002 whole, f) (record { answers = refl; leaves = g })
+
+    -- what the caller of a draft goes by
+    pub drafts-right : Drafts (inScratch line d) r after → DraftsRight d r after
+    unfolding inScratch
+    drafts-right w = go (d .answer) refl (rw (eq-eqb (length line) 1002 whole) at w)
+      where
+        other : {q : Refusal} → r ≡ Accepted → r ≡ Refused q → after ≡ d .line
+        other h g = let z : _≡_ {A = ℕ} 0 1 = cc in absurd (omega arith)
+
+        go : (a : Answer) → d .answer ≡ a → Drafts (goingOn (d .answer) (record { answer = d .answer; line = line }) d) r after → DraftsRight d r after
+        go Accepted e v =
+            let u : Drafts (record { answer = Accepted; line = d .line }) r after = rw e at v in
+            record { answers = u .answers ∙ sym e; leaves = λ (h : r ≡ Accepted). u .leaves }
+        go (Refused q) e v =
+            let u : Drafts (record { answer = Refused q; line = line }) r after = rw e at v in
+            record { answers = u .answers ∙ sym e; leaves = λ (h : r ≡ Accepted). other h (u .answers) }
 
 -- ---------------------------------------------------------------------------
 -- Going on, and the fields that a draft reads

@@ -1,9 +1,10 @@
 -- Document 01, "The wage file", the writer: "the judge's for the fields, 4 (another length) first in each".
 use Rattle.refusal.specs.Basics.{ℕ, _≡_, cond, List, [], _∷_, map, eqb, length, replicate}
 use lib.Seq.{sets}
+use Rattle.refusal.specs.Refusal.{none}
 use Rattle.refusal.specs.declared.Answer.{Answer}
 use Rattle.refusal.specs.declared.Answer.the-variants.{Accepted, Refused}
-use Rattle.refusal.specs.declared.Refusal.the-variants.{Length}
+use Rattle.refusal.specs.declared.Refusal.the-variants.{Size, Length}
 use Rattle.wage_places.specs.declared.LineType.{LineType}
 use Rattle.wage_places.specs.declared.Spot.{Spot}
 use Rattle.wage_places.specs.Places.{spots, partAt}
@@ -42,6 +43,11 @@ drafted day kind t (p ∷ ps) [] line =
 drafted day kind t (p ∷ ps) (f ∷ fs) line =
     goingOn (placed day kind t p f line .answer) (placed day kind t p f line) (drafted day kind t ps fs (placed day kind t p f line .line))
 
+-- a draft made in scratch room: a line that has not 1,002 bytes is 1, and a refusal leaves the line as it was
+unfoldable pub inScratch : List ℕ → Draft → Draft
+inScratch line d =
+    cond (eqb (length line) 1002) (goingOn (d .answer) (record { answer = d .answer; line = line }) d) (record { answer = Refused (Size none); line = line })
+
 -- ---------------------------------------------------------------------------
 -- A line's own fields
 
@@ -69,3 +75,8 @@ plainElsewhere t s = blanked (spots t) s ≡ bareLine t
 pub record Drafts (d : Draft) (r : Answer) (after : List ℕ) : Type 0 where
   pub answers : r ≡ d .answer
   pub leaves : after ≡ d .line
+
+-- one that answers as a draft says, and leaves its line where it is accepted
+pub record DraftsRight (d : Draft) (r : Answer) (after : List ℕ) : Type 0 where
+  pub answers : r ≡ d .answer
+  pub leaves : r ≡ Accepted → after ≡ d .line

@@ -1,12 +1,13 @@
 // A wage line drafted from its fields: each put at its place, and judged there.
 //
-// Document 01, "The wage file", the writer: "the judge's for the fields, 4 (another length) first in each". The line is
-// scratch room of 1,002 bytes, so that no refusal touches the caller's.
+// Document 01, "The wage file", the writer: "the judge's for the fields, 4 (another length) first in each". A line is
+// drafted in scratch room of 1,002 bytes, so that no refusal touches the caller's.
+ghost use mathlib.Core.Path.{_≡_};
 ghost use Prim.Native.Nat.{_-_};
-ghost use lib.ListN.{getD, take, drop};
+ghost use lib.ListN.{getD, length, take, drop};
 ghost use Rattle.wage_places.specs.Places.{spots, noSpot};
 ghost use Rattle.lent_fields.specs.Fields.{fieldsOf};
-ghost use Rattle.wage_draft.specs.Draft.{placed, drafted, Drafts};
+ghost use Rattle.wage_draft.specs.Draft.{placed, drafted, inScratch, Drafts};
 use refusal::Answer;
 use refusal::Place;
 use refusal::Refusal;
@@ -32,7 +33,7 @@ fn place(day: u64, kind: u64, t: LineType, k: usize, f: &[u8], line: &mut [u8]) 
 }
 
 // The places from one order up to another, their fields one behind the other.
-pub fn draft(
+fn draft_in(
     day: u64,
     kind: u64,
     t: LineType,
@@ -67,4 +68,47 @@ pub fn draft(
             }
         }
     }
+}
+
+// Those places in scratch room that has the line's size; only a draft that is accepted is put back.
+fn draft_aside(
+    day: u64,
+    kind: u64,
+    t: LineType,
+    first: usize,
+    last: usize,
+    text: &[u8],
+    sizes: &[usize],
+    scratch: &mut [u8],
+    line: &mut [u8],
+) -> Answer
+    requires { ⌜ (length (now scratch) ≡ 1002) × (length (now line) ≡ 1002) ⌝ }
+    ensures { λ r. ⌜ Drafts (inScratch (now (line .entry)) (drafted day kind t (take (last - first) (drop first (spots t))) (fieldsOf (now (sizes .entry)) (now (text .entry))) (now (line .entry)))) r (now (line .exit)) ⌝ }
+{
+    room::put(scratch, 0, line);
+    if let Answer::Refused(r) = draft_in(day, kind, t, first, last, text, sizes, scratch) {
+        return Answer::Refused(r);
+    }
+    room::put(line, 0, scratch);
+    Answer::Accepted
+}
+
+// The places from one order up to another on a lent line of 1,002 bytes, which a refusal leaves as it was.
+pub fn draft(
+    day: u64,
+    kind: u64,
+    t: LineType,
+    first: usize,
+    last: usize,
+    text: &[u8],
+    sizes: &[usize],
+    line: &mut [u8],
+) -> Answer
+    ensures { λ r. ⌜ Drafts (inScratch (now (line .entry)) (drafted day kind t (take (last - first) (drop first (spots t))) (fieldsOf (now (sizes .entry)) (now (text .entry))) (now (line .entry)))) r (now (line .exit)) ⌝ }
+{
+    if line.len() != 1002 {
+        return Answer::Refused(Refusal::Size(refusal::nowhere()));
+    }
+    let mut scratch = [0u8; 1002];
+    draft_aside(day, kind, t, first, last, text, sizes, &mut scratch, line)
 }

@@ -9,7 +9,7 @@ ghost use Rattle.refusal.specs.Refusal.{firstOf};
 ghost use Rattle.wage_places.specs.Places.{spots};
 ghost use Rattle.lent_fields.specs.Fields.{fieldsOf, forSizes};
 ghost use Rattle.bare_line.specs.Bare.{bareLine};
-ghost use Rattle.wage_draft.specs.Draft.{drafted, Drafts};
+ghost use Rattle.wage_draft.specs.Draft.{drafted, DraftsRight};
 ghost use Rattle.wage_writer.specs.Writer.{labelDraft, orderDraft, labelAnswer, orderAnswer};
 ghost use Rattle.line_room.specs.LineRoom.{forRoom, Writes};
 use refusal::Answer;
@@ -26,7 +26,7 @@ fn draft_line(
     line: &mut [u8],
 ) -> Answer
     requires { ⌜ now line ≡ replicate 1002 32 ⌝ }
-    ensures { λ r. ⌜ Drafts (drafted day kind t (spots t) (fieldsOf (now (sizes .entry)) (now (text .entry))) (bareLine t)) r (now (line .exit)) ⌝ }
+    ensures { λ r. ⌜ DraftsRight (drafted day kind t (spots t) (fieldsOf (now (sizes .entry)) (now (text .entry))) (bareLine t)) r (now (line .exit)) ⌝ }
 {
     bare_line::dress(t, line);
     let count = wage_places::count(t);

@@ -14,12 +14,12 @@ returns c =
 returns-2 : tie.Need-returns-2
 returns-2 c =
     let z = c .before .before .before .before .before .before .before .before .before .before .before .before .before .before .before .before .before .before .before .before .before in
-    group-worked (z .args .day) (z .args .kind) (z .args .sizes .now) (z .args .text .now) _ _ _ _ _ (bare Group _ _ (z .pre .0) (c .before .before .before .before .before .before .before .before .before .before .before .before .before .before .before .dress .ensures)) (c .before .before .before .before .before .before .before .before .before .before .before .draft .ensures) (c .before .before .before .before .before .before .before .enum-told .given .1) _ _ (c .before .before .before .before .before .draft-worked .ensures) _ (c .before .r2 .given .1)
+    group-worked (z .args .day) (z .args .kind) (z .args .sizes .now) (z .args .text .now) _ _ _ _ _ (bare Group _ _ (z .pre .0) (c .before .before .before .before .before .before .before .before .before .before .before .before .before .before .before .dress .ensures)) (c .before .before .before .before .before .before .before .before .before .before .before .draft .ensures) (c .before .before .before .before .before .before .before .enum-told .given .1) (c .before .before .before .before .before .before .before .before .before .before .line2 .given) _ _ (c .before .before .before .before .before .draft-worked .ensures) _ (c .before .r2 .given .1)
 
 returns-3 : tie.Need-returns-3
 returns-3 c =
     let z = c .before .before .before .before .before .before .before .before .before .before .before .before .before .before .before .before .before .before .before .before .before .before .before .before .before .before in
-    group-last (z .args .day) (z .args .kind) (z .args .sizes .now) (z .args .text .now) _ _ _ _ _ (bare Group _ _ (z .pre .0) (c .before .before .before .before .before .before .before .before .before .before .before .before .before .before .before .before .before .before .before .before .dress .ensures)) (c .before .before .before .before .before .before .before .before .before .before .before .before .before .before .before .before .draft .ensures) (c .before .before .before .before .before .before .before .before .before .before .before .before .enum-told .given .1) _ _ (c .before .before .before .before .before .before .before .before .before .before .draft-worked .ensures) (c .before .before .before .before .before .before .enum-told2 .given .1) _ _ (c .before .before .before .before .before .sizes-behind .ensures) (c .before .before .before .before .text-behind .ensures) _ _ (c .before .before .draft2 .ensures)
+    group-last (z .args .day) (z .args .kind) (z .args .sizes .now) (z .args .text .now) _ _ _ _ _ (bare Group _ _ (z .pre .0) (c .before .before .before .before .before .before .before .before .before .before .before .before .before .before .before .before .before .before .before .before .dress .ensures)) (c .before .before .before .before .before .before .before .before .before .before .before .before .before .before .before .before .draft .ensures) (c .before .before .before .before .before .before .before .before .before .before .before .before .enum-told .given .1) (c .before .before .before .before .before .before .before .before .before .before .before .before .before .before .before .line2 .given) _ _ (c .before .before .before .before .before .before .before .before .before .before .draft-worked .ensures) (c .before .before .before .before .before .before .enum-told2 .given .1) (c .before .before .before .before .before .before .before .before .before .line3 .given) _ _ (c .before .before .before .before .before .sizes-behind .ensures) (c .before .before .before .before .text-behind .ensures) _ _ (c .before .before .draft2 .ensures)
 
 pub draft-group-spec : {M : Type 1} → statement M
 draft-group-spec =

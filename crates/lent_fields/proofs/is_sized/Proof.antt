@@ -2,7 +2,7 @@
 use mathlib.Core.Path.{_≡_, sym, _∙_}
 use Prim.Native.Nat.{_≤_, _-_}
 use native.Mathlib.Omega.{arith}
-use lib.ListN.{length, take}
+use lib.ListN.{length}
 use borrow.Author.Needs.{needs}
 use Rattle.lent_fields.specs.Fields.{sized}
 use Rattle.lent_fields.proofs.Laws.{SizedFrom, sized-last, sized-past, sized-short, sized-on}
