@@ -155,11 +155,11 @@ lanecockle_part lanecockle_slip_field(const uint8_t *slip, size_t length, size_t
 lanecockle_valued lanecockle_slip_cents(const uint8_t *slip, size_t length);
 
 /* Writes a slip at the front of `out`; `value` is how many bytes. The fields 4 to 14 stand one behind the other in `text`;
- * sizes[0] to sizes[10] are their bytes. A size that is not there is 0, and sizes beyond the eleventh are not read. These
- * eleven add up to `text_length`: a size that runs past the end of `text`, or a byte left over, is refused with 1, at no
- * place and before all else. Refusals then: those of lanecockle_slip_read for the fields 3 to 14 (10^15 cents or more are
- * 4), the byte of a 3 counted within its field and 0 otherwise; then 15 with the needed number of bytes. 483 bytes are
- * always enough. */
+ * sizes[0] to sizes[10] are their bytes. A size that is not there is 0, and sizes beyond the eleventh are not read. The
+ * eleven must add up to `text_length`: where one runs past the end of `text`, or a byte is left over, the call is refused
+ * with 1, at no place and before all else. Refusals then: those of lanecockle_slip_read for the fields 3 to 14 (10^15 cents
+ * or more are 4), the byte of a 3 counted within its field and 0 otherwise; then 15 with the needed number of bytes. 483
+ * bytes are always enough. */
 lanecockle_valued lanecockle_slip_write(uint64_t cents, const uint8_t *text, size_t text_length, const size_t *sizes,
                                         size_t count, uint8_t *out, size_t room);
 
@@ -228,7 +228,7 @@ lanecockle_part lanecockle_wage_place(const uint8_t *line, size_t length, size_t
  *
  * Each call writes one line, 1,002 bytes with its CR LF, at the front of `out`, and nothing behind it. The fields stand one
  * behind the other in `text`, each the bytes of its positions; `sizes` are their bytes, `count` how many sizes there are. A
- * size that is not there is 0, and sizes beyond the last field are not read. The sizes of the fields add up to
+ * size that is not there is 0, and sizes beyond the last field are not read; those of the fields must add up to
  * `text_length`. Refusals, in this order, line 0 unless told: 1 where a size runs past the end of `text` or a byte is left
  * over; 11 for the day; 5 with field 0 for a kind that is not 4 or 5; those of a 301's orders; the judge's for the fields, 4
  * (another length) first in each; 15 with 1,002 where the room is less. */

@@ -73,10 +73,8 @@ impl Given {
     /// A byte that goes from one field to another, sizes that are not read, the
     /// last fields not there, or a size that belongs to none.
     fn divide(&mut self, dice: &mut Dice) {
-        let (from, to) = (
-            dice.below(self.sizes.len().max(1)),
-            dice.below(self.sizes.len().max(1)),
-        );
+        let places = self.sizes.len().max(1);
+        let (from, to) = (dice.below(places), dice.below(places));
         let strange = *dice.pick(&[0, 1, 2, 22, 140, 1002, usize::MAX]);
         match dice.below(6) {
             0 => self.sizes.push(strange),
