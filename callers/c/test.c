@@ -881,14 +881,19 @@ static lanecockle_told group_told(uint64_t day, fields f, uint8_t *out, size_t r
     return lanecockle_write_group(day, 4, F(f), order_line("000000000012355"), LINE, out, room);
 }
 
-/* They are 1 before the cents or the day, and before the room; the room stays as it was. */
+/* They are 1 before the cents or the day, and before the room; each call leaves the room as it was. */
 static void check_unsized(writer *write, fields f, int line)
 {
-    uint8_t *out = fresh_room();
-    check_told(write(DAY, f, out, ROOM), LANECOCKLE_SIZE, 0, 0, 0, 0, "sizes that do not fit", line);
-    check_told(write(UINT64_MAX, f, out, ROOM), LANECOCKLE_SIZE, 0, 0, 0, 0, "1 before the number", line);
-    check_told(write(DAY, f, NULL, 0), LANECOCKLE_SIZE, 0, 0, 0, 0, "1 before the room", line);
-    check(is_untouched(out, 0), "sizes that do not fit leave the room", line);
+    static const uint64_t numbers[2] = {DAY, UINT64_MAX};
+    static const size_t rooms[2] = {ROOM, 1};
+    size_t i;
+    for (i = 0; i < 4; i++) {
+        uint8_t *out = fresh_room();
+        lanecockle_told told = write(numbers[i / 2], f, out, rooms[i % 2]);
+        check_told(told, LANECOCKLE_SIZE, 0, 0, 0, 0, "sizes that do not fit", line);
+        check(is_untouched(out, 0), "sizes that do not fit leave the room", line);
+    }
+    check_told(write(DAY, f, NULL, 0), LANECOCKLE_SIZE, 0, 0, 0, 0, "sizes that do not fit, and no room", line);
 }
 
 #define UNSIZED(f) check_unsized(write, (f), line)
