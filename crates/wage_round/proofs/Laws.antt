@@ -6,7 +6,7 @@ use mathlib.Core.List.{List, [], _∷_, _++_, map}
 use Prim.Native.Nat.{ℕ, zero, suc, _*_, _/_, _^_, _≤_, _<_}
 use native.Mathlib.Omega.{arith}
 use lib.Dec.{eqb}
-use lib.ListN.{length, length-append}
+use lib.ListN.{length, length-append, length-map}
 use borrow.Author.Tests.{le-leb}
 use Rattle.refusal.specs.Refusal.{none, firstOf}
 use Rattle.refusal.specs.declared.Answer.{Answer}
@@ -22,9 +22,11 @@ use Rattle.dates.specs.Dates.{isDate}
 use Rattle.sums.specs.Sums.{numberOf, numberIn}
 use Rattle.sums.proofs.Theorems.{text-small, number-of-all}
 use Rattle.room.proofs.Digits.{digits-length, number-back, digits-again}
+use Rattle.wage_places.specs.declared.LineType.{LineType}
 use Rattle.wage_places.specs.declared.LineType.the-variants.{Label, Group, Order}
+use Rattle.wage_places.specs.declared.Spot.{Spot}
 use Rattle.wage_line.specs.Pieces.{pieces}
-use Rattle.wage_places.specs.Places.{spots, spotIn, partOf}
+use Rattle.wage_places.specs.Places.{spots, spotIn, partAt, partOf}
 use Rattle.wage_places.proofs.Theorems.{field-size}
 use Rattle.wage_line.proofs.Theorems.{typed-exactly}
 use Rattle.wage_line.proofs.PieceLaws.{AllWhole}
@@ -34,8 +36,10 @@ use Rattle.verdict.proofs.Verdicts.{first-both}
 use Rattle.wage_fields.proofs.Theorems.{label-kind, group-number-digits, group-sum-digits}
 use Rattle.worked_out.specs.Amounts.{amounts}
 use Rattle.wage_file.specs.Right.{Payments, kindOf, RightGroup}
-use Rattle.wage_draft.specs.Draft.{partsOfLine}
-use Rattle.lent_fields.proofs.Laws.{fields-joined}
+use Rattle.wage_draft.specs.Draft.{partsOfLine, sizesOf}
+use Rattle.lent_fields.specs.Fields.{sized}
+use Rattle.lent_fields.proofs.Laws.{fields-joined, joined-sized}
+use Rattle.wage_draft.proofs.Laws.{places-rising, parts-sized}
 use Rattle.wage_draft.proofs.Theorems.{DraftedRight, drafted-right}
 use Rattle.wage_orders.specs.Orders.{groupOrders}
 use Rattle.wage_writer.specs.Writer.{labelDraft, orderDraft, labelAnswer, orderAnswer}
@@ -155,17 +159,29 @@ label-known day s w =
     go false false e = e
 
 module _ (s : List ℕ) (whole : length s ≡ 1002) where
-  -- the five fields of a 301 are lent as themselves
-  pub five-read : readFive s ≡ fiveParts s
+  -- the five fields of a 301 have their places' sizes
+  five-sizes : map (λ (f : List ℕ). length f) (fiveParts s) ≡ fiveSizes
   unfolding spots spotIn
-  five-read =
+  five-sizes =
       let a : length (partOf Group 1 s) ≡ 21 = field-size Group s whole 1 in
       let b : length (partOf Group 2 s) ≡ 3 = field-size Group s whole 2 in
       let c : length (partOf Group 3 s) ≡ 21 = field-size Group s whole 3 in
       let d : length (partOf Group 4 s) ≡ 3 = field-size Group s whole 4 in
       let e : length (partOf Group 7 s) ≡ 8 = field-size Group s whole 7 in
-      let z : map (λ (f : List ℕ). length f) (fiveParts s) ≡ fiveSizes = rw (a, b, c, d, e) in
-      rw (← z) (fields-joined (fiveParts s))
+      rw (a, b, c, d, e)
+
+  -- they are lent as themselves
+  pub five-read : readFive s ≡ fiveParts s
+  five-read = rw (← five-sizes) (fields-joined (fiveParts s))
+
+  -- and their sizes are the text's
+  pub five-sized : sized 5 fiveSizes (joined (fiveParts s)) ≡ true
+  five-sized = rw (← five-sizes) (joined-sized (fiveParts s))
+
+  -- so are those of all fields of a line
+  pub all-sized : (t : LineType) → sized (length (spots t)) (sizesOf t) (joined (partsOfLine t s)) ≡ true
+  all-sized t =
+      rw (← (length-map (spots t) (λ (p : Spot). partAt p s)), ← (parts-sized t 0 (spots t) (places-rising t) s whole)) (joined-sized (partsOfLine t s))
 
   -- with the number and the sum they are all of its fields
   pub seven-parts : (n cents : ℕ) → digitsText 5 n ≡ partOf Group 5 s → digitsText 20 cents ≡ partOf Group 6 s → groupFields (fiveParts s) n cents ≡ partsOfLine Group s

@@ -30,7 +30,8 @@ use Rattle.wage_file.specs.File.{fileAnswer}
 use Rattle.wage_file.proofs.RunLaws.{noGroup}
 use Rattle.wage_file.proofs.Exactly.{accepted-exactly}
 use Rattle.wage_file.proofs.Theorems.{of-lines, file-accepted-exactly}
-use Rattle.wage_draft.specs.Draft.{Draft, drafted, blanked, plainElsewhere}
+use Rattle.lent_fields.specs.Fields.{sized}
+use Rattle.wage_draft.specs.Draft.{Draft, drafted, partsOfLine, sizesOf, blanked, plainElsewhere}
 use Rattle.bare_line.specs.Bare.{bareLine}
 use Rattle.wage_draft.proofs.Theorems.{DraftedRight, bare-plain, right-drafted, fields-of-parts}
 use Rattle.bare_line.proofs.Theorems.{bare-line}
@@ -40,8 +41,8 @@ use Rattle.worked_out.proofs.Theorems.{amounts-small}
 use Rattle.wage_writer.specs.Writer.{labelDraft, orderDraft, labelAnswer, orderAnswer}
 use Rattle.group_writer.specs.GroupWriter.{groupFields, groupDraft, groupAnswer}
 use Rattle.line_room.specs.LineRoom.{closingAnswer}
-use Rattle.wage_round.specs.Round.{GivenGroup, Given, noGiven, kindGiven, writtenGroup, writtenFile, AllWritten, writtenOrders, readFields, readFive, readGroup, readFile, PlainGroup, PlainFile}
-use Rattle.wage_round.proofs.Laws.{label-passed, closing-passed, order-passed, group-passed, label-passes, closing-passes, order-passes, group-passes, read-number, label-known, five-read, seven-parts, declared, whole-append, whole-length}
+use Rattle.wage_round.specs.Round.{GivenGroup, Given, noGiven, kindGiven, writtenGroup, writtenFile, AllWritten, writtenOrders, readFields, fiveParts, fiveSizes, readFive, readGroup, readFile, PlainGroup, PlainFile}
+use Rattle.wage_round.proofs.Laws.{label-passed, closing-passed, order-passed, group-passed, label-passes, closing-passes, order-passes, group-passes, read-number, label-known, five-read, five-sized, all-sized, seven-parts, declared, whole-append, whole-length}
 
 -- ---------------------------------------------------------------------------
 -- A written line reads back as the fields that it was written from
@@ -267,6 +268,24 @@ module _ (day kind : ℕ) where
       written-each [] rooms g k h = absurd (omega arith)
       written-each (fs ∷ gss) rooms g zero h = written-order-right day (rooms 0) kind fs (g 0 (omega arith))
       written-each (fs ∷ gss) rooms g (suc k) h = written-each gss (λ n. rooms (suc n)) (λ n i. g (suc n) (omega arith)) k (omega arith)
+
+-- ---------------------------------------------------------------------------
+-- What is read from a line is lent with sizes that are together the text's: no writer refuses it for them
+
+module _ (s : List ℕ) (whole : length s ≡ 1002) where
+  -- the fields of a 300
+  pub read-label-sized : sized 8 (sizesOf Label) (joined (partsOfLine Label s)) ≡ true
+  unfolding spots
+  read-label-sized = all-sized s whole Label
+
+  -- of a 309
+  pub read-order-sized : sized 16 (sizesOf Order) (joined (partsOfLine Order s)) ≡ true
+  unfolding spots
+  read-order-sized = all-sized s whole Order
+
+  -- the five of a 301
+  pub read-five-sized : sized 5 fiveSizes (joined (fiveParts s)) ≡ true
+  read-five-sized = five-sized s whole
 
 -- ---------------------------------------------------------------------------
 -- A right group, and a right file, read and written again is the same
