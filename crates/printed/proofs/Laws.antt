@@ -58,6 +58,24 @@ puts-then {out} {mid} {after} {a} {b} {at} {n₁} {n₂} v w =
       leaves = w .leaves ∙ rw (v .leaves, v .answers) (e .1);
     }
 
+-- nothing was put
+pub puts-none : (out : List ℕ) (at : ℕ) → at ≤ length out → Puts [] at out at out
+puts-none out at h =
+    let e : at + 0 ≡ at = omega arith in
+    record { answers = sym e ∙ ends-whole (length out) at [] (omega arith); leaves = refl }
+
+-- the place behind it lies in the room, which keeps its length
+module _ {s out after : List ℕ} {at r : ℕ} where
+  pub puts-within : Puts s at out r after → r ≤ length out
+  puts-within p = rw (p .answers) (go (ltb (length out) (at + length s)) refl)
+    where
+      go : (b : Bool) → ltb (length out) (at + length s) ≡ b → cond b (length out) (at + length s) ≤ length out
+      go true e = omega arith
+      go false e = ltb-false (length out) (at + length s) e
+
+  pub puts-length : Puts s at out r after → length after ≡ length out
+  puts-length p = ap length (p .leaves) ∙ length-sets out at s
+
 -- ---------------------------------------------------------------------------
 -- How many digits a number has
 
