@@ -40,9 +40,10 @@ module _ (out : List ℕ) (at : ℕ) (a b : List ℕ) where
       let l = length-append a b in
       let h = ltb-true (length out) (at + length a) e in
       let long : length out < at + length (a ++ b) = omega arith in
-      let kept = length-sets out at a in
-      (cut (ltb (length out) (length out + length b)) refl ∙ ends-short (length out) at (a ++ b) long,
-      sets-past (sets out at a) (length out) b (omega arith) ∙ sym (sets-past (sets out at a) (at + length a) b (omega arith)) ∙ sets-append out at a b)
+      let kept = length-sets out at a in (
+        cut (ltb (length out) (length out + length b)) refl ∙ ends-short (length out) at (a ++ b) long,
+        sets-past (sets out at a) (length out) b (omega arith) ∙ sym (sets-past (sets out at a) (at + length a) b (omega arith)) ∙ sets-append out at a b,
+      )
     where
       cut : (t : Bool) → ltb (length out) (length out + length b) ≡ t → cond t (length out) (length out + length b) ≡ length out
       cut true f = refl

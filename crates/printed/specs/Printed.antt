@@ -32,8 +32,10 @@ refusedWord = 114 ∷ (101 ∷ (102 ∷ (117 ∷ (115 ∷ (101 ∷ (100 ∷ (32 
 -- " line ", " field ", " byte "
 abbrev pub lineWord : List ℕ
 lineWord = 32 ∷ (108 ∷ (105 ∷ (110 ∷ (101 ∷ (32 ∷ [])))))
+
 abbrev pub fieldWord : List ℕ
 fieldWord = 32 ∷ (102 ∷ (105 ∷ (101 ∷ (108 ∷ (100 ∷ (32 ∷ []))))))
+
 abbrev pub byteWord : List ℕ
 byteWord = 32 ∷ (98 ∷ (121 ∷ (116 ∷ (101 ∷ (32 ∷ [])))))
 

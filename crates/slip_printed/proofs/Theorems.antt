@@ -36,7 +36,7 @@ lines-at-most s n (suc k) h =
     let p = piece-stands (n - 1) s .0 in
     let e = suc-mul k 505 in
     let b = both-at-most (fieldLine n (pieceOf (n - 1) (split 10 s))) (fieldLines s (suc n) k) 505 (k * 505)
-          (line-at-most n 483 (pieceOf (n - 1) (split 10 s)) (omega arith)) (lines-at-most s (suc n) k h) in
+    (line-at-most n 483 (pieceOf (n - 1) (split 10 s)) (omega arith)) (lines-at-most s (suc n) k h) in
     omega arith
 
 -- all of it

@@ -28,10 +28,14 @@ loop-again c =
     let a = c .before .before .before .before .before .before .before .before .before .args in
     let l = c .before .before .before .before .before .before .loop in
     let p = c .before .before .put-field .ensures in
-    let k = puts-length p in
-    (k ∙ l .inv .0, rw k (puts-within p), omega arith, omega arith,
-    λ r after q. l .inv .4 r after
-    (rw (lines-on (a .s .now) (l .n) (omega arith) (omega arith) (c .before .before .before .before .before .before .before .before .before .pre .0), ← (c .before .before .before .field .ensures)) (puts-then p q)))
+    let k = puts-length p in (
+      k ∙ l .inv .0,
+      rw k (puts-within p),
+      omega arith,
+      omega arith,
+      λ r after q. l .inv .4 r after
+          (rw (lines-on (a .s .now) (l .n) (omega arith) (omega arith) (c .before .before .before .before .before .before .before .before .before .pre .0), ← (c .before .before .before .field .ensures)) (puts-then p q)),
+    )
 
 returns : tie.Need-returns Inv-loop μ-loop
 returns c =
