@@ -13,10 +13,10 @@ abbrev μ-loop : tie.MeasureT-loop
 μ-loop buffer₀ j₀ turns₀ buffer j turns = turns
 
 same-length : tie.Need-same-length Inv-loop μ-loop
-same-length c = c .before .before .before .before .before .read-some .kept .1 .0 ∙ c .before .before .before .before .before .before .before .before .loop .inv
+same-length c = c .before .before .before .before .read-some .kept .1 .0 ∙ c .before .before .before .before .before .before .before .before .loop .inv
 
 loop-again : tie.Need-loop-again Inv-loop μ-loop
-loop-again c = c .before .before .before .before .before .read-some .kept .1 .0 ∙ c .before .before .before .before .before .before .before .before .loop .inv
+loop-again c = c .before .before .before .before .read-some .kept .1 .0 ∙ c .before .before .before .before .before .before .before .before .loop .inv
 
 same-length-2 : tie.Need-same-length-2 Inv-loop μ-loop
 same-length-2 c = c .before .loop .inv

@@ -1,0 +1,2 @@
+-- The definitions of the crate `printed`.
+pub mod Printed

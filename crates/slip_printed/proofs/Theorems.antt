@@ -1,0 +1,56 @@
+-- All that is printed of a slip stands in a room of 6,100 bytes.
+-- Assumes nothing.
+use mathlib.Core.Path.{_≡_, refl}
+use mathlib.Core.List.{List, [], _∷_, _++_}
+use Prim.Native.Nat.{ℕ, zero, suc, _+_, _-_, _*_, _≤_}
+use native.Mathlib.Nat.{suc-mul}
+use native.Mathlib.Omega.{arith}
+use lib.ListN.{length, take, length-append}
+use Rattle.refusal.specs.declared.Answer.{Answer}
+use Rattle.refusal.specs.declared.Answer.the-variants.{Accepted, Refused}
+use Rattle.text.specs.Split.{split}
+use Rattle.slip.specs.Slip.{slipAnswer, pieceOf}
+use Rattle.slip.proofs.Plain.{accepted-plainly}
+use Rattle.slip_handed.proofs.Laws.{piece-stands}
+use Rattle.printed.specs.Printed.{decimal, Puts}
+use Rattle.printed.proofs.Theorems.{both-at-most, decimal-at-most, refused-at-most, printed-whole}
+use Rattle.slip_printed.specs.SlipPrinted.{acceptedLine, fieldLine, fieldLines, printedFor, slipPrinted}
+
+-- ---------------------------------------------------------------------------
+-- How long it is
+
+-- a field's line, of a text of at most k bytes
+line-at-most : (n k : ℕ) (text : List ℕ) → length text ≤ k → length (fieldLine n text) ≤ 22 + k
+unfolding fieldLine
+line-at-most n k text h =
+    let d = decimal-at-most n in
+    let a = length-append (decimal n) (61 ∷ (text ++ (10 ∷ []))) in
+    let b = length-append text (10 ∷ []) in
+    omega arith
+
+-- the lines of a slip of at most 483 bytes
+lines-at-most : (s : List ℕ) (n k : ℕ) → length s ≤ 483 → length (fieldLines s n k) ≤ k * 505
+unfolding fieldLines
+lines-at-most s n zero h = omega arith
+lines-at-most s n (suc k) h =
+    let p = piece-stands (n - 1) s .0 in
+    let e = suc-mul k 505 in
+    let b = both-at-most (fieldLine n (pieceOf (n - 1) (split 10 s))) (fieldLines s (suc n) k) 505 (k * 505)
+    (line-at-most n 483 (pieceOf (n - 1) (split 10 s)) (omega arith)) (lines-at-most s (suc n) k h) in
+    omega arith
+
+-- all of it
+pub slip-at-most : (s : List ℕ) → length (slipPrinted s) ≤ 6100
+unfolding slipPrinted
+slip-at-most s = go (slipAnswer s) refl
+  where
+    go : (a : Answer) → slipAnswer s ≡ a → length (printedFor a s) ≤ 6100
+    go Accepted e = let b = both-at-most acceptedLine (fieldLines s 3 12) 9 6060 (omega arith) (lines-at-most s 3 12 (accepted-plainly s .0 e .short)) in omega arith
+    go (Refused r) e = let b = refused-at-most r in omega arith
+
+-- ---------------------------------------------------------------------------
+-- What the program prints
+
+-- in a room of 6,100 bytes the call leaves all of it at the front
+pub slip-printed-whole : (s out : List ℕ) (r : ℕ) (after : List ℕ) → Puts (slipPrinted s) 0 out r after → 6100 ≤ length out → take r after ≡ slipPrinted s
+slip-printed-whole s out r after p h = let b = slip-at-most s in printed-whole (slipPrinted s) out r after p (omega arith)

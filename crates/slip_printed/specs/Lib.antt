@@ -1,0 +1,2 @@
+-- The definitions of the crate `slip_printed`.
+pub mod SlipPrinted

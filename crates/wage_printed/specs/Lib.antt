@@ -1,0 +1,2 @@
+-- The definitions of the crate `wage_printed`.
+pub mod FilePrinted
