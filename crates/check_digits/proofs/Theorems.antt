@@ -18,7 +18,8 @@ use Rattle.refusal.specs.declared.Answer.the-variants.{Accepted, Refused}
 use Rattle.refusal.specs.declared.Refusal.{Refusal}
 use Rattle.refusal.specs.declared.Refusal.the-variants.{Size, Byte}
 use Rattle.classes.specs.declared.Class.the-variants.{Digits}
-use Rattle.classes.proofs.Choices.{both-true}
+use Rattle.refusal.proofs.Theorems.{refused-not-accepted}
+use Rattle.classes.proofs.Choices.{chosen, both-true}
 use Rattle.text.specs.Bytes.{allOf}
 use Rattle.text.specs.Digits.{digitsOf}
 use Rattle.text.proofs.Laws.{all-joined}
@@ -65,29 +66,23 @@ only-made-digit-passes rule s c e = eqb-true c (48 + checkDigit rule (digitsOf s
 -- ---------------------------------------------------------------------------
 -- Made and checked
 
--- a choice between a digit and a refusal is a digit where its test holds
-digit-chosen : (t : Bool) (x : Made) (r : Refusal) (d : ℕ) → cond t x (made.Refused r) ≡ made.Digit d → (t ≡ true) × (x ≡ made.Digit d)
-digit-chosen true x r d e = (refl, e)
-digit-chosen false x r d e = let z : _≡_ {A = ℕ} 0 1 = cc in absurd (omega arith)
-
--- one between acceptance and a refusal accepts where its test holds
-accepted-chosen : (t : Bool) (x : Answer) (r : Refusal) → cond t x (Refused r) ≡ Accepted → (t ≡ true) × (x ≡ Accepted)
-accepted-chosen true x r e = (refl, e)
-accepted-chosen false x r e = let z : _≡_ {A = ℕ} 0 1 = cc in absurd (omega arith)
+-- a refusal is no digit
+refused-no-digit : (r : Refusal) (d : ℕ) → made.Refused r ≡ made.Digit d → ⊥
+refused-no-digit r d e = let z : _≡_ {A = ℕ} 0 1 = cc in omega arith
 
 -- "For one to nineteen digits, a check digit is made by one of the last two rules: the one that passes": where the digit d is made, the text
 -- with a byte behind it is accepted exactly when that byte is d
 pub made-is-checked : (rule : Rule) (s : List ℕ) (d : ℕ) → makeAnswer rule s ≡ made.Digit d → (c : ℕ) → (checkAnswer rule (s ++ (c ∷ [])) ≡ Accepted) ↔ (c ≡ 48 + d)
 unfolding allOf
 made-is-checked rule s d e c =
-    let a = digit-chosen (sized 1 19 s) _ (Size none) d e in
-    let b = digit-chosen (allOf Digits s) _ (Byte none) d (a .1) in
+    let a = chosen (sized 1 19 s) _ _ _ (refused-no-digit (Size none) d) e in
+    let b = chosen (allOf Digits s) _ _ _ (refused-no-digit (Byte none) d) (a .1) in
     let m : checkDigit rule (digitsOf s) ≡ d = cc in
     let l = both-true (leb 1 (length s)) (leb (length s) 19) (a .0) in
     let n : length (s ++ (c ∷ [])) ≡ length s + 1 = length-append s (c ∷ []) in
     let h = leb-true (length s) 19 (l .1) in
     let t = s ++ (c ∷ []) in (
-      λ g. only-made-digit-passes rule s c (accepted-chosen (passes rule t) _ _ (accepted-chosen (allOf Digits t) _ _ (accepted-chosen (sized 1 22 t) _ _ g .1) .1) .0) ∙ rw m,
+      λ g. only-made-digit-passes rule s c (chosen (passes rule t) _ _ _ (refused-not-accepted _) (chosen (allOf Digits t) _ _ _ (refused-not-accepted _) (chosen (sized 1 22 t) _ _ _ (refused-not-accepted _) g .1) .1) .0) ∙ rw m,
       λ g.
           let k : c ≡ 48 + checkDigit rule (digitsOf s) = g ∙ rw m in
           let j = check-digit-small rule (digitsOf s) in

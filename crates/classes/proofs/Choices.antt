@@ -24,6 +24,11 @@ module _ {A : Type 0} where
   entered true x y r e h = h
   entered false x y r e h = let z : _≡_ {A = ℕ} 0 1 = cc in absurd (omega arith)
 
+  -- the answer is not the second: the test held, and it is the first
+  pub chosen : (b : Bool) (x y r : A) → (y ≡ r → ⊥) → cond b x y ≡ r → (b ≡ true) × (x ≡ r)
+  chosen true x y r n e = (refl, e)
+  chosen false x y r n e = absurd (n e)
+
 -- ---------------------------------------------------------------------------
 -- Tests joined
 

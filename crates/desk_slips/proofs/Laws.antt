@@ -11,7 +11,7 @@ use Rattle.refusal.specs.Refusal.{none}
 use Rattle.slip_writer.specs.Steps.{WritesSlip}
 use Rattle.slip_writer.specs.declared.Written.{Written}
 use Rattle.slip_writer.specs.Writer as slip
-use Rattle.lent_fields.specs.Fields.{fieldsOf, behind, sized}
+use Rattle.lent_fields.specs.Fields.{fieldsOf, behind, lentWhole}
 use Rattle.boundary.specs.declared.Valued.{Valued}
 use Rattle.boundary.specs.Told.{refusal, valued}
 use Rattle.boundary.proofs.Laws.{told-and-left}
@@ -20,7 +20,7 @@ use Rattle.desk_slips.specs.Slips.{givenOf, elevenOf, writtenOf, WritesS
 -- a slip, where the sizes are the text's
 pub slip-told :
     (cents : ℕ) (sizes text out : List ℕ) (r : Written) (t : Valued) (after : List ℕ)
-    → sized 11 sizes text ≡ true → t ≡ writtenOf r → WritesSlip cents (elevenOf sizes text) out r after → WritesSlipGiven cents sizes text out t after
+    → lentWhole 11 sizes text ≡ true → t ≡ writtenOf r → WritesSlip cents (elevenOf sizes text) out r after → WritesSlipGiven cents sizes text out t after
 slip-told cents sizes text out r t after h e w =
     let fields = elevenOf sizes text in
     let both = told-and-left writtenOf (λ (x : Written). slip.leftBySlip x (slip.slipText cents fields) out) (slip.writeAnswer cents fields (length out)) r t after e w in
@@ -29,7 +29,7 @@ slip-told cents sizes text out r t after h e w =
 -- and where they are not
 pub slip-unsized :
     (cents : ℕ) (sizes text out : List ℕ) (t : Valued)
-    → sized 11 sizes text ≡ false → t ≡ valued (refusal (Size none)) 0 → WritesSlipGiven cents sizes text out t out
+    → lentWhole 11 sizes text ≡ false → t ≡ valued (refusal (Size none)) 0 → WritesSlipGiven cents sizes text out t out
 slip-unsized cents sizes text out t h e = record { answers = left _ _ _ _ h e; leaves = left _ _ _ _ h refl }
 
 -- a lent field is the front of the text behind the fields before it

@@ -8,7 +8,7 @@ use Rattle.slip_writer.specs.declared.Written.{Written}
 use Rattle.slip_writer.specs.declared.Written.the-variants as written
 use Rattle.slip_given.specs.Given.{eleven}
 use Rattle.slip_writer.specs.Writer as slip
-use Rattle.lent_fields.specs.Fields.{fieldsOf, sized}
+use Rattle.lent_fields.specs.Fields.{fieldsOf, lentWhole}
 use Rattle.boundary.specs.declared.Valued.{Valued}
 use Rattle.boundary.specs.Told.{accepted, refusal, valued}
 
@@ -34,6 +34,6 @@ elevenOf sizes text =
 
 -- a slip: only where the sizes of its eleven fields are the text's
 pub record WritesSlipGiven (cents : ℕ) (sizes text out : List ℕ) (r : Valued) (after : List ℕ) : Type 0 where
-  pub answers : r ≡ cond (sized 11 sizes text) (writtenOf (slip.writeAnswer cents (elevenOf sizes text) (length out))) (valued (refusal (Size none)) 0)
+  pub answers : r ≡ cond (lentWhole 11 sizes text) (writtenOf (slip.writeAnswer cents (elevenOf sizes text) (length out))) (valued (refusal (Size none)) 0)
   pub leaves :
-      after ≡ cond (sized 11 sizes text) (slip.leftBySlip (slip.writeAnswer cents (elevenOf sizes text) (length out)) (slip.slipText cents (elevenOf sizes text)) out) out
+      after ≡ cond (lentWhole 11 sizes text) (slip.leftBySlip (slip.writeAnswer cents (elevenOf sizes text) (length out)) (slip.slipText cents (elevenOf sizes text)) out) out

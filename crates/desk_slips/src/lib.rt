@@ -112,7 +112,7 @@ pub extern "C" fn lanecockle_slip_write(
 ) -> Valued
     ensures { λ r. ⌜ WritesSlipGiven cents (now (sizes .entry)) (now (text .entry)) (now (out .entry)) r (now (out .exit)) ⌝ }
 {
-    if !lent_fields::is_sized(text, sizes, 11) {
+    if !lent_fields::is_lent_whole(text, sizes, 11) {
         return boundary::refuse_value(Refusal::Size(refusal::nowhere()));
     }
     tell_written(write_given(cents, text, sizes, out))

@@ -115,7 +115,7 @@ pub fn write_group(
 ) -> Answer
     ensures { λ r. ⌜ Writes (forSizes 5 (now (sizes .entry)) (now (text .entry)) (groupAnswer day kind (fieldsOf (now (sizes .entry)) (now (text .entry))) (now (orders .entry)) (length (now (out .entry))))) (groupDraft day kind (fieldsOf (now (sizes .entry)) (now (text .entry))) (now (orders .entry)) .line) (now (out .entry)) r (now (out .exit)) ⌝ }
 {
-    if !lent_fields::is_sized(text, sizes, 5) {
+    if !lent_fields::is_lent_whole(text, sizes, 5) {
         return Answer::Refused(Refusal::Size(refusal::nowhere()));
     }
     if !dates::is_date(day) {

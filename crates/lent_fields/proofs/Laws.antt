@@ -11,7 +11,7 @@ use borrow.Author.Tests.{eq-eqb, ne-eqb, eqb-true, eqb-false, le-ltb, ltb-true, 
 use lib.ListN.{length, take, drop, getD, length-drop, drop-of-length-le, length-append}
 use lib.Seq.{drop-cons, drop-drop, drop-length, take-all, take-nil, take-append-seam, drop-append-seam, getD-drop}
 use Rattle.text.specs.Split.{joined}
-use Rattle.lent_fields.specs.Fields.{fieldsOf, behind, fieldEnd, together, sized, FieldEnd}
+use Rattle.lent_fields.specs.Fields.{fieldsOf, behind, fieldEnd, together, lentWhole, FieldEnd}
 
 -- ---------------------------------------------------------------------------
 -- Where a field ends
@@ -166,9 +166,9 @@ fields-joined [] = refl
 fields-joined (f ∷ fs) = rw (take-append-seam f (joined fs), drop-append-seam f (joined fs), fields-joined fs)
 
 -- and those lengths are the text's
-pub joined-sized : (fs : List (List ℕ)) → sized (length fs) (map (λ (f : List ℕ). length f) fs) (joined fs) ≡ true
-unfolding sized together joined
-joined-sized fs = eq-eqb _ (length (joined fs)) (all-together fs)
+pub joined-lent-whole : (fs : List (List ℕ)) → lentWhole (length fs) (map (λ (f : List ℕ). length f) fs) (joined fs) ≡ true
+unfolding lentWhole together joined
+joined-lent-whole fs = eq-eqb _ (length (joined fs)) (all-together fs)
   where
     all-together : (gs : List (List ℕ)) → together (take (length gs) (map (λ (g : List ℕ). length g) gs)) ≡ length (joined gs)
     all-together [] = refl

@@ -12,8 +12,8 @@ end-of-one κs a z z′ w w′ p q = p ∙ sym q
 pub text-behind-one : OneSeen _ here.text_behind.Kinds.ps here.text_behind.Kinds.r (λ κs z. z .now) here.text_behind.Reads.Post
 text-behind-one κs a z z′ w w′ p q = p ∙ sym q
 
-pub is-sized-one : One _ here.is_sized.Kinds.ps here.is_sized.Kinds.r here.is_sized.Reads.Post
-is-sized-one κs a z z′ w w′ p q = p ∙ sym q
+pub is-lent-whole-one : One _ here.is_lent_whole.Kinds.ps here.is_lent_whole.Kinds.r here.is_lent_whole.Reads.Post
+is-lent-whole-one κs a z z′ w w′ p q = p ∙ sym q
 
 pub sizes-behind-one : OneSeen _ here.sizes_behind.Kinds.ps here.sizes_behind.Kinds.r (λ κs z. z .now) here.sizes_behind.Reads.Post
 sizes-behind-one κs a z z′ w w′ p q = p ∙ sym q

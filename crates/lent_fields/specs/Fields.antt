@@ -25,12 +25,12 @@ together [] = 0
 together (n ∷ ns) = n + together ns
 
 -- the sizes of so many fields are together the text's: no byte is missing, and none is left over
-unfoldable pub sized : ℕ → List ℕ → List ℕ → Bool
-sized fields sizes text = eqb (together (take fields sizes)) (length text)
+unfoldable pub lentWhole : ℕ → List ℕ → List ℕ → Bool
+lentWhole fields sizes text = eqb (together (take fields sizes)) (length text)
 
 -- "1": the sizes of so many fields are not the text's
 abbrev pub forSizes : ℕ → List ℕ → List ℕ → Answer → Answer
-forSizes fields sizes text rest = cond (sized fields sizes text) rest (Refused (Size none))
+forSizes fields sizes text rest = cond (lentWhole fields sizes text) rest (Refused (Size none))
 
 -- ---------------------------------------------------------------------------
 -- Claims

@@ -3,7 +3,7 @@
 // Document 01, "The wage file", the writer: "Each field is the bytes of its positions".
 ghost use mathlib.Core.Path.{_≡_};
 ghost use lib.ListN.{getD, take, drop};
-ghost use Rattle.lent_fields.specs.Fields.{behind, fieldEnd, sized};
+ghost use Rattle.lent_fields.specs.Fields.{behind, fieldEnd, lentWhole};
 
 // The size of a field; one that is not there is empty.
 pub fn size_at(sizes: &[usize], i: usize) -> usize
@@ -45,8 +45,8 @@ pub fn text_behind<'a>(text: &'a [u8], sizes: &[usize], fields: usize) -> &'a [u
 }
 
 // Whether the sizes of as many fields are together the text's.
-pub fn is_sized(text: &[u8], sizes: &[usize], fields: usize) -> bool
-    ensures { λ r. ⌜ r ≡ sized fields (now (sizes .entry)) (now (text .entry)) ⌝ }
+pub fn is_lent_whole(text: &[u8], sizes: &[usize], fields: usize) -> bool
+    ensures { λ r. ⌜ r ≡ lentWhole fields (now (sizes .entry)) (now (text .entry)) ⌝ }
 {
     let mut left = text.len();
     let mut i = 0;

@@ -1,18 +1,21 @@
--- What is printed stands whole at the front of a room that is large enough, and how large that is.
+-- What is printed stands whole at the front of a room that is large enough, and how large that is; a number reads back.
 -- Assumes nothing.
 use mathlib.Core.Path.{_≡_, refl, ap, _∙_}
 use mathlib.Core.List.{List, [], _∷_, _++_}
 use mathlib.Core.Bool.{Bool, true, false, cond}
-use Prim.Native.Nat.{ℕ, zero, suc, _+_, _/_, _≤_}
-use native.Mathlib.Nat.{zero-add}
+use Prim.Native.Nat.{ℕ, zero, suc, _+_, _/_, _^_, _≤_, _<_}
+use native.Mathlib.Nat.{zero-add, pow-suc}
 use native.Mathlib.Omega.{arith}
 use lib.Dec.{ltb}
 use lib.ListN.{length, take, drop, length-append}
 use lib.Seq.{take-append-seam}
+use borrow.Author.Tests.{ltb-true}
 use Rattle.refusal.specs.declared.Place.{Place}
 use Rattle.refusal.specs.declared.Refusal.{Refusal}
 use Rattle.refusal.specs.Refusal.{refusalNumber, refusalPlace}
+use Rattle.text.specs.Digits.{digitsOf, valueOf}
 use Rattle.room.proofs.Places.{front}
+use Rattle.room.proofs.Digits.{number-back}
 use Rattle.printed.specs.Printed.{widthIn, decimal, counted, refusedWord, lineWord, fieldWord, byteWord, placeText, refusedText, Puts}
 use Rattle.printed.proofs.Laws.{ends-whole, decimal-length}
 
@@ -56,3 +59,20 @@ unfolding refusedText
 refused-at-most r =
     both-at-most (counted refusedWord (refusalNumber r)) (placeText (refusalPlace r)) 28 80 (counted-at-most refusedWord (refusalNumber r))
     (place-at-most (refusalPlace r))
+
+-- ---------------------------------------------------------------------------
+-- A number is printed so that it reads back
+
+-- as many digits as it has hold it
+width-holds : (k n : ℕ) → n < 10 ^ k → n < 10 ^ widthIn k n
+unfolding widthIn
+width-holds zero n h = h
+width-holds (suc k) n h = go (ltb n 10) refl (let e = pow-suc 10 k in width-holds k (n / 10) (omega arith))
+  where
+    go : (b : Bool) → ltb n 10 ≡ b → n / 10 < 10 ^ widthIn k (n / 10) → n < 10 ^ cond b 1 (suc (widthIn k (n / 10)))
+    go true e l = ltb-true n 10 e
+    go false e l = let p = pow-suc 10 (widthIn k (n / 10)) in omega arith
+
+pub decimal-reads-back : (n : ℕ) → n < 100000000000000000000 → valueOf (digitsOf (decimal n)) ≡ n
+unfolding decimal
+decimal-reads-back n h = number-back (widthIn 20 n) n (width-holds 20 n h)

@@ -65,18 +65,7 @@ module _ (c : ℕ) where
       let f : n ≡ length (pieceAt c 0 (drop at s)) = e ∙ rw (to-the-end at s) in
       omega (arith, first-front (drop at s) .0, length-drop at s)
 
-  -- one piece more than there are bytes c
-  pub pieces-counted : (s : List ℕ) → length (split c s) ≡ countOf c s + 1
-  unfolding split countOf
-  pieces-counted [] = refl
-  pieces-counted (b ∷ s) = go (eqb b c) (split c s) (apart s) (pieces-counted s)
-    where
-      go : (t : Bool) (ps : List (List ℕ)) → Apart s ps → length ps ≡ countOf c s + 1 → length (cond t ([] ∷ ps) (longer b ps)) ≡ cond t (suc (countOf c s)) (countOf c s) + 1
-      go t [] h e = absurd h
-      go true (p ∷ ps) h e = omega arith
-      go false (p ∷ ps) h e = e
-
-  -- which are no more than its bytes
+  -- there are no more bytes c than bytes
   pub count-within : (s : List ℕ) → countOf c s ≤ length s
   unfolding countOf
   count-within [] = omega arith

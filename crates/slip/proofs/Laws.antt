@@ -24,6 +24,7 @@ use Rattle.text.specs.declared.Found.{Found}
 use Rattle.text.specs.declared.Found.the-variants.{At, Nothing}
 use Rattle.text.specs.Split.{longer, split}
 use Rattle.text.proofs.Laws.{to-the-end}
+use Rattle.text.proofs.Pieces.{first-piece}
 use Rattle.classes.proofs.Choices.{left, entered, and-first, and-second}
 use Rattle.slip_fields.specs.Fields.{fieldVerdict}
 use Rattle.slip.specs.Slip.{slipEnds, fieldsAnswer, slipAnswer}
@@ -52,26 +53,6 @@ module _ (c : ℕ) where
       go : (t : Bool) → eqb b c ≡ t → Divided s (firstBad k s) → Divided (b ∷ s) (cond (not t) (later (firstBad k s)) (At 0))
       go true e d = (omega arith, rw e)
       go false e d = divided-later b s (firstBad k s) e d
-
-  -- there is always a first piece
-  pub first-piece : (s : List ℕ) → (p : List ℕ) × (ps : List (List ℕ)) × (split c s ≡ p ∷ ps)
-  unfolding split
-  first-piece [] = ([], [], refl)
-  first-piece (b ∷ s) = go (eqb b c) (first-piece s)
-    where
-      go : (h : Bool) → (p : List ℕ) × (ps : List (List ℕ)) × (split c s ≡ p ∷ ps) → (p : List ℕ) × (ps : List (List ℕ)) × (cond h ([] ∷ split c s) (longer b (split c s)) ≡ p ∷ ps)
-      go true w = ([], split c s, refl)
-      go false w = (b ∷ w .0, w .1, rw (w .2))
-
-  -- and one more for each c
-  pub pieces-counted : (s : List ℕ) → length (split c s) ≡ suc (countOf c s)
-  unfolding split countOf
-  pieces-counted [] = refl
-  pieces-counted (b ∷ s) = go (eqb b c) (first-piece s) (pieces-counted s)
-    where
-      go : (h : Bool) → (p : List ℕ) × (ps : List (List ℕ)) × (split c s ≡ p ∷ ps) → length (split c s) ≡ suc (countOf c s) → length (cond h ([] ∷ split c s) (longer b (split c s))) ≡ suc (cond h (suc (countOf c s)) (countOf c s))
-      go true w e = ap suc e
-      go false w e = rw (w .2) (rw (w .2) at e)
 
 -- a text with a line feed: the piece before the first, and the pieces of what follows it
 pub split-at : (s : List ℕ) (i : ℕ) → firstBad Line s ≡ At i → (i < length s) × (split 10 s ≡ take i s ∷ split 10 (drop (i + 1) s))

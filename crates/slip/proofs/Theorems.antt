@@ -19,10 +19,12 @@ use Rattle.refusal.specs.declared.Refusal.the-variants.{Size, Ends}
 use Rattle.verdict.proofs.Verdicts.{answer-accepted, first-both}
 use Rattle.text.specs.Bytes.{countOf}
 use Rattle.text.specs.Split.{split}
-use Rattle.classes.proofs.Choices.{both-true, and-second}
+use Rattle.refusal.proofs.Theorems.{refused-not-accepted}
+use Rattle.classes.proofs.Choices.{chosen, both-true, and-second}
 use Rattle.slip_fields.specs.Fields.{fieldVerdict}
 use Rattle.slip.specs.Slip.{slipEnds, fieldsAnswer, slipAnswer, pieceOf}
-use Rattle.slip.proofs.Laws.{pieces-counted, fields-judged}
+use Rattle.text.proofs.Pieces.{pieces-counted}
+use Rattle.slip.proofs.Laws.{fields-judged}
 
 -- ---------------------------------------------------------------------------
 -- Accepted exactly when
@@ -41,11 +43,6 @@ pub record Right (s : List ℕ) : Type 0 where
   pub ends : countOf 10 s ≡ 14
   pub last : getD s (length s - 1) 0 ≡ 10
   pub fields : (n : ℕ) → 1 ≤ n → n ≤ 14 → fieldVerdict n (textBefore s n) (fieldText s n) ≡ 0
-
--- a choice between an answer and a refusal accepts where its test holds and the answer does
-chosen : (b : Bool) (x : Answer) (q : Refusal) → cond b x (Refused q) ≡ Accepted → (b ≡ true) × (x ≡ Accepted)
-chosen true x q e = (refl, e)
-chosen false x q e = let z : _≡_ {A = ℕ} 0 1 = cc in absurd (omega arith)
 
 -- the fields of an accepted slip are each accepted, up to the last line feed
 fields-each : (n start : ℕ) (m : List ℕ) (ps : List (List ℕ)) → fieldsAnswer n start m ps ≡ Accepted → (k : ℕ) → k + 1 < length ps → fieldVerdict (n + k) (getD (m ∷ ps) k []) (getD ps k []) ≡ 0
@@ -70,8 +67,8 @@ module _ (s : List ℕ) where
   accepted-right : slipAnswer s ≡ Accepted → Right s
   unfolding slipAnswer pieceOf
   accepted-right e =
-      let a = chosen (leb (length s) 483) (cond (slipEnds s) (fieldsAnswer 1 0 [] (split 10 s)) (Refused (Ends none))) (Size none) e in
-      let b = chosen (slipEnds s) (fieldsAnswer 1 0 [] (split 10 s)) (Ends none) (a .1) in
+      let a = chosen (leb (length s) 483) _ _ _ (refused-not-accepted (Size none)) e in
+      let b = chosen (slipEnds s) _ _ _ (refused-not-accepted (Ends none)) (a .1) in
       let d = both-true (eqb (countOf 10 s) 14) (eqb (getD s (length s - 1) 0) 10) (b .0) in
       let f = eqb-true (countOf 10 s) 14 (d .0) in
       record {

@@ -19,7 +19,8 @@ use Rattle.text.specs.Split.{split}
 use Rattle.text.proofs.Laws.{to-the-end}
 use Rattle.classes.proofs.Choices.{left, entered}
 use Rattle.slip.specs.Slip.{slipAnswer, pieceOf}
-use Rattle.slip.proofs.Laws.{first-piece, split-at, split-whole}
+use Rattle.text.proofs.Pieces.{first-piece}
+use Rattle.slip.proofs.Laws.{split-at, split-whole}
 use Rattle.slip_handed.specs.Handed.{pieceStart, piecePart, isHanded, fieldPart, fieldOf}
 
 -- ---------------------------------------------------------------------------

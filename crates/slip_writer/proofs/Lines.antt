@@ -11,6 +11,7 @@ use borrow.Author.Tests.{eqb-true, eqb-false, not-true}
 use Rattle.text.specs.Bytes.{allOf, countOf}
 use Rattle.classes.specs.declared.Class.the-variants.{Line}
 use Rattle.text.specs.Split.{longer, split}
+use Rattle.text.proofs.Pieces.{pieces-counted}
 use Rattle.classes.proofs.Choices.{both-true}
 use Rattle.slip_writer.specs.Writer.{joinLines}
 use Rattle.slip_writer.specs.Claims.{EachLine, none, more, slipLines}
@@ -135,21 +136,6 @@ joined-split s e = go (lastPiece (split 10 s)) refl
 -- ---------------------------------------------------------------------------
 -- How many
 
--- a byte more makes no piece more
-longer-length : (b : ℕ) (ps : List (List ℕ)) → 0 < length ps → length (longer b ps) ≡ length ps
-longer-length b [] l = absurd (omega arith)
-longer-length b (p ∷ ps) l = refl
-
--- one piece more than line feeds
-pub pieces-counted : (s : List ℕ) → length (split 10 s) ≡ suc (countOf 10 s)
-unfolding split countOf
-pieces-counted [] = refl
-pieces-counted (b ∷ s) = go (eqb b 10) (pieces-counted s)
-  where
-    go : (t : Bool) → length (split 10 s) ≡ suc (countOf 10 s) → length (cond t ([] ∷ split 10 s) (longer b (split 10 s))) ≡ suc (cond t (suc (countOf 10 s)) (countOf 10 s))
-    go true ih = ap suc ih
-    go false ih = longer-length b (split 10 s) (split-some s) ∙ ih
-
 -- one line fewer than pieces
 lines-counted : (ps : List (List ℕ)) → length (slipLines ps) ≡ length ps - 1
 lines-counted [] = omega arith
@@ -158,7 +144,7 @@ lines-counted (p ∷ (q ∷ ps)) = omega (arith, lines-counted (q ∷ ps))
 
 -- as many lines as line feeds
 pub lines-of-text : (s : List ℕ) → length (slipLines (split 10 s)) ≡ countOf 10 s
-lines-of-text s = omega (arith, lines-counted (split 10 s), pieces-counted s)
+lines-of-text s = omega (arith, lines-counted (split 10 s), pieces-counted 10 s)
 
 -- a line is the piece at its place
 pub line-at : (ps : List (List ℕ)) (i : ℕ) → i < length (slipLines ps) → getD (slipLines ps) i [] ≡ getD ps i []

@@ -4,4 +4,5 @@ pub mod Blanks
 pub mod Stands
 pub mod Same
 pub mod Values
+pub mod Pieces
 pub mod One

@@ -27,7 +27,7 @@ use Rattle.wage_line.specs.Line.{typedOf}
 use Rattle.wage_line.proofs.PieceLaws.{Each, each-more}
 use Rattle.wage_fields.specs.Rules.{placesAnswer, RightLine}
 use Rattle.worked_out.specs.Amounts.{amounts}
-use Rattle.wage_fields.proofs.Theorems.{closing-has-none}
+use Rattle.wage_fields.proofs.Plain.{closing-exactly}
 use Rattle.condition.specs.declared.Condition.the-variants.{Grouped}
 use Rattle.condition.specs.declared.Counts.{Counts}
 use Rattle.condition.specs.declared.Ending.the-variants as ending
@@ -134,10 +134,6 @@ pub goes :
     standVerdict (stageOf (j .condition)) (j .group) t ≡ 0 → stepped j s ≡ after j s t
 unfolding stepped typeStep
 goes j s t a b c w e = rw (a, b, lt-ltb _ _ c, w .typed, e, w .fields)
-
--- a 399 has no places
-pub right-closing : (day kind : ℕ) (s : List ℕ) → typedOf s ≡ typed.Line Closing → RightLine day kind Closing s
-right-closing day kind s e = record { typed = e; fields = closing-has-none day kind s }
 
 -- ---------------------------------------------------------------------------
 -- What a group's first line declares
@@ -275,7 +271,7 @@ module _ (day kind : ℕ) where
       closing-made : (s : List ℕ) → typedOf s ≡ typed.Line Closing → Whole → Ends (oneMore (m .groups) (m .orders) m) (s ∷ []) here
       unfolding steps standVerdict isSound
       closing-made s w d =
-          ap ended (goes here s Closing refl (group-sound head m counted total (omega arith) b c (omega arith) (omega arith)) a (right-closing day kind s w) (whole-made d)) ∙
+          ap ended (goes here s Closing refl (group-sound head m counted total (omega arith) b c (omega arith) (omega arith)) a (closing-exactly day kind s .1 w) (whole-made d)) ∙
           closed-accepts (after here s Closing)
           (group-sound head (oneMore (m .groups) (m .orders) m) counted total (omega arith) (omega arith) (omega arith) (omega arith) (omega arith)) refl
 

@@ -12,7 +12,7 @@ use borrow.Author.Tests.{eq-eqb, eqb-true}
 use Rattle.refusal.specs.Refusal.{none}
 use Rattle.refusal.specs.declared.Refusal.{Refusal}
 use Rattle.refusal.specs.declared.Refusal.the-variants.{Size, Ends}
-use Rattle.classes.proofs.Choices.{entered, and-second, both-true}
+use Rattle.classes.proofs.Choices.{chosen, entered, and-second, both-true}
 use Rattle.wage_places.specs.declared.LineType.{LineType}
 use Rattle.wage_places.specs.declared.LineType.the-variants.{Label, Group, Order, Closing}
 use Rattle.wage_line.specs.declared.Typed.{Typed}
@@ -62,18 +62,17 @@ type-digits t a b c = go (eqb a 51) (eqb b 48) (eqb b 57) (eqb c 48) (eqb c 49) 
     go true false false c0 c1 c9 f g h i j k e = let z : _≡_ {A = ℕ} 0 1 = cc in absurd (omega arith)
     go false b0 b9 c0 c1 c9 f g h i j k e = let z : _≡_ {A = ℕ} 0 1 = cc in absurd (omega arith)
 
--- a choice between a type and a refusal has a type where its test holds
-chosen : (t : LineType) (b : Bool) (x : Typed) (q : Refusal) → cond b x (Refused q) ≡ Line t → (b ≡ true) × (x ≡ Line t)
-chosen t true x q e = (refl, e)
-chosen t false x q e = let z : _≡_ {A = ℕ} 0 1 = cc in absurd (omega arith)
+-- a refusal is no type
+refused-no-type : (q : Refusal) (t : LineType) → Refused q ≡ Line t → ⊥
+refused-no-type q t e = let z : _≡_ {A = ℕ} 0 1 = cc in omega arith
 
 module _ (t : LineType) (s : List ℕ) where
   -- what has a type is as said
   typed-as : typedOf s ≡ Line t → TypedAs t s
   unfolding typedOf
   typed-as e =
-      let f = chosen t (eqb (length s) 1002) (cond (endsRight s) (typeOf s) (Refused (Ends none))) (Size none) e in
-      let g = chosen t (endsRight s) (typeOf s) (Ends none) (f .1) in
+      let f = chosen (eqb (length s) 1002) _ _ _ (refused-no-type (Size none) t) e in
+      let g = chosen (endsRight s) _ _ _ (refused-no-type (Ends none) t) (f .1) in
       let h = both-true (eqb (getD s 1000 0) 13) (eqb (getD s 1001 0) 10) (g .0) in
       let w = eqb-true (length s) 1002 (f .0) in
       record {

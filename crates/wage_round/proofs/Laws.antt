@@ -37,8 +37,8 @@ use Rattle.wage_fields.proofs.Theorems.{label-kind, group-number-digits, group-
 use Rattle.worked_out.specs.Amounts.{amounts}
 use Rattle.wage_file.specs.Right.{Payments, kindOf, RightGroup}
 use Rattle.wage_draft.specs.Draft.{partsOfLine, sizesOf}
-use Rattle.lent_fields.specs.Fields.{sized}
-use Rattle.lent_fields.proofs.Laws.{fields-joined, joined-sized}
+use Rattle.lent_fields.specs.Fields.{lentWhole}
+use Rattle.lent_fields.proofs.Laws.{fields-joined, joined-lent-whole}
 use Rattle.wage_draft.proofs.Laws.{places-rising, parts-sized}
 use Rattle.wage_draft.proofs.Theorems.{DraftedRight, drafted-right}
 use Rattle.wage_orders.specs.Orders.{groupOrders}
@@ -175,13 +175,13 @@ module _ (s : List ℕ) (whole : length s ≡ 1002) where
   five-read = rw (← five-sizes) (fields-joined (fiveParts s))
 
   -- and their sizes are the text's
-  pub five-sized : sized 5 fiveSizes (joined (fiveParts s)) ≡ true
-  five-sized = rw (← five-sizes) (joined-sized (fiveParts s))
+  pub five-sized : lentWhole 5 fiveSizes (joined (fiveParts s)) ≡ true
+  five-sized = rw (← five-sizes) (joined-lent-whole (fiveParts s))
 
   -- so are those of all fields of a line
-  pub all-sized : (t : LineType) → sized (length (spots t)) (sizesOf t) (joined (partsOfLine t s)) ≡ true
+  pub all-sized : (t : LineType) → lentWhole (length (spots t)) (sizesOf t) (joined (partsOfLine t s)) ≡ true
   all-sized t =
-      rw (← (length-map (spots t) (λ (p : Spot). partAt p s)), ← (parts-sized t 0 (spots t) (places-rising t) s whole)) (joined-sized (partsOfLine t s))
+      rw (← (length-map (spots t) (λ (p : Spot). partAt p s)), ← (parts-sized t 0 (spots t) (places-rising t) s whole)) (joined-lent-whole (partsOfLine t s))
 
   -- with the number and the sum they are all of its fields
   pub seven-parts : (n cents : ℕ) → digitsText 5 n ≡ partOf Group 5 s → digitsText 20 cents ≡ partOf Group 6 s → groupFields (fiveParts s) n cents ≡ partsOfLine Group s

@@ -30,7 +30,7 @@ use Rattle.wage_file.specs.File.{fileAnswer}
 use Rattle.wage_file.proofs.RunLaws.{noGroup}
 use Rattle.wage_file.proofs.Exactly.{accepted-exactly}
 use Rattle.wage_file.proofs.Theorems.{of-lines, file-accepted-exactly}
-use Rattle.lent_fields.specs.Fields.{sized}
+use Rattle.lent_fields.specs.Fields.{lentWhole}
 use Rattle.wage_draft.specs.Draft.{Draft, drafted, partsOfLine, sizesOf, blanked, plainElsewhere}
 use Rattle.bare_line.specs.Bare.{bareLine}
 use Rattle.wage_draft.proofs.Theorems.{DraftedRight, bare-plain, right-drafted, fields-of-parts}
@@ -274,18 +274,18 @@ module _ (day kind : ℕ) where
 
 module _ (s : List ℕ) (whole : length s ≡ 1002) where
   -- the fields of a 300
-  pub read-label-sized : sized 8 (sizesOf Label) (joined (partsOfLine Label s)) ≡ true
+  pub read-label-lent-whole : lentWhole 8 (sizesOf Label) (joined (partsOfLine Label s)) ≡ true
   unfolding spots
-  read-label-sized = all-sized s whole Label
+  read-label-lent-whole = all-sized s whole Label
 
   -- of a 309
-  pub read-order-sized : sized 16 (sizesOf Order) (joined (partsOfLine Order s)) ≡ true
+  pub read-order-lent-whole : lentWhole 16 (sizesOf Order) (joined (partsOfLine Order s)) ≡ true
   unfolding spots
-  read-order-sized = all-sized s whole Order
+  read-order-lent-whole = all-sized s whole Order
 
   -- the five of a 301
-  pub read-five-sized : sized 5 fiveSizes (joined (fiveParts s)) ≡ true
-  read-five-sized = five-sized s whole
+  pub read-five-lent-whole : lentWhole 5 fiveSizes (joined (fiveParts s)) ≡ true
+  read-five-lent-whole = five-sized s whole
 
 -- ---------------------------------------------------------------------------
 -- A right group, and a right file, read and written again is the same

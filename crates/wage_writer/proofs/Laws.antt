@@ -14,7 +14,7 @@ use Rattle.refusal.specs.declared.Refusal.{Refusal}
 use Rattle.refusal.specs.declared.Refusal.the-variants.{Size}
 use Rattle.wage_places.specs.declared.LineType.{LineType}
 use Rattle.wage_places.specs.Places.{spots}
-use Rattle.lent_fields.specs.Fields.{sized, forSizes}
+use Rattle.lent_fields.specs.Fields.{lentWhole, forSizes}
 use Rattle.bare_line.specs.Bare.{bareLine}
 use Rattle.bare_line.proofs.Theorems.{bare-length}
 use Rattle.wage_draft.specs.Draft.{Draft, drafted, inScratch, Drafts, DraftsRight}
@@ -24,11 +24,11 @@ use Rattle.line_room.proofs.Laws.{accepted-first, refused-first}
 
 module _ (line out : List ℕ) (fields : ℕ) (sizes text : List ℕ) (rest : Answer) where
   -- the sizes are not the text's
-  pub sizes-wrong : (p : Place) → sized fields sizes text ≡ false → p ≡ none → Writes (forSizes fields sizes text rest) line out (Refused (Size p)) out
+  pub sizes-wrong : (p : Place) → lentWhole fields sizes text ≡ false → p ≡ none → Writes (forSizes fields sizes text rest) line out (Refused (Size p)) out
   sizes-wrong p e n = rw (e, n) (record { answers = refl; leaves = refl })
 
   -- the sizes are the text's
-  pub sizes-right : (r : Answer) (after : List ℕ) → sized fields sizes text ≡ true → Writes rest line out r after → Writes (forSizes fields sizes text rest) line out r after
+  pub sizes-right : (r : Answer) (after : List ℕ) → lentWhole fields sizes text ≡ true → Writes rest line out r after → Writes (forSizes fields sizes text rest) line out r after
   sizes-right r after e w = rw e w
 
 module _ (d : Draft) (r : Answer) (line : List ℕ) (w : DraftsRight d r line) (rest : Answer) (out : List ℕ) where

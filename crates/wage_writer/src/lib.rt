@@ -55,7 +55,7 @@ fn write_line(
 pub fn write_label(day: u64, text: &[u8], sizes: &[usize], out: &mut [u8]) -> Answer
     ensures { λ r. ⌜ Writes (forSizes 8 (now (sizes .entry)) (now (text .entry)) (labelAnswer day (fieldsOf (now (sizes .entry)) (now (text .entry))) (length (now (out .entry))))) (labelDraft day (fieldsOf (now (sizes .entry)) (now (text .entry))) .line) (now (out .entry)) r (now (out .exit)) ⌝ }
 {
-    if !lent_fields::is_sized(text, sizes, 8) {
+    if !lent_fields::is_lent_whole(text, sizes, 8) {
         return Answer::Refused(Refusal::Size(refusal::nowhere()));
     }
     if !dates::is_date(day) {
@@ -68,7 +68,7 @@ pub fn write_label(day: u64, text: &[u8], sizes: &[usize], out: &mut [u8]) -> An
 pub fn write_order(day: u64, kind: u64, text: &[u8], sizes: &[usize], out: &mut [u8]) -> Answer
     ensures { λ r. ⌜ Writes (forSizes 16 (now (sizes .entry)) (now (text .entry)) (orderAnswer day kind (fieldsOf (now (sizes .entry)) (now (text .entry))) (length (now (out .entry))))) (orderDraft day kind (fieldsOf (now (sizes .entry)) (now (text .entry))) .line) (now (out .entry)) r (now (out .exit)) ⌝ }
 {
-    if !lent_fields::is_sized(text, sizes, 16) {
+    if !lent_fields::is_lent_whole(text, sizes, 16) {
         return Answer::Refused(Refusal::Size(refusal::nowhere()));
     }
     if !dates::is_date(day) {

@@ -8,12 +8,12 @@ use Rattle.desk_slips.proofs.lanecockle_slip_write.Tie as tie
 
 returns : tie.Need-returns
 returns c =
-    slip-unsized _ _ _ _ _ (sym (c .before .before .before .is-sized .ensures) ∙ not-true _ (c .before .before .if1 .taken))
+    slip-unsized _ _ _ _ _ (sym (c .before .before .before .is-lent-whole .ensures) ∙ not-true _ (c .before .before .if1 .taken))
     (rw (c .before .nowhere .ensures) at (c .refuse-value .ensures))
 
 returns-2 : tie.Need-returns-2
 returns-2 c =
-    slip-told _ _ _ _ _ _ _ (sym (c .before .before .before .before .before .before .is-sized .ensures) ∙ not-false _ (c .before .before .before .before .before .if1 .left)) (c .tell-written .ensures)
+    slip-told _ _ _ _ _ _ _ (sym (c .before .before .before .before .before .before .is-lent-whole .ensures) ∙ not-false _ (c .before .before .before .before .before .if1 .left)) (c .tell-written .ensures)
     (c .before .before .before .write-given .ensures)
 
 pub lanecockle-slip-write-spec : {M : Type 1} → statement M

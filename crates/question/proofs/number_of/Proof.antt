@@ -6,7 +6,8 @@ use native.Mathlib.Nat.{zero-add}
 use lib.ListN.{length, drop}
 use Rattle.text.specs.Split.{split}
 use borrow.Author.Needs.{needs}
-use Rattle.question.proofs.Laws.{pieces-counted, count-within, place-here, place-on, place-none}
+use Rattle.text.proofs.Pieces.{pieces-counted}
+use Rattle.question.proofs.Laws.{count-within, place-here, place-on, place-none}
 use Rattle.question.specs.Question.{placeAmong}
 use Rattle.question.proofs.number_of.Statement.{statement}
 use Rattle.question.proofs.number_of.Tie as tie

@@ -9,25 +9,25 @@ use Rattle.wage_writer.proofs.write_order.Statement.{statement}
 use Rattle.wage_writer.proofs.write_order.Tie as tie
 
 returns : tie.Need-returns
-returns c = sizes-wrong _ _ _ _ _ _ _ (sym (c .before .before .is-sized .ensures) ∙ not-true _ (c .before .if1 .taken)) (c .nowhere .ensures)
+returns c = sizes-wrong _ _ _ _ _ _ _ (sym (c .before .before .is-lent-whole .ensures) ∙ not-true _ (c .before .if1 .taken)) (c .nowhere .ensures)
 
 returns-2 : tie.Need-returns-2
 unfolding orderAnswer
 returns-2 c =
-    sizes-right _ _ _ _ _ _ _ _ (sym (c .before .before .before .before .is-sized .ensures) ∙ not-false _ (c .before .before .before .if1 .left))
+    sizes-right _ _ _ _ _ _ _ _ (sym (c .before .before .before .before .is-lent-whole .ensures) ∙ not-false _ (c .before .before .before .if1 .left))
     (day-wrong _ _ _ _ _ (sym (c .before .before .is-date .ensures) ∙ not-true _ (c .before .if2 .taken)) (c .nowhere2 .ensures))
 
 returns-3 : tie.Need-returns-3
 unfolding orderAnswer
 returns-3 c =
-    sizes-right _ _ _ _ _ _ _ _ (sym (c .before .before .before .before .before .before .is-sized .ensures) ∙ not-false _ (c .before .before .before .before .before .if1 .left))
+    sizes-right _ _ _ _ _ _ _ _ (sym (c .before .before .before .before .before .before .is-lent-whole .ensures) ∙ not-false _ (c .before .before .before .before .before .if1 .left))
     (day-right _ _ _ _ _ _ (sym (c .before .before .before .before .is-date .ensures) ∙ not-false _ (c .before .before .before .if2 .left))
     (kind-wrong _ _ (c .before .before .before .before .before .before .before .before .before .before .args .kind) _ _ (sym (c .before .before .is-kind .ensures) ∙ not-true _ (c .before .if3 .taken)) (c .nowhere3 .ensures)))
 
 returns-4 : tie.Need-returns-4
 unfolding orderAnswer
 returns-4 c =
-    sizes-right _ _ _ _ _ _ _ _ (sym (c .before .before .before .before .before .before .before .before .before .is-sized .ensures) ∙ not-false _ (c .before .before .before .before .before .before .before .before .if1 .left))
+    sizes-right _ _ _ _ _ _ _ _ (sym (c .before .before .before .before .before .before .before .before .before .is-lent-whole .ensures) ∙ not-false _ (c .before .before .before .before .before .before .before .before .if1 .left))
     (day-right _ _ _ _ _ _ (sym (c .before .before .before .before .before .before .before .is-date .ensures) ∙ not-false _ (c .before .before .before .before .before .before .if2 .left))
     (kind-right _ _ (c .before .before .before .before .before .before .before .before .before .before .before .before .before .args .kind) _ _ _ (sym (c .before .before .before .before .before .is-kind .ensures) ∙ not-false _ (c .before .before .before .before .if3 .left))
     (c .before .before .write-line .ensures)))

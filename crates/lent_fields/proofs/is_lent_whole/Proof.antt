@@ -1,22 +1,22 @@
--- `lent_fields::is_sized` meets its contract. The loop's invariant: the fields that are left are asked for what is left of the text. Assumes nothing.
+-- `lent_fields::is_lent_whole` meets its contract. The loop's invariant: the fields that are left are asked for what is left of the text. Assumes nothing.
 use mathlib.Core.Path.{_≡_, sym, _∙_}
 use Prim.Native.Nat.{_≤_, _-_}
 use native.Mathlib.Omega.{arith}
 use lib.ListN.{length}
 use borrow.Author.Needs.{needs}
-use Rattle.lent_fields.specs.Fields.{sized}
+use Rattle.lent_fields.specs.Fields.{lentWhole}
 use Rattle.lent_fields.proofs.Laws.{SizedFrom, sized-last, sized-past, sized-short, sized-on}
-use Rattle.lent_fields.proofs.is_sized.Statement.{statement}
-use Rattle.lent_fields.proofs.is_sized.Tie as tie
+use Rattle.lent_fields.proofs.is_lent_whole.Statement.{statement}
+use Rattle.lent_fields.proofs.is_lent_whole.Tie as tie
 
 abbrev Inv-loop : tie.InvT-loop
-Inv-loop text sizes fields left₀ i₀ left i = (left ≤ length text) × (sized fields sizes text ≡ SizedFrom sizes fields i left)
+Inv-loop text sizes fields left₀ i₀ left i = (left ≤ length text) × (lentWhole fields sizes text ≡ SizedFrom sizes fields i left)
 
 abbrev μ-loop : tie.MeasureT-loop
 μ-loop text sizes fields left₀ i₀ left i = length sizes - i
 
 loop-holds : tie.Need-loop-holds Inv-loop μ-loop
-unfolding sized
+unfolding lentWhole
 loop-holds c =
     let n = c .args .fields in
     let e : n - 0 ≡ n = omega arith in
@@ -58,8 +58,8 @@ returns-3 c =
     let l = c .before .loop in
     sized-past (a .sizes .now) (a .fields) (l .i) (l .left) (omega arith) ∙ sym (l .inv .1)
 
-pub is-sized-spec : {M : Type 1} → statement M
-is-sized-spec =
+pub is-lent-whole-spec : {M : Type 1} → statement M
+is-lent-whole-spec =
     tie.close
     (tie.spec
     Inv-loop
