@@ -1,10 +1,10 @@
 -- What the listing program prints of a line of any length: the first 22 bytes before its first space and the first 23 after it (the crate
--- `line` keeps just these) are answered as the whole line is, and fill to the same texts where the answer is a count; and the rooms that the
--- program lends hold what is put into them. Assumes nothing.
+-- `line` keeps just these) are answered as the whole line is, and fill to the same texts where the answer is a count; and the room that the
+-- program lends holds its whole output. Assumes nothing.
 use mathlib.Core.Path.{_≡_, refl, sym, ap, _∙_}
 use mathlib.Core.Bool.{Bool, true, false, cond}
 use mathlib.Core.List.{List, [], _∷_, _++_, append-nil, append-assoc}
-use Prim.Native.Nat.{ℕ, zero, suc, _≤_, _<_}
+use Prim.Native.Nat.{ℕ, _*_, _≤_, _<_}
 use native.Mathlib.Omega.{arith}
 use lib.Dec.{eqb, leb, ltb}
 use lib.ListN.{length, getD, take, drop, length-take, length-append}
@@ -34,8 +34,9 @@ use Rattle.fillings.specs.declared.Listed.the-variants.{Count, Refused}
 use Rattle.wet.specs.Wet.{wetIban, ibanListing, numberListing, referenceListing, numberFillings, referenceFillings}
 use Rattle.printed.specs.Printed.{decimal, counted, refusedWord, Puts}
 use Rattle.printed.proofs.Theorems.{printed-whole, decimal-at-most, both-at-most, counted-at-most}
-use Rattle.listing_printed.specs.Listing.{lineListing, lineFillings, wetText, fillingsWord, firstLine, filledLine, filledLines, filledInRoom, answerPrinted, listingPrinted}
+use Rattle.listing_printed.specs.Listing.{lineListing, lineFillings, wetText, fillingsWord, firstLine, filledLine, filledLines, answerPrinted, listingPrinted}
 use Rattle.listing_printed.specs.Mirror.{keptListing, keptFillings, keptText}
+use Rattle.listing_printed.proofs.Laws.{line-count}
 
 -- a test decided, one way or the other
 cases : {P : Type 0} (b : Bool) → (b ≡ true → P) → (b ≡ false → P) → P
@@ -77,48 +78,6 @@ reference-kept m s room =
     (λ e. ap (λ (t : List ℕ). referenceListing m t room) (kept-whole 23 s (leb-true (length s) 23 e)))
     (λ e. let h : 23 < length s = leb-false (length s) 23 e in
     rw (lt-leb (length (take 23 s)) 22 (omega (arith, cut-length 23 s h)), lt-leb (length s) 22 (omega arith))))
-
--- ---------------------------------------------------------------------------
--- What a count tells: its text was not cut, and it is the number of the fillings
-
--- behind a test that is else a refusal, a count tells that the test held
-counts-on : (b : Bool) (x : Listed) (r : Refusal) (n : ℕ) → cond b x (Refused r) ≡ Count n → (b ≡ true) × (x ≡ Count n)
-counts-on true x r n e = (refl, e)
-counts-on false x r n e = let z : _≡_ {A = ℕ} 0 1 = cc in absurd (omega arith)
-
--- as many as there are, and there is room for them
-room-count : (xs : List ℕ) (room n : ℕ) → listedInRoom xs room ≡ Count n → (n ≡ length xs) × (n ≤ room)
-room-count xs room n e = go (ltb room (length xs)) refl e
-  where
-    go : (b : Bool) → ltb room (length xs) ≡ b → cond b (Refused (Room none (length xs))) (Count (length xs)) ≡ Count n → (n ≡ length xs) × (n ≤ room)
-    go true f g = let z : _≡_ {A = ℕ} 0 1 = cc in absurd (omega arith)
-    go false f g = let z : n ≡ length xs = cc in let h = ltb-false room (length xs) f in (z, omega arith)
-
--- an IBAN's
-iban-count : (s : List ℕ) (room n : ℕ) → ibanListing s room ≡ Count n → (length s ≤ 22) × ((n ≡ length (fillings isIban s)) × (n ≤ room))
-iban-count s room n e =
-    let a = counts-on (eqb (length s) 21) _ _ n e in
-    let b = counts-on (wetIban s) _ _ n (a .1) in
-    let c = counts-on (leb (marks s) 4) _ _ n (b .1) in
-    let h = eqb-true (length s) 21 (a .0) in
-    (omega arith, room-count (fillings isIban s) room n (c .1))
-
--- a reference's
-number-count : (f : Found) (s : List ℕ) (room n : ℕ) → numberListing f s room ≡ Count n → (n ≡ length (numberFillings f s)) × (n ≤ room)
-number-count (At k) s room n e = room-count (fillings (obeys (modelOf k)) s) room n (counts-on (modelOf k .handled) _ _ n e .1)
-number-count Nothing s room n e = let z : _≡_ {A = ℕ} 0 1 = cc in absurd (omega arith)
-
-reference-count : (m s : List ℕ) (room n : ℕ) → referenceListing m s room ≡ Count n → (length s ≤ 22) × ((n ≡ length (referenceFillings m s)) × (n ≤ room))
-reference-count m s room n e =
-    let a = counts-on (leb (length s) 22) _ _ n e in
-    let b = counts-on (allOf WetReference s) _ _ n (a .1) in
-    let c = counts-on (leb (marks s) 4) _ _ n (b .1) in
-    (leb-true (length s) 22 (a .0), number-count (modelNumber m) s room n (c .1))
-
--- a line's, by its two sides
-line-count : (ended spaced : Bool) (h t : List ℕ) (room n : ℕ) → cond ended (cond spaced (referenceListing h t room) (ibanListing h room)) (Refused (Size none)) ≡ Count n → (length (cond spaced t h) ≤ 22) × ((n ≡ length (cond spaced (referenceFillings h t) (fillings isIban h))) × (n ≤ room))
-line-count ended true h t room n e = reference-count h t room n (counts-on ended _ _ n e .1)
-line-count ended false h t room n e = iban-count h room n (counts-on ended _ _ n e .1)
 
 -- ---------------------------------------------------------------------------
 -- A line as it was kept
@@ -173,24 +132,7 @@ line-answered s head₀ tail₀ g h =
     }
 
 -- ---------------------------------------------------------------------------
--- What the program writes of it
-
--- a count's numbers stand at the front of the lent slice, and its text has at most 22 bytes
-pub numbers-in-front : (seen : Seen) (head tail out : List ℕ) (n : ℕ) → keptListing seen head tail (length out) ≡ Count n →
-    (length (keptText seen head tail) ≤ 22) × ((n ≤ length out) × (take n (leftByListing (Count n) (keptFillings seen head tail) out) ≡ keptFillings seen head tail))
-numbers-in-front seen head tail out n e =
-    let w = line-count (seen .ended) (seen .spaced) (take (seen .head) head) (take (seen .tail) tail) (length out) n e in
-    (w .0, (w .1 .1, take-at (keptFillings seen head tail) (drop (length (keptFillings seen head tail)) out) n (sym (w .1 .0))))
-
--- one line more for each number
-pub lines-on : (text ks : List ℕ) (i : ℕ) → i < length ks → filledLines text (take i ks) ++ filledLine text (getD ks i 0) ≡ filledLines text (take (suc i) ks)
-unfolding filledLines
-lines-on text [] i h = absurd (omega arith)
-lines-on text (k ∷ ks) zero h = sym (append-nil (filledLine text k))
-lines-on text (k ∷ ks) (suc i) h = append-assoc (filledLine text k) (filledLines text (take i ks)) (filledLine text (getD ks i 0)) ∙ ap (λ (x : List ℕ). filledLine text k ++ x) (lines-on text ks i (omega arith))
-
--- ---------------------------------------------------------------------------
--- The rooms that it lends
+-- The room that the program lends
 
 -- a first line has at most 30 bytes
 first-at-most : (r : Listed) → length (firstLine r) ≤ 30
@@ -198,12 +140,32 @@ unfolding firstLine
 first-at-most (Count n) = both-at-most (decimal n) fillingsWord 20 10 (decimal-at-most n) (omega arith)
 first-at-most (Refused r) = both-at-most (counted refusedWord (refusalNumber r)) (10 ∷ []) 28 2 (counted-at-most refusedWord (refusalNumber r)) (omega arith)
 
--- so 64 hold it
-pub first-whole : (r : Listed) (out : List ℕ) (n : ℕ) (after : List ℕ) → length out ≡ 64 → Puts (firstLine r) 0 out n after → take n after ≡ firstLine r
-first-whole r out n after h p = printed-whole (firstLine r) out n after p (omega (arith, first-at-most r))
+-- a filled line at most 23
+lines-at-most : (text ks : List ℕ) → length text ≤ 22 → length (filledLines text ks) ≤ length ks * 23
+unfolding filledLines
+lines-at-most text [] h = omega arith
+lines-at-most text (k ∷ ks) h =
+    let m = lines-at-most text ks h in
+    let l : length (filledLine text k) ≤ 23 = both-at-most (fill text k) (10 ∷ []) 22 1 (omega (arith, fill-length text k)) (omega arith) in
+    let b = both-at-most (filledLine text k) (filledLines text ks) 23 (length ks * 23) l m in
+    omega arith
 
--- and 23 a filled line of a text of at most 22
-pub filled-whole : (text : List ℕ) (k : ℕ) (out : List ℕ) (n : ℕ) (after : List ℕ) → length text ≤ 22 → length out ≡ 23 → Puts (filledInRoom (length out) text k) 0 out n after → take n after ≡ filledLine text k
-filled-whole text k out n after l h p =
-    printed-whole (filledLine text k) out n after (rw (le-ltb (length out) (length text) (omega arith)) at p)
-    (omega (arith, fill-length text k, length-append (fill text k) (10 ∷ [])))
+-- so an output has at most 230,030
+output-at-most : (s : List ℕ) (r : Listed) → lineListing s 10000 ≡ r → length (answerPrinted r (wetText s) (lineFillings s)) ≤ 230030
+unfolding answerPrinted
+output-at-most s (Count n) e =
+    let w = line-count (has 10 s) (has 32 (lineOf s)) (headOf s) (tailOf s) 10000 n e in
+    let m = lines-at-most (wetText s) (lineFillings s) (w .0) in
+    both-at-most (firstLine (Count n)) (filledLines (wetText s) (lineFillings s)) 30 230000 (first-at-most (Count n)) (omega (arith, w .1 .0, w .1 .1))
+output-at-most s (Refused r) e = let h = first-at-most (Refused r) in omega arith
+
+-- and a room of as many holds the whole output of every input: the bytes that `put_listing` puts there are it
+pub listing-whole :
+    (s head₀ tail₀ numbers out : List ℕ) (k : Kept) (r : ℕ) (after : List ℕ) → length head₀ ≡ 22 → length tail₀ ≡ 23 → length numbers ≡ 10000 → length out ≡ 230030 →
+    k ≡ feed (keptOf starting head₀ tail₀) s →
+    Puts (answerPrinted (keptListing (k .seen) (k .head) (k .tail) (length numbers)) (keptText (k .seen) (k .head) (k .tail)) (keptFillings (k .seen) (k .head) (k .tail))) 0 out r after →
+    take r after ≡ listingPrinted s
+listing-whole s head₀ tail₀ numbers out k r after g h m o e p =
+    let w : AnsweredAs s k = rw e (line-answered s head₀ tail₀ g h) in
+    let q : Puts (listingPrinted s) 0 out r after = rw (← (w .output)) (rw m at p) in
+    printed-whole (listingPrinted s) out r after q (omega (arith, output-at-most s (lineListing s 10000) refl))

@@ -1,6 +1,6 @@
 -- Document 01, "Wet slips": "The listing program reads one line, an IBAN or a model, one space and a reference, and writes the count and the
 -- filled texts, or `refused` and the number (the first space divides; no LF is 1)."
-use Rattle.refusal.specs.Basics.{ℕ, cond, List, [], _∷_, _++_, ltb, length}
+use Rattle.refusal.specs.Basics.{ℕ, cond, List, [], _∷_, _++_}
 use Rattle.refusal.specs.Refusal.{none, refusalNumber}
 use Rattle.refusal.specs.declared.Refusal.the-variants.{Size}
 use Rattle.line.specs.Line.{has, lineOf, headOf, tailOf}
@@ -59,10 +59,3 @@ answerPrinted (Refused r) text ks = firstLine (Refused r)
 -- the whole output; there is room for the ten thousand numbers of four digits
 abbrev pub listingPrinted : List ℕ → List ℕ
 listingPrinted s = answerPrinted (lineListing s 10000) (wetText s) (lineFillings s)
-
--- ---------------------------------------------------------------------------
--- Lent room
-
--- a filled text needs the room of the text: nothing is put into less
-abbrev pub filledInRoom : ℕ → List ℕ → ℕ → List ℕ
-filledInRoom room text k = cond (ltb room (length text)) [] (filledLine text k)
