@@ -67,7 +67,7 @@ fn read_line(head: &mut [u8], tail: &mut [u8]) -> Progress {
 }
 
 // Lends the room for ten thousand numbers, and for their lines of 23 bytes behind a first line of 30.
-fn respond(seen: Seen, head: &[u8], tail: &[u8]) {
+fn respond<'a>(seen: Seen, head: &'a [u8], tail: &'a [u8]) {
     let mut numbers = [0u16; 10000];
     let mut out = [0u8; 230030];
     write_listing(seen, head, tail, &mut numbers, &mut out);
