@@ -80,6 +80,7 @@ pub counted-front :
     after ≡ leftByListing r (keptFillings seen head tail) out →
     r ≡ Count n →
     (length (keptText seen head tail) ≤ 22) × ((n ≤ length after) × (take n after ≡ keptFillings seen head tail))
+unfolding keptListing keptFillings keptText
 counted-front seen head tail out r n after p q e =
     let w = line-count (seen .ended) (seen .spaced) (take (seen .head) head) (take (seen .tail) tail) (length out) n (sym p ∙ e) in
     let ks = keptFillings seen head tail in

@@ -105,9 +105,11 @@ pub record AnsweredAs (s : List ℕ) (k : Kept) : Type 0 where
 
 module _ (s : List ℕ) (k : Kept) (z : LineKept 22 23 s k) where
   same-answer : (room : ℕ) → keptListing (k .seen) (k .head) (k .tail) room ≡ lineListing s room
+  unfolding keptListing lineListing
   same-answer room = rw (z .head, z .tail, z .spaced, z .ended) (sides-kept (has 10 s) (has 32 (lineOf s)) (headOf s) (tailOf s) room)
 
   same-text : (room n : ℕ) → lineListing s room ≡ Count n → (keptFillings (k .seen) (k .head) (k .tail) ≡ lineFillings s) × (keptText (k .seen) (k .head) (k .tail) ≡ wetText s)
+  unfolding lineListing keptFillings lineFillings keptText wetText
   same-text room n e =
       rw (z .head, z .tail, z .spaced)
       (text-kept (has 32 (lineOf s)) (headOf s) (tailOf s) (line-count (has 10 s) (has 32 (lineOf s)) (headOf s) (tailOf s) room n e .0))
@@ -152,7 +154,7 @@ lines-at-most text (k ∷ ks) h =
 
 -- so an output has at most 230,030
 output-at-most : (s : List ℕ) (r : Listed) → lineListing s 10000 ≡ r → length (answerPrinted r (wetText s) (lineFillings s)) ≤ 230030
-unfolding answerPrinted
+unfolding lineListing lineFillings wetText answerPrinted
 output-at-most s (Count n) e =
     let w = line-count (has 10 s) (has 32 (lineOf s)) (headOf s) (tailOf s) 10000 n e in
     let m = lines-at-most (wetText s) (lineFillings s) (w .0) in

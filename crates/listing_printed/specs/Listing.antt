@@ -16,18 +16,18 @@ use Rattle.printed.specs.Printed.{decimal, counted, refusedWord}
 -- What is answered to an input
 
 -- "one line, an IBAN or a model, one space and a reference"; "the first space divides; no LF is 1"
-abbrev pub lineListing : List ℕ → ℕ → Listed
+unfoldable pub lineListing : List ℕ → ℕ → Listed
 lineListing s room =
     cond (has 10 s)
     (cond (has 32 (lineOf s)) (referenceListing (headOf s) (tailOf s) room) (ibanListing (headOf s) room))
     (Refused (Size none))
 
 -- the numbers of its fillings
-abbrev pub lineFillings : List ℕ → List ℕ
+unfoldable pub lineFillings : List ℕ → List ℕ
 lineFillings s = cond (has 32 (lineOf s)) (referenceFillings (headOf s) (tailOf s)) (fillings isIban (headOf s))
 
 -- the text that they fill: the reference, or the IBAN
-abbrev pub wetText : List ℕ → List ℕ
+unfoldable pub wetText : List ℕ → List ℕ
 wetText s = cond (has 32 (lineOf s)) (tailOf s) (headOf s)
 
 -- ---------------------------------------------------------------------------

@@ -11,17 +11,17 @@ use Rattle.fillings.specs.declared.Listed.the-variants.{Refused}
 use Rattle.wet.specs.Wet.{ibanListing, referenceListing, referenceFillings}
 
 -- what is answered
-abbrev pub keptListing : Seen → List ℕ → List ℕ → ℕ → Listed
+unfoldable pub keptListing : Seen → List ℕ → List ℕ → ℕ → Listed
 keptListing seen head tail room =
     cond (seen .ended)
     (cond (seen .spaced) (referenceListing (take (seen .head) head) (take (seen .tail) tail) room) (ibanListing (take (seen .head) head) room))
     (Refused (Size none))
 
 -- the numbers of its fillings
-abbrev pub keptFillings : Seen → List ℕ → List ℕ → List ℕ
+unfoldable pub keptFillings : Seen → List ℕ → List ℕ → List ℕ
 keptFillings seen head tail =
     cond (seen .spaced) (referenceFillings (take (seen .head) head) (take (seen .tail) tail)) (fillings isIban (take (seen .head) head))
 
 -- the text that they fill
-abbrev pub keptText : Seen → List ℕ → List ℕ → List ℕ
+unfoldable pub keptText : Seen → List ℕ → List ℕ → List ℕ
 keptText seen head tail = cond (seen .spaced) (take (seen .tail) tail) (take (seen .head) head)

@@ -65,8 +65,8 @@ fn put_filled(text: &[u8], number: u16, out: &mut [u8], at: usize) -> usize
     let n = text.len();
     let mut t = [0u8; 22];
     filling::filled(text, number, &mut t);
-    let next = printed::put(out, at, &t[..n]);
-    printed::put(out, next, b"\n")
+    let end = printed::put(out, at, &t[..n]);
+    printed::put(out, end, b"\n")
 }
 
 // The text filled by each of the first n numbers, a line each.
