@@ -1,2 +1,0 @@
--- What is proved of the listing program's answer.
-pub mod Theorems

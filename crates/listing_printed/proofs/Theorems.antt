@@ -1,0 +1,173 @@
+-- What the listing program prints of a line of any length: the first 22 bytes before its first space and the first 23 after it (the crate
+-- `line` keeps just these) are answered as the whole line is, and fill to the same texts where the answer is a count; and the room that the
+-- program lends holds its whole output. Assumes nothing.
+use mathlib.Core.Path.{_≡_, refl, sym, ap, _∙_}
+use mathlib.Core.Bool.{Bool, true, false, cond}
+use mathlib.Core.List.{List, [], _∷_, _++_, append-nil, append-assoc}
+use Prim.Native.Nat.{ℕ, _*_, _≤_, _<_}
+use native.Mathlib.Omega.{arith}
+use lib.Dec.{eqb, leb, ltb}
+use lib.ListN.{length, getD, take, drop, length-take, length-append}
+use lib.Seq.{take-all, take-at}
+use borrow.Author.Tests.{ne-eqb, eqb-true, leb-true, leb-false, lt-leb, le-ltb, ltb-false}
+use Rattle.refusal.specs.Refusal.{none, refusalNumber}
+use Rattle.refusal.specs.declared.Refusal.{Refusal}
+use Rattle.refusal.specs.declared.Refusal.the-variants.{Size, Room}
+use Rattle.classes.specs.declared.Class.the-variants.{WetReference}
+use Rattle.text.specs.Bytes.{allOf, marks}
+use Rattle.text.specs.declared.Found.{Found}
+use Rattle.text.specs.declared.Found.the-variants.{At, Nothing}
+use Rattle.line.specs.declared.Seen.{Seen}
+use Rattle.line.specs.Line.{has, lineOf, headOf, tailOf}
+use Rattle.line.specs.Mirror.{Kept, starting, keptOf, feed}
+use Rattle.line.proofs.Theorems.{LineKept, line-is-kept}
+use Rattle.account.specs.Answers.{isIban}
+use Rattle.models.specs.Models.{modelOf}
+use Rattle.model_text.specs.Texts.{modelNumber}
+use Rattle.reference.specs.Answers.{obeys}
+use Rattle.filling.specs.Filling.{fill}
+use Rattle.filling.proofs.Theorems.{fill-length}
+use Rattle.fillings.specs.Fillings.{fillings}
+use Rattle.fillings.specs.Answers.{listedInRoom, leftByListing}
+use Rattle.fillings.specs.declared.Listed.{Listed}
+use Rattle.fillings.specs.declared.Listed.the-variants.{Count, Refused}
+use Rattle.wet.specs.Wet.{wetIban, ibanListing, numberListing, referenceListing, numberFillings, referenceFillings}
+use Rattle.printed.specs.Printed.{decimal, counted, refusedWord, Puts}
+use Rattle.printed.proofs.Theorems.{printed-whole, decimal-at-most, both-at-most, counted-at-most}
+use Rattle.listing_printed.specs.Listing.{lineListing, lineFillings, wetText, fillingsWord, firstLine, filledLine, filledLines, answerPrinted, listingPrinted}
+use Rattle.listing_printed.specs.Mirror.{keptListing, keptFillings, keptText}
+use Rattle.listing_printed.proofs.Laws.{line-count}
+
+-- a test decided, one way or the other
+cases : {P : Type 0} (b : Bool) → (b ≡ true → P) → (b ≡ false → P) → P
+cases true f g = f refl
+cases false f g = g refl
+
+-- ---------------------------------------------------------------------------
+-- The two sides of a line, cut
+
+-- a cut text is the text, or is as long as the cut
+module _ (n : ℕ) (s : List ℕ) where
+  kept-whole : length s ≤ n → take n s ≡ s
+  kept-whole h = take-all n s h
+
+  cut-length : n < length s → length (take n s) ≡ n
+  cut-length h = length-take n s ∙ omega arith
+
+-- an IBAN longer than 22 bytes is refused for its size, and so are its first 22
+pub iban-kept : (s : List ℕ) (room : ℕ) → ibanListing (take 22 s) room ≡ ibanListing s room
+iban-kept s room =
+    cases (leb (length s) 22)
+    (λ e. ap (λ (t : List ℕ). ibanListing t room) (kept-whole 22 s (leb-true (length s) 22 e)))
+    (λ e. let h : 22 < length s = leb-false (length s) 22 e in
+    rw (ne-eqb (length (take 22 s)) 21 (λ (z : length (take 22 s) ≡ 21). omega (arith, cut-length 22 s h)), ne-eqb (length s) 21 (λ (z : length s ≡ 21). omega arith)))
+
+-- a model's text longer than 22 bytes is no model's, and so are its first 22
+model-kept : (m : List ℕ) → modelNumber (take 22 m) ≡ modelNumber m
+model-kept m =
+    cases (leb (length m) 22)
+    (λ e. ap modelNumber (kept-whole 22 m (leb-true (length m) 22 e)))
+    (λ e. let h : 22 < length m = leb-false (length m) 22 e in
+    rw (ne-eqb (length (take 22 m)) 4 (λ (z : length (take 22 m) ≡ 4). omega (arith, cut-length 22 m h)), ne-eqb (length m) 4 (λ (z : length m ≡ 4). omega arith)))
+
+-- a reference longer than 23 bytes is refused for its size, and so are its first 23
+pub reference-kept : (m s : List ℕ) (room : ℕ) → referenceListing (take 22 m) (take 23 s) room ≡ referenceListing m s room
+reference-kept m s room =
+    rw (model-kept m)
+    (cases (leb (length s) 23)
+    (λ e. ap (λ (t : List ℕ). referenceListing m t room) (kept-whole 23 s (leb-true (length s) 23 e)))
+    (λ e. let h : 23 < length s = leb-false (length s) 23 e in
+    rw (lt-leb (length (take 23 s)) 22 (omega (arith, cut-length 23 s h)), lt-leb (length s) 22 (omega arith))))
+
+-- ---------------------------------------------------------------------------
+-- A line as it was kept
+
+-- its two sides, cut, have the line's answer
+sides-kept : (ended spaced : Bool) (h t : List ℕ) (room : ℕ) →
+    cond ended (cond spaced (referenceListing (take 22 h) (take 23 t) room) (ibanListing (take 22 h) room)) (Refused (Size none)) ≡
+    cond ended (cond spaced (referenceListing h t room) (ibanListing h room)) (Refused (Size none))
+sides-kept true true h t room = reference-kept h t room
+sides-kept true false h t room = iban-kept h room
+sides-kept false spaced h t room = refl
+
+-- the text that is filled is not cut
+text-kept : (spaced : Bool) (h t : List ℕ) → length (cond spaced t h) ≤ 22 →
+    (cond spaced (referenceFillings (take 22 h) (take 23 t)) (fillings isIban (take 22 h)) ≡ cond spaced (referenceFillings h t) (fillings isIban h)) × (cond spaced (take 23 t) (take 22 h) ≡ cond spaced t h)
+text-kept true h t l = (rw (model-kept h, kept-whole 23 t (omega arith)), kept-whole 23 t (omega arith))
+text-kept false h t l = (rw (kept-whole 22 h l), kept-whole 22 h l)
+
+-- k is answered as s is; where that is a count, its numbers and its text are those of s, and so it prints what s does
+pub record AnsweredAs (s : List ℕ) (k : Kept) : Type 0 where
+  pub answer : (room : ℕ) → keptListing (k .seen) (k .head) (k .tail) room ≡ lineListing s room
+  pub numbers : (room n : ℕ) → lineListing s room ≡ Count n → keptFillings (k .seen) (k .head) (k .tail) ≡ lineFillings s
+  pub text : (room n : ℕ) → lineListing s room ≡ Count n → keptText (k .seen) (k .head) (k .tail) ≡ wetText s
+  pub output : answerPrinted (keptListing (k .seen) (k .head) (k .tail) 10000) (keptText (k .seen) (k .head) (k .tail)) (keptFillings (k .seen) (k .head) (k .tail)) ≡ listingPrinted s
+
+module _ (s : List ℕ) (k : Kept) (z : LineKept 22 23 s k) where
+  same-answer : (room : ℕ) → keptListing (k .seen) (k .head) (k .tail) room ≡ lineListing s room
+  unfolding keptListing lineListing
+  same-answer room = rw (z .head, z .tail, z .spaced, z .ended) (sides-kept (has 10 s) (has 32 (lineOf s)) (headOf s) (tailOf s) room)
+
+  same-text : (room n : ℕ) → lineListing s room ≡ Count n → (keptFillings (k .seen) (k .head) (k .tail) ≡ lineFillings s) × (keptText (k .seen) (k .head) (k .tail) ≡ wetText s)
+  unfolding lineListing keptFillings lineFillings keptText wetText
+  same-text room n e =
+      rw (z .head, z .tail, z .spaced)
+      (text-kept (has 32 (lineOf s)) (headOf s) (tailOf s) (line-count (has 10 s) (has 32 (lineOf s)) (headOf s) (tailOf s) room n e .0))
+
+  same-output : (r : Listed) → lineListing s 10000 ≡ r → answerPrinted r (keptText (k .seen) (k .head) (k .tail)) (keptFillings (k .seen) (k .head) (k .tail)) ≡ answerPrinted r (wetText s) (lineFillings s)
+  unfolding answerPrinted
+  same-output (Count n) e = let w = same-text 10000 n e in rw (w .0, w .1)
+  same-output (Refused r) e = refl
+
+-- every input is answered by what is kept of it, over any two arrays of 22 and of 23 bytes
+pub line-answered : (s head₀ tail₀ : List ℕ) → length head₀ ≡ 22 → length tail₀ ≡ 23 → AnsweredAs s (feed (keptOf starting head₀ tail₀) s)
+line-answered s head₀ tail₀ g h =
+    let k = feed (keptOf starting head₀ tail₀) s in
+    let z = line-is-kept 22 23 s head₀ tail₀ g h in
+    record {
+      answer = same-answer s k z;
+      numbers = λ room n e. same-text s k z room n e .0;
+      text = λ room n e. same-text s k z room n e .1;
+      output =
+        ap (λ (r : Listed). answerPrinted r (keptText (k .seen) (k .head) (k .tail)) (keptFillings (k .seen) (k .head) (k .tail))) (same-answer s k z 10000) ∙
+        same-output s k z (lineListing s 10000) refl;
+    }
+
+-- ---------------------------------------------------------------------------
+-- The room that the program lends
+
+-- a first line has at most 30 bytes
+first-at-most : (r : Listed) → length (firstLine r) ≤ 30
+unfolding firstLine
+first-at-most (Count n) = both-at-most (decimal n) fillingsWord 20 10 (decimal-at-most n) (omega arith)
+first-at-most (Refused r) = both-at-most (counted refusedWord (refusalNumber r)) (10 ∷ []) 28 2 (counted-at-most refusedWord (refusalNumber r)) (omega arith)
+
+-- a filled line at most 23
+lines-at-most : (text ks : List ℕ) → length text ≤ 22 → length (filledLines text ks) ≤ length ks * 23
+unfolding filledLines
+lines-at-most text [] h = omega arith
+lines-at-most text (k ∷ ks) h =
+    let m = lines-at-most text ks h in
+    let l : length (filledLine text k) ≤ 23 = both-at-most (fill text k) (10 ∷ []) 22 1 (omega (arith, fill-length text k)) (omega arith) in
+    let b = both-at-most (filledLine text k) (filledLines text ks) 23 (length ks * 23) l m in
+    omega arith
+
+-- so an output has at most 230,030
+output-at-most : (s : List ℕ) (r : Listed) → lineListing s 10000 ≡ r → length (answerPrinted r (wetText s) (lineFillings s)) ≤ 230030
+unfolding lineListing lineFillings wetText answerPrinted
+output-at-most s (Count n) e =
+    let w = line-count (has 10 s) (has 32 (lineOf s)) (headOf s) (tailOf s) 10000 n e in
+    let m = lines-at-most (wetText s) (lineFillings s) (w .0) in
+    both-at-most (firstLine (Count n)) (filledLines (wetText s) (lineFillings s)) 30 230000 (first-at-most (Count n)) (omega (arith, w .1 .0, w .1 .1))
+output-at-most s (Refused r) e = let h = first-at-most (Refused r) in omega arith
+
+-- and a room of as many holds the whole output of every input: the bytes that `put_listing` puts there are it
+pub listing-whole :
+    (s head₀ tail₀ numbers out : List ℕ) (k : Kept) (r : ℕ) (after : List ℕ) → length head₀ ≡ 22 → length tail₀ ≡ 23 → length numbers ≡ 10000 → length out ≡ 230030 →
+    k ≡ feed (keptOf starting head₀ tail₀) s →
+    Puts (answerPrinted (keptListing (k .seen) (k .head) (k .tail) (length numbers)) (keptText (k .seen) (k .head) (k .tail)) (keptFillings (k .seen) (k .head) (k .tail))) 0 out r after →
+    take r after ≡ listingPrinted s
+listing-whole s head₀ tail₀ numbers out k r after g h m o e p =
+    let w : AnsweredAs s k = rw e (line-answered s head₀ tail₀ g h) in
+    let q : Puts (listingPrinted s) 0 out r after = rw (← (w .output)) (rw m at p) in
+    printed-whole (listingPrinted s) out r after q (omega (arith, output-at-most s (lineListing s 10000) refl))

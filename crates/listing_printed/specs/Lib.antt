@@ -1,0 +1,3 @@
+-- The definitions of the crate `listing_printed`.
+pub mod Listing
+pub mod Mirror
