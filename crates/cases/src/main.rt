@@ -18,7 +18,7 @@ use question::put_sizes;
 use question::size_of;
 use question::tell;
 use question::tell_value;
-use words::front;
+use text::front;
 use words::say;
 
 fn main() {
@@ -61,7 +61,9 @@ fn respond(verb: usize, question: &[u8]) {
         7..=8 => list(verb, question),
         9 => read(behind(question, 1)),
         10 => write(question),
-        _ => say(b"unknown"),
+        _ => {
+            say(b"unknown");
+        }
     }
 }
 

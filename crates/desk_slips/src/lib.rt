@@ -3,7 +3,6 @@
 // Each call is thin: it calls the proved one and tells its answer by the crate boundary. include/lanecockle.h declares it
 // for C. No call has a `requires`: whatever numbers and bytes arrive get an answer.
 ghost use mathlib.Core.Path.{_≡_};
-ghost use lib.ListN.{take};
 ghost use Rattle.slip.specs.Slip.{slipAnswer};
 ghost use Rattle.slip_handed.specs.Handed.{fieldPart, slipCents};
 ghost use Rattle.boundary.specs.Told.{toldOf};
@@ -36,21 +35,11 @@ fn tell_written(w: Written) -> Valued
     }
 }
 
-// The front of a text, as far as it goes.
-fn front(s: &[u8], n: usize) -> &[u8]
-    ensures { λ r. ⌜ now r ≡ take n (now (s .entry)) ⌝ }
-{
-    if s.len() < n {
-        return s;
-    }
-    &s[0..n]
-}
-
 // A field of a text of fields one behind the other: what `sizes` gives it, as far as the text goes.
 fn given<'a>(text: &'a [u8], sizes: &[usize], k: usize) -> &'a [u8]
     ensures { λ r. ⌜ now r ≡ givenOf (now (sizes .entry)) (now (text .entry)) k ⌝ }
 {
-    front(
+    text::front(
         lent_fields::text_behind(text, sizes, k),
         lent_fields::size_at(sizes, k),
     )

@@ -1,11 +1,12 @@
 // The listing program of document 01, "Wet slips": reads one line, an IBAN or a model, one space and a reference, and
 // writes the count and the filled texts, or `refused` and the number.
 //
-// A line of any length is kept by `line` as far as a listing can tell it from another, and `listing_printed` puts into
-// lent room what is written of it: its theorem `listing-whole` says that this is the whole line's output.
+// A line of any length is kept by `line` as far as a listing can tell it from another. `listing_printed` puts what is written
+// of it into lent room, line by line; its theorems say that this is `listingPrinted` of the whole input.
+use fillings::Listed;
 use libc::STDIN_FILENO;
 use line::Seen;
-use words::front;
+use text::front;
 
 // A line as far as it was read: whether there may be more of it, and whether a read failed.
 struct Progress {
@@ -66,21 +67,48 @@ fn read_line(head: &mut [u8], tail: &mut [u8]) -> Progress {
     }
 }
 
-// Lends the room for ten thousand numbers, and for their lines of 23 bytes behind a first line of 30.
+// Lends the room for ten thousand numbers.
 fn respond<'a>(seen: Seen, head: &'a [u8], tail: &'a [u8]) {
     let mut numbers = [0u16; 10000];
-    let mut out = [0u8; 230030];
-    write_listing(seen, head, tail, &mut numbers, &mut out);
+    write_listing(seen, head, tail, &mut numbers);
 }
 
 // Writes what is printed of the line that was kept.
-fn write_listing<'a>(
-    seen: Seen,
-    head: &'a [u8],
-    tail: &'a [u8],
-    numbers: &mut [u16],
-    out: &mut [u8],
-) {
-    let n = listing_printed::put_listing(seen, head, tail, numbers, out);
-    words::publish(front(out, n));
+fn write_listing<'a>(seen: Seen, head: &'a [u8], tail: &'a [u8], numbers: &mut [u16]) {
+    let r = listing_printed::list(seen, head, tail, numbers);
+    if !write_first(r) {
+        return;
+    }
+    match r {
+        Listed::Count(n) => write_lines(listing_printed::text(seen, head, tail), numbers, n),
+        Listed::Refused(_) => {}
+    }
+}
+
+// Writes the first line, at most 30 bytes; whether it was written.
+fn write_first(r: Listed) -> bool {
+    let mut out = [0u8; 30];
+    let n = listing_printed::put_first(r, &mut out);
+    words::publish(front(&out, n))
+}
+
+// Writes the text filled by each of the first n numbers, as long as writing goes well.
+fn write_lines(text: &[u8], numbers: &[u16], n: usize) {
+    let mut i = 0;
+    while i < n {
+        if numbers.len() <= i {
+            return;
+        }
+        if !write_line(text, numbers[i]) {
+            return;
+        }
+        i += 1;
+    }
+}
+
+// Writes the text filled by a number, a line of at most 23 bytes; whether it was written.
+fn write_line(text: &[u8], number: u16) -> bool {
+    let mut out = [0u8; 23];
+    let n = listing_printed::put_filled(text, number, &mut out);
+    words::publish(front(&out, n))
 }

@@ -1,6 +1,6 @@
 -- What the listing program prints of a line of any length: the first 22 bytes before its first space and the first 23 after it (the crate
--- `line` keeps just these) are answered as the whole line is, and fill to the same texts where the answer is a count; and the room that the
--- program lends holds its whole output. Assumes nothing.
+-- `line` keeps just these) are answered as the whole line is, and fill to the same texts where the answer is a count; and the rooms
+-- that the program lends hold its lines. Assumes nothing.
 use mathlib.Core.Path.{_≡_, refl, sym, ap, _∙_}
 use mathlib.Core.Bool.{Bool, true, false, cond}
 use mathlib.Core.List.{List, [], _∷_, _++_, append-nil, append-assoc}
@@ -34,7 +34,7 @@ use Rattle.fillings.specs.declared.Listed.the-variants.{Count, Refused}
 use Rattle.wet.specs.Wet.{wetIban, ibanListing, numberListing, referenceListing, numberFillings, referenceFillings}
 use Rattle.printed.specs.Printed.{decimal, counted, refusedWord, Puts}
 use Rattle.printed.proofs.Theorems.{printed-whole, decimal-at-most, both-at-most, counted-at-most}
-use Rattle.listing_printed.specs.Listing.{lineListing, lineFillings, wetText, fillingsWord, firstLine, filledLine, filledLines, answerPrinted, listingPrinted}
+use Rattle.listing_printed.specs.Listing.{lineListing, lineFillings, wetText, fillingsWord, firstLine, filledLine, filledLines, lineInRoom, answerPrinted, listingPrinted}
 use Rattle.listing_printed.specs.Mirror.{keptListing, keptFillings, keptText}
 use Rattle.listing_printed.proofs.Laws.{line-count}
 
@@ -134,7 +134,7 @@ line-answered s head₀ tail₀ g h =
     }
 
 -- ---------------------------------------------------------------------------
--- The room that the program lends
+-- The rooms that the program lends
 
 -- a first line has at most 30 bytes
 first-at-most : (r : Listed) → length (firstLine r) ≤ 30
@@ -142,32 +142,25 @@ unfolding firstLine
 first-at-most (Count n) = both-at-most (decimal n) fillingsWord 20 10 (decimal-at-most n) (omega arith)
 first-at-most (Refused r) = both-at-most (counted refusedWord (refusalNumber r)) (10 ∷ []) 28 2 (counted-at-most refusedWord (refusalNumber r)) (omega arith)
 
--- a filled line at most 23
-lines-at-most : (text ks : List ℕ) → length text ≤ 22 → length (filledLines text ks) ≤ length ks * 23
-unfolding filledLines
-lines-at-most text [] h = omega arith
-lines-at-most text (k ∷ ks) h =
-    let m = lines-at-most text ks h in
+-- so it stands whole in a room of 30
+pub first-printed-whole : (r : Listed) (out : List ℕ) (n : ℕ) (after : List ℕ) → Puts (firstLine r) 0 out n after → 30 ≤ length out → take n after ≡ firstLine r
+first-printed-whole r out n after p h = printed-whole (firstLine r) out n after p (omega (arith, first-at-most r))
+
+-- a text that is listed has at most 22 bytes
+pub wet-at-most : (s : List ℕ) (room n : ℕ) → lineListing s room ≡ Count n → length (wetText s) ≤ 22
+unfolding lineListing wetText
+wet-at-most s room n e = line-count (has 10 s) (has 32 (lineOf s)) (headOf s) (tailOf s) room n e .0
+
+-- so its line stands whole in a room of 23
+pub filled-printed-whole :
+    (text : List ℕ) (k : ℕ) (out : List ℕ) (n : ℕ) (after : List ℕ) → length text ≤ 22 → Puts (lineInRoom text k (length out)) 0 out n after → 23 ≤ length out
+    → take n after ≡ filledLine text k
+filled-printed-whole text k out n after g p h =
     let l : length (filledLine text k) ≤ 23 = both-at-most (fill text k) (10 ∷ []) 22 1 (omega (arith, fill-length text k)) (omega arith) in
-    let b = both-at-most (filledLine text k) (filledLines text ks) 23 (length ks * 23) l m in
-    omega arith
+    printed-whole (filledLine text k) out n after (rw (le-ltb (length out) (length text) (omega arith)) at p) (omega arith)
 
--- so an output has at most 230,030
-output-at-most : (s : List ℕ) (r : Listed) → lineListing s 10000 ≡ r → length (answerPrinted r (wetText s) (lineFillings s)) ≤ 230030
-unfolding lineListing lineFillings wetText answerPrinted
-output-at-most s (Count n) e =
-    let w = line-count (has 10 s) (has 32 (lineOf s)) (headOf s) (tailOf s) 10000 n e in
-    let m = lines-at-most (wetText s) (lineFillings s) (w .0) in
-    both-at-most (firstLine (Count n)) (filledLines (wetText s) (lineFillings s)) 30 230000 (first-at-most (Count n)) (omega (arith, w .1 .0, w .1 .1))
-output-at-most s (Refused r) e = let h = first-at-most (Refused r) in omega arith
-
--- and a room of as many holds the whole output of every input: the bytes that `put_listing` puts there are it
-pub listing-whole :
-    (s head₀ tail₀ numbers out : List ℕ) (k : Kept) (r : ℕ) (after : List ℕ) → length head₀ ≡ 22 → length tail₀ ≡ 23 → length numbers ≡ 10000 → length out ≡ 230030 →
-    k ≡ feed (keptOf starting head₀ tail₀) s →
-    Puts (answerPrinted (keptListing (k .seen) (k .head) (k .tail) (length numbers)) (keptText (k .seen) (k .head) (k .tail)) (keptFillings (k .seen) (k .head) (k .tail))) 0 out r after →
-    take r after ≡ listingPrinted s
-listing-whole s head₀ tail₀ numbers out k r after g h m o e p =
-    let w : AnsweredAs s k = rw e (line-answered s head₀ tail₀ g h) in
-    let q : Puts (listingPrinted s) 0 out r after = rw (← (w .output)) (rw m at p) in
-    printed-whole (listingPrinted s) out r after q (omega (arith, output-at-most s (lineListing s 10000) refl))
+-- and one behind the other, these lines are the output
+pub lines-append : (text ks ls : List ℕ) → filledLines text (ks ++ ls) ≡ filledLines text ks ++ filledLines text ls
+unfolding filledLines
+lines-append text [] ls = refl
+lines-append text (k ∷ ks) ls = rw (lines-append text ks ls) (sym (append-assoc (filledLine text k) (filledLines text ks) (filledLines text ls)))

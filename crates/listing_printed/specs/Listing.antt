@@ -1,6 +1,6 @@
 -- Document 01, "Wet slips": "The listing program reads one line, an IBAN or a model, one space and a reference, and writes the count and the
 -- filled texts, or `refused` and the number (the first space divides; no LF is 1)."
-use Rattle.refusal.specs.Basics.{ℕ, cond, List, [], _∷_, _++_}
+use Rattle.refusal.specs.Basics.{ℕ, cond, List, [], _∷_, _++_, ltb, length}
 use Rattle.refusal.specs.Refusal.{none, refusalNumber}
 use Rattle.refusal.specs.declared.Refusal.the-variants.{Size}
 use Rattle.line.specs.Line.{has, lineOf, headOf, tailOf}
@@ -45,6 +45,10 @@ firstLine (Refused r) = counted refusedWord (refusalNumber r) ++ (10 ∷ [])
 -- a filled text, and a line feed
 abbrev pub filledLine : List ℕ → ℕ → List ℕ
 filledLine text k = fill text k ++ (10 ∷ [])
+
+-- what is put of it: nothing where there is no room for the text
+abbrev pub lineInRoom : List ℕ → ℕ → ℕ → List ℕ
+lineInRoom text k room = cond (ltb room (length text)) [] (filledLine text k)
 
 -- "and the filled texts", a line for each number
 unfoldable pub filledLines : List ℕ → List ℕ → List ℕ

@@ -12,7 +12,7 @@ ghost use Rattle.text.specs.Split.{split, joined};
 ghost use Rattle.question.specs.Question.{pieceAt, fieldAt, behindBars, capped, numberAsked, placeAmong, lineByte, lined, lengthsOf};
 use boundary::Told;
 use boundary::Valued;
-use words::front;
+use text::front;
 use words::say;
 use words::say_number;
 

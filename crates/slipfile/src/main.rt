@@ -3,7 +3,7 @@
 //
 // What is written is `slipPrinted` of what was read (slip_printed/specs/SlipPrinted.antt); where a read fails it is nothing,
 // and standard error has a line.
-use words::front;
+use text::front;
 
 fn main() {
     // One byte more than the longest slip: a longer input is refused for its size all the same.

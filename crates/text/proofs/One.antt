@@ -3,6 +3,9 @@ use mathlib.Core.Path.{sym, _∙_}
 use Rattle.refusal.specs.One.{One, OneSeen}
 use Rattle.text.proofs as here
 
+pub front-one : OneSeen _ here.front.Kinds.ps here.front.Kinds.r (λ κs z. z .now) here.front.Reads.Post
+front-one κs a z z′ w w′ p q = p ∙ sym q
+
 pub two-digits-one : One _ here.two_digits.Kinds.ps here.two_digits.Kinds.r here.two_digits.Reads.Post
 two-digits-one κs a z z′ w w′ p q = p ∙ sym q
 

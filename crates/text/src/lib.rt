@@ -6,6 +6,7 @@ ghost use mathlib.Core.Path.{_≡_};
 ghost use mathlib.Core.Bool.{_&&_};
 ghost use Prim.Native.Nat.{ℕ};
 ghost use lib.Dec.{leb};
+ghost use lib.ListN.{take};
 ghost use Rattle.text.specs.Digits.{twoDigits};
 ghost use Rattle.text.specs.Bytes.{firstBad, bytesVerdict, allOf, trimmed, countOf, same};
 ghost use Rattle.classes.specs.Classes.{permits};
@@ -22,6 +23,16 @@ pub enum Found {
 pub struct Part {
     pub start: usize,
     pub length: usize,
+}
+
+// The first n bytes of a text, as far as it goes.
+pub fn front(s: &[u8], n: usize) -> &[u8]
+    ensures { λ r. ⌜ now r ≡ take n (now (s .entry)) ⌝ }
+{
+    if s.len() < n {
+        return s;
+    }
+    &s[0..n]
 }
 
 // The number that two bytes write, where both are digits.

@@ -17,7 +17,7 @@ use question::put_fields;
 use question::put_sizes;
 use question::size_of;
 use question::tell;
-use words::front;
+use text::front;
 use words::say;
 
 fn main() {
@@ -62,7 +62,9 @@ fn respond(verb: usize, question: &[u8], memory: &mut [u8], kept: &mut [u8]) {
         4..=5 => keep(verb, question, memory, kept),
         6..=7 => show(verb, question, memory),
         8..=10 => {}
-        _ => say(b"unknown"),
+        _ => {
+            say(b"unknown");
+        }
     }
 }
 

@@ -4,7 +4,7 @@
 // within a field 3 with its byte counted within the place, 5, 6, 11. An IBAN goes by `account::iban_passes` and
 // `account::check_iban`: W7 changes what is behind those names. What only a 309 holds is the crate `order_contents`.
 ghost use mathlib.Core.Path.{_≡_};
-ghost use lib.ListN.{take, drop};
+ghost use lib.ListN.{drop};
 ghost use Rattle.verdict.specs.Verdict.{onlyIf};
 ghost use Rattle.wage_contents.specs.Contents.{tested, amongVerdict, oibPlaceVerdict, employerVerdict, dateVerdict, ibanPlaceVerdict, currencyVerdict};
 use classes::Class;
@@ -80,17 +80,7 @@ pub fn judge_date(first: u64, last: u64, f: &[u8]) -> usize
 // ---------------------------------------------------------------------------
 // IBAN, currency
 
-// The first 21 bytes of a place, or all where there are fewer.
-fn front(f: &[u8]) -> &[u8]
-    ensures { λ r. ⌜ now r ≡ take 21 (now (f .entry)) ⌝ }
-{
-    if f.len() < 21 {
-        return &f[0..];
-    }
-    &f[0..21]
-}
-
-// What stands behind them.
+// What stands behind the first 21 bytes of a place.
 fn behind(f: &[u8]) -> &[u8]
     ensures { λ r. ⌜ now r ≡ drop 21 (now (f .entry)) ⌝ }
 {
@@ -105,7 +95,7 @@ pub fn judge_iban(blank: bool, f: &[u8]) -> usize
     ensures { λ r. ⌜ r ≡ ibanPlaceVerdict blank (now (f .entry)) ⌝ }
 {
     let ended = text::all_blank(behind(f));
-    if ended & account::iban_passes(front(f)) {
+    if ended & account::iban_passes(text::front(f, 21)) {
         return 0;
     }
     let bad = text::judge(Class::Place, f);
@@ -116,7 +106,7 @@ pub fn judge_iban(blank: bool, f: &[u8]) -> usize
         return 0;
     }
     if ended {
-        return account::check_iban(front(f));
+        return account::check_iban(text::front(f, 21));
     }
     5
 }

@@ -6,7 +6,7 @@
 // (wage_printed/proofs/Theorems.antt) says that this prints the line of the whole file.
 use condition::Ending;
 use condition::Judge;
-use words::front;
+use text::front;
 
 // The record after a read, whether there may be more, and whether the read failed.
 struct Progress {

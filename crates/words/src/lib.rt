@@ -1,8 +1,6 @@
-// What the programs share: standard input read, bytes and numbers written, and the front of a text.
+// What the programs share: standard input read, bytes and numbers written.
 //
-// What is read and written cannot be said in a contract (docs/DECISIONS.md): all but `front` are safe and end.
-ghost use mathlib.Core.Path.{_≡_};
-ghost use lib.ListN.{take};
+// What is read and written cannot be said in a contract (docs/DECISIONS.md): all are safe and end.
 use libc::STDERR_FILENO;
 use libc::STDIN_FILENO;
 use libc::STDOUT_FILENO;
@@ -34,7 +32,7 @@ fn read_behind(buf: &mut [u8], done: usize) -> isize {
     }
     let mut chunk = io::buffer();
     let got = read_once(&mut chunk, buf.len() - done);
-    room::put(buf, done, front(&chunk, io::count(got, &chunk)));
+    room::put(buf, done, text::front(&chunk, io::count(got, &chunk)));
     got
 }
 
@@ -75,27 +73,16 @@ pub fn say_number(n: usize) {
     io::print_decimal(STDOUT_FILENO, n as u64);
 }
 
-// Writes a text to standard output, or one line to standard error where that fails.
-pub fn publish(s: &[u8]) {
-    if !say(s) {
-        io::write_all(STDERR_FILENO, b"standard output could not be written\n");
+// Writes a text to standard output, or one line to standard error where that fails; whether all of it was written.
+pub fn publish(s: &[u8]) -> bool {
+    if say(s) {
+        return true;
     }
+    io::write_all(STDERR_FILENO, b"standard output could not be written\n");
+    false
 }
 
 // Writes to standard error that a read failed.
 pub fn unread() {
     io::write_all(STDERR_FILENO, b"standard input could not be read\n");
-}
-
-// ---------------------------------------------------------------------------
-// A text
-
-// The first n bytes of a text, as far as it goes.
-pub fn front(s: &[u8], n: usize) -> &[u8]
-    ensures { λ r. ⌜ now r ≡ take n (now (s .entry)) ⌝ }
-{
-    if s.len() < n {
-        return s;
-    }
-    &s[0..n]
 }

@@ -1,11 +1,11 @@
--- `desk_slips::front` meets its contract. Assumes nothing.
-use mathlib.Core.Path.{_≡_, sym}
+-- `text::front` meets its contract: all of the text, or its part. Assumes nothing.
 use Prim.Native.Nat.{_-_}
+use mathlib.Core.Path.{_≡_, sym}
 use native.Mathlib.Omega.{arith}
 use lib.Seq.{take-all}
 use borrow.Author.Needs.{needs}
-use Rattle.desk_slips.proofs.front.Statement.{statement}
-use Rattle.desk_slips.proofs.front.Tie as tie
+use Rattle.text.proofs.front.Statement.{statement}
+use Rattle.text.proofs.front.Tie as tie
 
 returns : tie.Need-returns
 returns c = sym (take-all (c .before .args .n) (c .before .args .s .now) (omega arith))

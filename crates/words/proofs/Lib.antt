@@ -1,2 +1,0 @@
--- What is promised of `words`.
-pub mod One
