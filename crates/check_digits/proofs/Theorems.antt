@@ -13,7 +13,6 @@ use lib.ListN.{length, length-append}
 use lib.Seq.{take-append-seam, getD-append-seam}
 use borrow.Author.Tests.{lt-ltb, le-leb, eq-eqb, eqb-true, leb-true, ltb-false}
 use Rattle.refusal.specs.Refusal.{none}
-use Rattle.refusal.specs.declared.Answer.{Answer}
 use Rattle.refusal.specs.declared.Answer.the-variants.{Accepted, Refused}
 use Rattle.refusal.specs.declared.Refusal.{Refusal}
 use Rattle.refusal.specs.declared.Refusal.the-variants.{Size, Byte}
@@ -25,7 +24,6 @@ use Rattle.text.specs.Digits.{digitsOf}
 use Rattle.text.proofs.Laws.{all-joined}
 use Rattle.check_digits.specs.declared.Rule.{Rule}
 use Rattle.check_digits.specs.declared.Rule.the-variants.{Ini, Mod1110}
-use Rattle.check_digits.specs.declared.Made.{Made}
 use Rattle.check_digits.specs.declared.Made.the-variants as made
 use Rattle.check_digits.specs.CheckDigit.{checkDigit, digitFor, remainder, passes}
 use Rattle.check_digits.specs.Answers.{sized, checkAnswer, makeAnswer}

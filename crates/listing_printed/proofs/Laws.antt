@@ -1,8 +1,8 @@
 -- Laws of what is listed of a line, and of a filled text put into room. Assumes nothing.
-use mathlib.Core.Path.{_≡_, refl, sym, ap, _∙_}
+use mathlib.Core.Path.{_≡_, refl, sym, _∙_}
 use mathlib.Core.Bool.{Bool, true, false, cond}
 use mathlib.Core.List.{List, [], _∷_, _++_}
-use Prim.Native.Nat.{ℕ, zero, suc, _+_, _≤_, _<_}
+use Prim.Native.Nat.{ℕ, _≤_}
 use native.Mathlib.Nat.{zero-add}
 use native.Mathlib.Omega.{arith}
 use lib.Dec.{eqb, leb, ltb}
@@ -87,6 +87,7 @@ module _ (text : List ℕ) (k : ℕ) {out after : List ℕ} where
     where
       l : length (fill text k) ≡ length text
       l = fill-length text k
+
       go : (b : Bool) → ltb (length out) (length text) ≡ b → Puts (lineInRoom text k (length out)) 0 out r after
       go true g = let z : Answer.Refused _ ≡ Answer.Accepted = rw g at e in absurd (refused-not-accepted _ z)
       go false g =

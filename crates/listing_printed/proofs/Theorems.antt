@@ -3,35 +3,26 @@
 -- that the program lends hold its lines. Assumes nothing.
 use mathlib.Core.Path.{_≡_, refl, sym, ap, _∙_}
 use mathlib.Core.Bool.{Bool, true, false, cond}
-use mathlib.Core.List.{List, [], _∷_, _++_, append-nil, append-assoc}
-use Prim.Native.Nat.{ℕ, _*_, _≤_, _<_}
+use mathlib.Core.List.{List, [], _∷_, _++_, append-assoc}
+use Prim.Native.Nat.{ℕ, _≤_, _<_}
 use native.Mathlib.Omega.{arith}
-use lib.Dec.{eqb, leb, ltb}
-use lib.ListN.{length, getD, take, drop, length-take, length-append}
-use lib.Seq.{take-all, take-at}
-use borrow.Author.Tests.{ne-eqb, eqb-true, leb-true, leb-false, lt-leb, le-ltb, ltb-false}
+use lib.Dec.{leb}
+use lib.ListN.{length, take, length-take}
+use lib.Seq.{take-all}
+use borrow.Author.Tests.{ne-eqb, leb-true, leb-false, lt-leb, le-ltb}
 use Rattle.refusal.specs.Refusal.{none, refusalNumber}
-use Rattle.refusal.specs.declared.Refusal.{Refusal}
-use Rattle.refusal.specs.declared.Refusal.the-variants.{Size, Room}
-use Rattle.classes.specs.declared.Class.the-variants.{WetReference}
-use Rattle.text.specs.Bytes.{allOf, marks}
-use Rattle.text.specs.declared.Found.{Found}
-use Rattle.text.specs.declared.Found.the-variants.{At, Nothing}
-use Rattle.line.specs.declared.Seen.{Seen}
+use Rattle.refusal.specs.declared.Refusal.the-variants.{Size}
 use Rattle.line.specs.Line.{has, lineOf, headOf, tailOf}
 use Rattle.line.specs.Mirror.{Kept, starting, keptOf, feed}
 use Rattle.line.proofs.Theorems.{LineKept, line-is-kept}
 use Rattle.account.specs.Answers.{isIban}
-use Rattle.models.specs.Models.{modelOf}
 use Rattle.model_text.specs.Texts.{modelNumber}
-use Rattle.reference.specs.Answers.{obeys}
 use Rattle.filling.specs.Filling.{fill}
 use Rattle.filling.proofs.Theorems.{fill-length}
 use Rattle.fillings.specs.Fillings.{fillings}
-use Rattle.fillings.specs.Answers.{listedInRoom, leftByListing}
 use Rattle.fillings.specs.declared.Listed.{Listed}
 use Rattle.fillings.specs.declared.Listed.the-variants.{Count, Refused}
-use Rattle.wet.specs.Wet.{wetIban, ibanListing, numberListing, referenceListing, numberFillings, referenceFillings}
+use Rattle.wet.specs.Wet.{ibanListing, referenceListing, referenceFillings}
 use Rattle.printed.specs.Printed.{decimal, counted, refusedWord, Puts}
 use Rattle.printed.proofs.Theorems.{printed-whole, decimal-at-most, both-at-most, counted-at-most}
 use Rattle.listing_printed.specs.Listing.{lineListing, lineFillings, wetText, fillingsWord, firstLine, filledLine, filledLines, lineInRoom, answerPrinted, listingPrinted}
@@ -129,8 +120,8 @@ line-answered s head₀ tail₀ g h =
       numbers = λ room n e. same-text s k z room n e .0;
       text = λ room n e. same-text s k z room n e .1;
       output =
-        ap (λ (r : Listed). answerPrinted r (keptText (k .seen) (k .head) (k .tail)) (keptFillings (k .seen) (k .head) (k .tail))) (same-answer s k z 10000) ∙
-        same-output s k z (lineListing s 10000) refl;
+          ap (λ (r : Listed). answerPrinted r (keptText (k .seen) (k .head) (k .tail)) (keptFillings (k .seen) (k .head) (k .tail))) (same-answer s k z 10000) ∙
+          same-output s k z (lineListing s 10000) refl;
     }
 
 -- ---------------------------------------------------------------------------

@@ -22,7 +22,7 @@ use Rattle.classes.specs.declared.Class.{Class}
 use Rattle.classes.specs.declared.Class.the-variants.{Line}
 use Rattle.text.specs.declared.Found.{Found}
 use Rattle.text.specs.declared.Found.the-variants.{At, Nothing}
-use Rattle.text.specs.Split.{longer, split}
+use Rattle.text.specs.Split.{split}
 use Rattle.text.proofs.Laws.{to-the-end}
 use Rattle.text.proofs.Pieces.{first-piece}
 use Rattle.classes.proofs.Choices.{left, entered, and-first, and-second}

@@ -1,10 +1,10 @@
 -- Laws of what is printed of a slip. Assumes nothing.
-use mathlib.Core.Path.{_≡_, refl, sym, ap, _∙_}
-use mathlib.Core.List.{List, [], _∷_, _++_, append-nil}
-use Prim.Native.Nat.{ℕ, zero, suc, _+_, _-_, _≤_, _<_}
+use mathlib.Core.Path.{_≡_, refl, ap, _∙_}
+use mathlib.Core.List.{List, [], _++_, append-nil}
+use Prim.Native.Nat.{ℕ, suc, _+_, _-_, _≤_}
 use native.Mathlib.Omega.{arith}
 use native.Mathlib.Numerals.{add-one}
-use lib.ListN.{length, replicate}
+use lib.ListN.{replicate}
 use lib.Seq.{sets}
 use borrow.Author.Tests.{le-leb}
 use Rattle.text.specs.Digits.{digitsText}
@@ -19,7 +19,6 @@ use Rattle.refusal.specs.declared.Refusal.{Refusal}
 use Rattle.refusal.specs.declared.Answer.{Answer}
 use Rattle.refusal.specs.declared.Answer.the-variants.{Accepted, Refused}
 use Rattle.slip.specs.Slip.{slipAnswer}
-use Rattle.slip_handed.specs.declared.Amount.{Amount}
 use Rattle.slip_handed.specs.declared.Amount.the-variants as amount
 use Rattle.slip_handed.specs.Handed.{amountOf, centsFrom, slipCents}
 

@@ -15,7 +15,6 @@ use Rattle.refusal.specs.declared.Refusal.the-variants.{Size, Ends}
 use Rattle.classes.proofs.Choices.{chosen, entered, and-second, both-true}
 use Rattle.wage_places.specs.declared.LineType.{LineType}
 use Rattle.wage_places.specs.declared.LineType.the-variants.{Label, Group, Order, Closing}
-use Rattle.wage_line.specs.declared.Typed.{Typed}
 use Rattle.wage_line.specs.declared.Typed.the-variants.{Line, Refused}
 use Rattle.wage_places.specs.Places.{spots, spotOf, partOf}
 use Rattle.wage_line.specs.Line.{endsRight, wrongType, typeFrom, typeText, typeOf, typedOf, placeOf}

@@ -1,14 +1,13 @@
 -- What is printed of a wage file stands in a room of 108 bytes, and a file read in parts of whole lines gets the whole file's line.
 -- Assumes nothing.
-use mathlib.Core.Path.{_≡_, refl, sym, ap, _∙_}
+use mathlib.Core.Path.{_≡_, refl, sym, _∙_}
 use mathlib.Core.List.{List, [], _∷_, _++_, append-assoc}
-use Prim.Native.Nat.{ℕ, _+_, _%_, _≤_}
+use Prim.Native.Nat.{ℕ, _%_, _≤_}
 use native.Mathlib.Omega.{arith}
 use lib.ListN.{length, take, drop}
 use Rattle.text.specs.Split.{joined}
 use Rattle.wage_line.specs.Pieces.{pieces}
 use Rattle.condition.specs.declared.Judge.{Judge}
-use Rattle.condition.specs.declared.Counts.{Counts}
 use Rattle.condition.specs.declared.Ending.{Ending}
 use Rattle.condition.specs.declared.Ending.the-variants.{Accepted, Refused}
 use Rattle.condition.specs.Record.{begun, ended}
