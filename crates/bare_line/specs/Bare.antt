@@ -1,5 +1,5 @@
 -- Document 01, "The wage file", the writer: "It puts blanks in places not read (zeros in 540–542)".
-use Rattle.refusal.specs.Basics.{ℕ, List, [], _∷_, replicate}
+use Rattle.refusal.specs.Basics.{ℕ, List, [], _∷_, replicate, spelt}
 use lib.Seq.{sets}
 use Rattle.wage_places.specs.declared.LineType.{LineType}
 use Rattle.wage_places.specs.declared.LineType.the-variants.{Label, Group, Order, Closing}
@@ -9,7 +9,7 @@ use Rattle.wage_line.specs.Line.{typeText}
 abbrev pub bankZeros : LineType → List ℕ
 bankZeros Label = []
 bankZeros Group = []
-bankZeros Order = 48 ∷ (48 ∷ (48 ∷ []))
+bankZeros Order = spelt "000"
 bankZeros Closing = []
 
 -- a line with its type, its CR LF, and what the writer puts in places not read

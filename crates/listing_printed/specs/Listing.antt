@@ -1,6 +1,6 @@
 -- Document 01, "Wet slips": "The listing program reads one line, an IBAN or a model, one space and a reference, and writes the count and the
 -- filled texts, or `refused` and the number (the first space divides; no LF is 1)."
-use Rattle.refusal.specs.Basics.{ℕ, cond, List, [], _∷_, _++_, ltb, length}
+use Rattle.refusal.specs.Basics.{ℕ, cond, List, [], _∷_, _++_, ltb, length, spelt}
 use Rattle.refusal.specs.Refusal.{none, refusalNumber}
 use Rattle.refusal.specs.declared.Refusal.the-variants.{Size}
 use Rattle.line.specs.Line.{has, lineOf, headOf, tailOf}
@@ -33,9 +33,9 @@ wetText s = cond (has 32 (lineOf s)) (tailOf s) (headOf s)
 -- ---------------------------------------------------------------------------
 -- What is written
 
--- " fillings", and a line feed
+-- behind the count
 abbrev pub fillingsWord : List ℕ
-fillingsWord = 32 ∷ (102 ∷ (105 ∷ (108 ∷ (108 ∷ (105 ∷ (110 ∷ (103 ∷ (115 ∷ (10 ∷ [])))))))))
+fillingsWord = spelt " fillings\n"
 
 -- "writes the count", `10 fillings`, "or `refused` and the number", `refused 1`; and a line feed
 unfoldable pub firstLine : Listed → List ℕ

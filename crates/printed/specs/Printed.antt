@@ -1,5 +1,5 @@
 -- What the programs print: words, numbers in decimal digits, and a refusal with its place.
-use Rattle.refusal.specs.Basics.{ℕ, zero, suc, _+_, _/_, _≡_, cond, List, [], _∷_, _++_, ltb, length}
+use Rattle.refusal.specs.Basics.{ℕ, zero, suc, _+_, _/_, _≡_, cond, List, [], _∷_, _++_, ltb, length, spelt}
 use lib.Seq.{sets}
 use Rattle.text.specs.Digits.{digitsText}
 use Rattle.refusal.specs.declared.Place.{Place}
@@ -25,19 +25,19 @@ counted word n = word ++ decimal n
 -- ---------------------------------------------------------------------------
 -- A refusal
 
--- "refused "
+-- in front of the number
 abbrev pub refusedWord : List ℕ
-refusedWord = 114 ∷ (101 ∷ (102 ∷ (117 ∷ (115 ∷ (101 ∷ (100 ∷ (32 ∷ [])))))))
+refusedWord = spelt "refused "
 
--- " line ", " field ", " byte "
+-- in front of each number of its place
 abbrev pub lineWord : List ℕ
-lineWord = 32 ∷ (108 ∷ (105 ∷ (110 ∷ (101 ∷ (32 ∷ [])))))
+lineWord = spelt " line "
 
 abbrev pub fieldWord : List ℕ
-fieldWord = 32 ∷ (102 ∷ (105 ∷ (101 ∷ (108 ∷ (100 ∷ (32 ∷ []))))))
+fieldWord = spelt " field "
 
 abbrev pub byteWord : List ℕ
-byteWord = 32 ∷ (98 ∷ (121 ∷ (116 ∷ (101 ∷ (32 ∷ [])))))
+byteWord = spelt " byte "
 
 -- ` line 0 field 12 byte 0`, and a line feed
 unfoldable pub placeText : Place → List ℕ

@@ -1,5 +1,5 @@
 -- Document 01, "The slip's fourteen fields": what each field must be. Within a field 3 with its byte, 4, 5, then 6 to 9.
-use Rattle.refusal.specs.Basics.{ℕ, cond, _||_, List, [], _∷_, eqb, length}
+use Rattle.refusal.specs.Basics.{ℕ, cond, _||_, List, eqb, length, spelt}
 use Rattle.verdict.specs.Verdict.{onlyIf, andThen}
 use Rattle.text.specs.Bytes.{bytesVerdict, same, eur}
 use Rattle.classes.specs.declared.Class.{Class}
@@ -15,9 +15,9 @@ use Rattle.reference.specs.Answers.{referenceVerdict}
 abbrev pub wordVerdict : List ℕ → List ℕ → ℕ
 wordVerdict w s = onlyIf (same w s) 5
 
--- `HRVHUB30`
+-- the header
 abbrev pub hrvhub30 : List ℕ
-hrvhub30 = 72 ∷ (82 ∷ (86 ∷ (72 ∷ (85 ∷ (66 ∷ (51 ∷ (48 ∷ [])))))))
+hrvhub30 = spelt "HRVHUB30"
 
 -- ---------------------------------------------------------------------------
 -- 3 and 13: bytes of a class, and one of two lengths

@@ -1,5 +1,5 @@
 -- What the program `slipfile` prints of a slip: `accepted` and its fields 3 to 14, a line each, or its refusal with its place.
-use Rattle.refusal.specs.Basics.{ℕ, zero, suc, _-_, List, [], _∷_, _++_}
+use Rattle.refusal.specs.Basics.{ℕ, zero, suc, _-_, List, [], _∷_, _++_, spelt}
 use Rattle.refusal.specs.declared.Answer.{Answer}
 use Rattle.refusal.specs.declared.Answer.the-variants.{Accepted, Refused}
 use Rattle.text.specs.Split.{split}
@@ -8,7 +8,7 @@ use Rattle.printed.specs.Printed.{decimal, refusedText}
 
 -- `accepted`, and a line feed
 abbrev pub acceptedLine : List ℕ
-acceptedLine = 97 ∷ (99 ∷ (99 ∷ (101 ∷ (112 ∷ (116 ∷ (101 ∷ (100 ∷ (10 ∷ []))))))))
+acceptedLine = spelt "accepted\n"
 
 -- `12=05-2023`, and a line feed: a field's number and its text
 unfoldable pub fieldLine : ℕ → List ℕ → List ℕ

@@ -1,5 +1,5 @@
 -- The first byte of a text that a field does not permit, and what else is asked of its bytes.
-use Rattle.refusal.specs.Basics.{ℕ, suc, Bool, true, false, cond, _&&_, List, [], _∷_, eqb}
+use Rattle.refusal.specs.Basics.{ℕ, suc, Bool, true, false, cond, _&&_, List, [], _∷_, eqb, spelt}
 use Rattle.verdict.specs.Verdict.{wrongAt}
 use Rattle.classes.specs.declared.Class.{Class}
 use Rattle.classes.specs.declared.Class.the-variants.{Blanks}
@@ -63,6 +63,6 @@ same [] (b ∷ t) = false
 same (a ∷ s) [] = false
 same (a ∷ s) (b ∷ t) = eqb a b && same s t
 
--- `EUR`
+-- the currency
 abbrev pub eur : List ℕ
-eur = 69 ∷ (85 ∷ (82 ∷ []))
+eur = spelt "EUR"

@@ -1,5 +1,5 @@
 -- Document 01, "The wage file": a line's size, ends and type, and its parts.
-use Rattle.refusal.specs.Basics.{ℕ, Bool, cond, _&&_, List, [], _∷_, eqb, length, getD}
+use Rattle.refusal.specs.Basics.{ℕ, Bool, cond, _&&_, List, [], eqb, length, getD, spelt}
 use Rattle.refusal.specs.Refusal.{none}
 use Rattle.refusal.specs.declared.Refusal.the-variants.{Size, Ends, Form}
 use Rattle.wage_places.specs.declared.LineType.{LineType}
@@ -30,10 +30,10 @@ typeFrom a b c =
 
 -- the three digits of each type
 unfoldable pub typeText : LineType → List ℕ
-typeText Label = 51 ∷ (48 ∷ (48 ∷ []))
-typeText Group = 51 ∷ (48 ∷ (49 ∷ []))
-typeText Order = 51 ∷ (48 ∷ (57 ∷ []))
-typeText Closing = 51 ∷ (57 ∷ (57 ∷ []))
+typeText Label = spelt "300"
+typeText Group = spelt "301"
+typeText Order = spelt "309"
+typeText Closing = spelt "399"
 
 -- "Type at 998 to 1000"
 abbrev pub typeOf : List ℕ → Typed

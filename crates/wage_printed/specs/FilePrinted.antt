@@ -1,6 +1,6 @@
 -- What the program `wagefile` prints. Document 01, "Wet slips": "The file program reads eight digits and LF, the day (else 11), then a wage
 -- file line by line, and writes `accepted 5 lines 1 groups 2 orders` or `refused 6 line 2 field 1 byte 0`".
-use Rattle.refusal.specs.Basics.{ℕ, cond, _&&_, List, [], _∷_, _++_, eqb, length, getD, take, drop}
+use Rattle.refusal.specs.Basics.{ℕ, cond, _&&_, List, _++_, eqb, length, getD, take, drop, spelt}
 use Rattle.classes.specs.declared.Class.the-variants.{Digits}
 use Rattle.text.specs.Bytes.{allOf}
 use Rattle.text.specs.Digits.{digitsOf, valueOf}
@@ -13,18 +13,18 @@ use Rattle.printed.specs.Printed.{counted, refusedText}
 unfoldable pub dayTold : List ℕ → ℕ
 dayTold s = cond (eqb (length s) 9 && (eqb (getD s 8 0) 10 && allOf Digits (take 8 s))) (valueOf (digitsOf (take 8 s))) 0
 
--- `accepted `, ` lines `, ` groups `; ` orders` and a line feed
+-- in front of the lines, of the groups, of the orders; and the end of the line
 abbrev pub acceptedWord : List ℕ
-acceptedWord = 97 ∷ (99 ∷ (99 ∷ (101 ∷ (112 ∷ (116 ∷ (101 ∷ (100 ∷ (32 ∷ []))))))))
+acceptedWord = spelt "accepted "
 
 abbrev pub linesWord : List ℕ
-linesWord = 32 ∷ (108 ∷ (105 ∷ (110 ∷ (101 ∷ (115 ∷ (32 ∷ []))))))
+linesWord = spelt " lines "
 
 abbrev pub groupsWord : List ℕ
-groupsWord = 32 ∷ (103 ∷ (114 ∷ (111 ∷ (117 ∷ (112 ∷ (115 ∷ (32 ∷ [])))))))
+groupsWord = spelt " groups "
 
 abbrev pub ordersWord : List ℕ
-ordersWord = 32 ∷ (111 ∷ (114 ∷ (100 ∷ (101 ∷ (114 ∷ (115 ∷ (10 ∷ [])))))))
+ordersWord = spelt " orders\n"
 
 -- one line
 unfoldable pub endingPrinted : Ending → List ℕ
