@@ -1,0 +1,4 @@
+-- The definitions of the crate `promises`.
+pub mod Calls
+pub mod Listings
+pub mod Refusals
