@@ -79,28 +79,31 @@ fn leaf(aim: Aim, s: &[u8], number: u32, out: &mut [u16], at: usize) -> usize
 // at the first mark leaves one mark fewer. `number` has the digits that were put at earlier marks.
 fn list(
     aim: Aim,
-    t: [u8; 22],
+    t: &[u8; 22],
     n: usize,
     left: usize,
     number: u32,
     out: &mut [u16],
     at: usize,
 ) -> usize
-    requires { ⌜ (n ≤ 22) × ((left ≡ marks (take n t)) × ((suc number * 10 ^ left ≤ 10000) × (at ≤ number * 10 ^ left))) ⌝ }
-    ensures { λ r. ⌜ Stands (now (out .entry)) at (block (accepts aim) (take n t) number) r (now (out .exit)) ⌝ }
+    requires { ⌜ (n ≤ 22) × ((left ≡ marks (take n (now t))) × ((suc number * 10 ^ left ≤ 10000) × (at ≤ number * 10 ^ left))) ⌝ }
+    ensures { λ r. ⌜ Stands (now (out .entry)) at (block (accepts aim) (take n (now (t .entry))) number) r (now (out .exit)) ⌝ }
 {
+    // A part of an array behind a reference is not covered; a part of a slice is.
+    let s: &[u8] = t;
     if left == 0 {
-        return leaf(aim, &t[..n], number, out, at);
+        return leaf(aim, &s[..n], number, out, at);
     }
-    let Found::At(i) = text::first_bad(Class::Dry, &t[..n]) else {
+    let Found::At(i) = text::first_bad(Class::Dry, &s[..n]) else {
         return at;
     };
+    // One copy for all ten digits: each is put over the one before it.
+    let mut w = *t;
     let mut next = at;
     let mut d: u32 = 0;
     while d < 10 {
-        let mut w = t;
         w[i] = 48 + d as u8;
-        next = list(aim, w, n, left - 1, number * 10 + d, out, next);
+        next = list(aim, &w, n, left - 1, number * 10 + d, out, next);
         d += 1;
     }
     next
@@ -125,13 +128,13 @@ pub fn list_into(aim: Aim, s: &[u8], out: &mut [u16]) -> Listed
     }
     let t = held(s);
     if 10000 <= out.len() {
-        return Listed::Count(list(aim, t, n, left, 0, out, 0));
+        return Listed::Count(list(aim, &t, n, left, 0, out, 0));
     }
     let mut scratch: [u16; 1] = [0];
-    let count = list(aim, t, n, left, 0, &mut scratch, 0);
+    let count = list(aim, &t, n, left, 0, &mut scratch, 0);
     if count > out.len() {
         return Listed::Refused(Refusal::Room(refusal::nowhere(), count));
     }
-    list(aim, t, n, left, 0, out, 0);
+    list(aim, &t, n, left, 0, out, 0);
     Listed::Count(count)
 }

@@ -55,23 +55,23 @@ may-list c =
     (short b, (b .before .count .ensures ∙ ap marks (sym (c .held .ensures)), (whole-fits _ (omega (arith, few b, b .before .count .ensures)), omega arith)))
 
 list-requires : tie.Need-list-requires
-list-requires c κs = may-list (c .before .before)
+list-requires c κs = may-list (c .before .before .before)
 
 returns-4 : tie.Need-returns-4
 returns-4 c =
-    let h = c .before .before .before .before .before in
+    let h = c .before .before .before .before .before .before in
     let b = h .before .before .before in
     let a = b .before .before .before .before .before .args in
     let w = written-all (accepts (a .aim)) (text b) _ (h .held .ensures) (c .before .before .list .ensures) in
     all-listed (text b) (short b) (few b) (accepts (a .aim)) (a .out .now) _ _
-    (room-counted (fillings (accepts (a .aim)) (text b)) (a .out .now) _ _ _ (w .counted) w (omega (arith, fillings-fit (accepts (a .aim)) (text b) (few b), c .before .before .before .before .if4 .taken)))
+    (room-counted (fillings (accepts (a .aim)) (text b)) (a .out .now) _ _ _ (w .counted) w (omega (arith, fillings-fit (accepts (a .aim)) (text b) (few b), c .before .before .before .before .before .if4 .taken)))
 
 list-requires-2 : tie.Need-list-requires-2
-list-requires-2 c κs = may-list (c .before .before)
+list-requires-2 c κs = may-list (c .before .before .before)
 
 returns-5 : tie.Need-returns-5
 returns-5 c =
-    let h = c .before .before .before .before .before .before in
+    let h = c .before .before .before .before .before .before .before in
     let b = h .before .before .before in
     let a = b .before .before .before .before .before .args in
     let w = written-all (accepts (a .aim)) (text b) _ (h .held .ensures) (c .before .before .before .list2 .ensures) in
@@ -79,17 +79,17 @@ returns-5 c =
     (room-refused (fillings (accepts (a .aim)) (text b)) _ _ _ (w .counted) (c .before .if5 .taken) (c .nowhere3 .ensures), refl)
 
 list-requires-3 : tie.Need-list-requires-3
-list-requires-3 c κs = may-list (c .before .before .before .before .before .before)
+list-requires-3 c κs = may-list (c .before .before .before .before .before .before .before .before)
 
 returns-6 : tie.Need-returns-6
 returns-6 c =
-    let h = c .before .before .before .before .before .before .before .before .before in
+    let h = c .before .before .before .before .before .before .before .before .before .before .before in
     let b = h .before .before .before in
     let a = b .before .before .before .before .before .args in
-    let v = written-all (accepts (a .aim)) (text b) _ (h .held .ensures) (c .before .before .before .before .before .before .list2 .ensures) in
+    let v = written-all (accepts (a .aim)) (text b) _ (h .held .ensures) (c .before .before .before .before .before .before .before .list2 .ensures) in
     let w = written-all (accepts (a .aim)) (text b) _ (h .held .ensures) (c .before .before .list3 .ensures) in
     all-listed (text b) (short b) (few b) (accepts (a .aim)) (a .out .now) _ _
-    (room-counted (fillings (accepts (a .aim)) (text b)) (a .out .now) _ _ _ (v .counted) w (omega (arith, v .counted, c .before .before .before .before .if5 .left)))
+    (room-counted (fillings (accepts (a .aim)) (text b)) (a .out .now) _ _ _ (v .counted) w (omega (arith, v .counted, c .before .before .before .before .before .if5 .left)))
 
 pub list-into-spec : {M : Type 1} → statement M
 list-into-spec =
