@@ -1,4 +1,9 @@
 -- The theorems of docs/PROMISES.md about the calls of the static library.
+pub mod Checks
+pub mod Laws
 pub mod Listings
-pub mod Untouched
+pub mod Numbers
 pub mod Refusals
+pub mod Slips
+pub mod Untouched
+pub mod Wages

@@ -1,20 +1,19 @@
 -- Demand 3, wet slips, of the calls `lanecockle_list_iban`, `lanecockle_list_reference` and `lanecockle_filled`. Assumes nothing.
-use mathlib.Core.Path.{_≡_, refl, sym, ap, _∙_}
+use mathlib.Core.Path.{_≡_, refl, ap, _∙_}
 use mathlib.Core.Logic.{_⊎_, inl, inr}
 use mathlib.Core.Bool.{Bool, true, false, cond}
 use mathlib.Core.List.{List, _++_}
-use Prim.Native.Nat.{ℕ, _^_, _<_, _≤_}
+use Prim.Native.Nat.{ℕ, _<_, _≤_}
 use native.Mathlib.Omega.{arith}
 use lib.Dec.{eqb, leb, ltb}
-use lib.ListN.{length, getD, take, drop}
+use lib.ListN.{length, take, drop}
 use lib.Seq.{take-append-seam, drop-append-seam}
 use borrow.Author.Tests.{ltb-true, ltb-false, eq-eqb, le-leb}
 use Rattle.refusal.specs.Refusal.{none, refusalNumber, neededOf}
-use Rattle.refusal.specs.declared.Answer.{Answer}
-use Rattle.refusal.specs.declared.Answer.the-variants.{Accepted, Refused}
+use Rattle.refusal.specs.declared.Answer.the-variants.{Refused}
 use Rattle.refusal.specs.declared.Refusal.{Refusal}
 use Rattle.refusal.specs.declared.Refusal.the-variants as refused
-use Rattle.classes.specs.declared.Class.the-variants.{WetAccount, WetReference}
+use Rattle.classes.specs.declared.Class.the-variants.{WetReference}
 use Rattle.text.specs.Bytes.{marks, allOf}
 use Rattle.text.specs.declared.Found.the-variants.{At}
 use Rattle.account.specs.Answers.{isIban}
@@ -22,21 +21,19 @@ use Rattle.models.specs.Models.{modelOf}
 use Rattle.model_text.specs.Texts.{modelNumber}
 use Rattle.model_text.proofs.Theorems.{HandledModel}
 use Rattle.reference.specs.Answers.{obeys}
-use Rattle.filling.specs.Filling.{fill, filledAnswer, filledBy}
+use Rattle.filling.specs.Filling.{fill, filledAnswer}
 use Rattle.filling.specs.Claims.{Fills}
-use Rattle.filling.proofs.Theorems.{fill-length, fill-fills, fill-onto, fill-injective}
+use Rattle.filling.proofs.Theorems.{fill-length, fill-fills}
 use Rattle.fillings.specs.Fillings.{fillings}
 use Rattle.fillings.specs.Answers.{listedInRoom, leftByListing}
-use Rattle.fillings.specs.Listing.{Member}
 use Rattle.fillings.specs.declared.Listed.{Listed}
 use Rattle.fillings.specs.declared.Listed.the-variants as listed
 use Rattle.fillings.proofs.Theorems.{complete, sound, ascending, once, counted}
-use Rattle.wet.specs.Wet.{wetIban, ibanListing, referenceListing, numberListing, numberFillings, modelListing}
-use Rattle.boundary.specs.declared.Told.{Told}
+use Rattle.wet.specs.Wet.{wetIban, ibanListing, referenceListing, modelListing}
 use Rattle.boundary.specs.declared.Valued.{Valued}
-use Rattle.boundary.specs.Told.{accepted, refusal, valued, toldOf}
 use Rattle.boundary.proofs.Theorems.{number-not-zero}
 use Rattle.desk_wet.specs.Listed.{listedOf}
+use Rattle.promises.proofs.Laws.{told-zero}
 use Rattle.promises.specs.Calls.{EveryListIban, EveryListReference, EveryFilled}
 use Rattle.promises.specs.Listings.{acceptedFillings, Lists, Listing}
 
@@ -206,13 +203,6 @@ list-reference-untouched κs a z w call = listing-kept _ _ _ _ _ (call .0) (call
 -- ---------------------------------------------------------------------------
 -- The filled texts
 
-module _ (text : List ℕ) (number : ℕ) (out after : List ℕ) (z : Told) where
-  -- where there is room
-  filled-front : (a : Answer) → z ≡ toldOf a → after ≡ filledBy a text number out → z .number ≡ 0 → after ≡ fill text number ++ drop (length text) out
-  unfolding toldOf
-  filled-front Accepted e w h = w
-  filled-front (Refused r) e w h = let q : refusalNumber r ≡ 0 = ap (λ (t : Told). t .number) (sym e) ∙ h in absurd (omega (arith, number-not-zero r))
-
 -- accepted, the text filled by the number stands at the front of the room, and the bytes behind it stay
 pub filled-front-of-room : EveryFilled (λ text number out r after. r .number ≡ 0 → (take (length text) after ≡ fill text number) × (drop (length text) after ≡ drop (length text) out))
 filled-front-of-room κs a z w call h =
@@ -220,7 +210,7 @@ filled-front-of-room κs a z w call h =
     let number = a .1 .0 in
     let out = a .1 .1 .0 .now in
     let after = w .1 .1 .0 in
-    let e = filled-front text number out after z (filledAnswer text (length out)) (call .0) (call .1) h in
+    let e : after ≡ fill text number ++ drop (length text) out = rw (told-zero (filledAnswer text (length out)) z (call .0) .0 h) at (call .1) in
     let n = fill-length text number in
     (rw e (rw n at (take-append-seam (fill text number) (drop (length text) out))), rw e (rw n at (drop-append-seam (fill text number) (drop (length text) out))))
 

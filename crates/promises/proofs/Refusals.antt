@@ -1,13 +1,13 @@
 -- Demand 1: which refusal comes first, of the calls `lanecockle_slip_read`, `lanecockle_judge_step` and `lanecockle_wage_file`. Assumes nothing.
 use mathlib.Core.Path.{_≡_, refl, sym, ap, _∙_}
-use mathlib.Core.Bool.{Bool, true, false, cond, false≢true}
+use mathlib.Core.Bool.{Bool, true, false, cond, _&&_, false≢true}
 use mathlib.Core.List.{List, [], _∷_, _++_}
 use Prim.Native.Nat.{ℕ, zero, suc, _+_, _-_, _≤_, _<_}
 use native.Mathlib.Nat.{add-zero, zero-add}
 use native.Mathlib.Omega.{arith}
-use lib.Dec.{eqb, leb}
+use lib.Dec.{eqb, leb, ltb}
 use lib.ListN.{length, length-append, getD, take}
-use borrow.Author.Tests.{eqb-true, eqb-false, eq-eqb, leb-true, leb-false}
+use borrow.Author.Tests.{eqb-true, eqb-false, eq-eqb, leb-true, leb-false, le-ltb}
 use Rattle.refusal.specs.Refusal.{none}
 use Rattle.refusal.specs.declared.Answer.{Answer}
 use Rattle.refusal.specs.declared.Answer.the-variants.{Accepted, Refused}
@@ -39,15 +39,16 @@ use Rattle.condition.specs.Record.{stageOf, isRefused, refusedWith, atLine, bey
 use Rattle.condition.proofs.Theorems.{refusal-ends}
 use Rattle.standing.specs.Standing.{standVerdict, after}
 use Rattle.judge.specs.Judge.{typeStep, typedStep, afterPlaces, stepped, steps}
-use Rattle.judge.proofs.Theorems.{refusal-stays-on, no-date-is-11}
+use Rattle.judge.proofs.Theorems.{refusal-stays, refusal-stays-on, no-date-is-11}
 use Rattle.wage_file.specs.File.{fileAnswer}
 use Rattle.desk_record.specs.declared.Record.{Record}
 use Rattle.desk_record.specs.Record.{conditionOf, judgeOf, recordOf}
+use Rattle.desk_record.proofs.Theorems.{record-told-back}
 use Rattle.desk_judge.specs.declared.Ended.{Ended}
 use Rattle.desk_judge.specs.Wages.{endedOf}
 use Rattle.boundary.specs.declared.Told.{Told}
 use Rattle.boundary.specs.Told.{refusal, toldOf}
-use Rattle.promises.specs.Calls.{EverySlipRead, EveryJudgeStep, EveryWageFile}
+use Rattle.promises.specs.Calls.{EverySlipRead, EveryJudgeStep, EveryJudgeEnd, EveryWageFile}
 use Rattle.promises.specs.Refusals.{SlipRefused, size, ends, field, goesOn, LineRefused, late, untyped, misplaced, place, FileRefused, undated, line, end}
 
 -- ---------------------------------------------------------------------------
@@ -209,6 +210,40 @@ step-refused-first κs a z w call h e =
     let s = a .1 .0 .now in
     let f = record-refused (stepped j s) z call e in
     (f .0, (f .1 .0, line-refused j s (unrefused-record (a .0 .condition) (a .0 .told) h) (f .0) (f .1 .1)))
+
+-- a test and one that fails
+second-false : (b : Bool) → (b && false) ≡ false
+second-false true = refl
+second-false false = refl
+
+-- "17 names line 1,000,001"
+pub step-line-limit : EveryJudgeStep (λ r line after. r .condition ≤ 3 → 1000000 ≤ r .lines → after .told ≡ refusal beyond)
+unfolding stepped judgeOf recordOf
+step-line-limit κs a z w call h e =
+    let j = judgeOf (a .0) in
+    let late : ltb (j .read .lines) 1000000 ≡ false = le-ltb (j .read .lines) 1000000 e in
+    rw (call, unrefused-record (a .0 .condition) (a .0 .told) h, late, second-false (isSound j))
+
+-- the judge of a record that was told
+told-judge : (r r′ : Record) (j : Judge) → r ≡ recordOf j → r′ ≡ r → judgeOf r′ ≡ j
+told-judge r r′ j e same = ap judgeOf (same ∙ e) ∙ record-told-back j
+
+-- "After a refusal each step .. give that refusal again"
+pub step-refusal-stays : EveryJudgeStep (λ r line after. after .condition ≡ 4 → EveryJudgeStep (λ r′ line′ after′. r′ ≡ after → after′ ≡ after))
+step-refusal-stays κs a z w call h κs′ a′ z′ w′ call′ same =
+    let j = stepped (judgeOf (a .0)) (a .1 .0 .now) in
+    let f = record-refused j z call h in
+    let stays = refusal-stays j (rw (f .1 .1)) (a′ .1 .0 .now) in
+    call′ ∙ (ap (λ (k : Judge). recordOf (stepped k (a′ .1 .0 .now))) (told-judge z (a′ .0) j call same) ∙ (ap recordOf stays ∙ sym call))
+
+-- "and the end"
+pub end-refusal-stays : EveryJudgeStep (λ r line after. after .condition ≡ 4 → EveryJudgeEnd (λ r′ e. r′ ≡ after → e .told ≡ after .told))
+unfolding endedOf
+end-refusal-stays κs a z w call h κs′ a′ z′ w′ call′ same =
+    let j = stepped (judgeOf (a .0)) (a .1 .0 .now) in
+    let f = record-refused j z call h in
+    let ends : z′ ≡ endedOf (ending.Refused (f .0)) = call′ ∙ ap (λ (k : Judge). endedOf (ended k)) (told-judge z (a′ .0) j call same) ∙ ap endedOf (refusal-ends j (f .0) (f .1 .1)) in
+    ap (λ (r : Ended). r .told) ends ∙ sym (f .1 .0)
 
 -- ---------------------------------------------------------------------------
 -- A wage file

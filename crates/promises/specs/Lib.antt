@@ -2,3 +2,4 @@
 pub mod Calls
 pub mod Listings
 pub mod Refusals
+pub mod Wages

@@ -1,5 +1,6 @@
--- Demand 1, which refusal comes first: of one slip, of one wage line, of one wage file.
+-- Demand 1: what a call may tell; and which refusal comes first, of one slip, of one wage line, of one wage file.
 use Rattle.refusal.specs.Basics.{ℕ, _-_, _<_, _≤_, _≡_, Bool, true, false, cond, _&&_, List, [], ltb, length, getD, take}
+use mathlib.Core.Logic.{_⊎_}
 use Rattle.refusal.specs.Refusal.{none, inLine}
 use Rattle.refusal.specs.declared.Answer.the-variants.{Accepted, Refused}
 use Rattle.refusal.specs.declared.Refusal.{Refusal}
@@ -23,7 +24,14 @@ use Rattle.condition.specs.Record.{stageOf, isRefused, atLine, beyond, nextLine
 use Rattle.standing.specs.Standing.{standVerdict}
 use Rattle.judge.specs.Judge.{steps}
 use Rattle.boundary.specs.declared.Told.{Told}
-use Rattle.boundary.specs.Told.{refusal, toldOf}
+use Rattle.boundary.specs.Told.{accepted, refusal, toldOf}
+
+-- ---------------------------------------------------------------------------
+-- Numbers
+
+-- "one of the documents' numbers, with line, field and byte": acceptance, or a refusal of document 01's table, 1 to 17
+abbrev pub Known : Told → Type 0
+Known t = (t ≡ accepted) ⊎ ((q : Refusal) × ((t ≡ refusal q) × ((1 ≤ t .number) × (t .number ≤ 17))))
 
 -- ---------------------------------------------------------------------------
 -- A slip

@@ -1,0 +1,174 @@
+-- Demand 1: "A refusal is one of the documents' numbers, with line, field and byte", of every call that answers. Assumes nothing.
+use mathlib.Core.Path.{refl}
+use mathlib.Core.Logic.{inl, inr}
+use mathlib.Core.Bool.{Bool, true, false, cond}
+use Prim.Native.Nat.{_≤_}
+use native.Mathlib.Omega.{arith}
+use lib.Dec.{eqb}
+use Rattle.refusal.specs.Refusal.{none, refusalNumber}
+use Rattle.refusal.specs.declared.Answer.{Answer}
+use Rattle.refusal.specs.declared.Answer.the-variants.{Accepted, Refused}
+use Rattle.refusal.specs.declared.Refusal.{Refusal}
+use Rattle.refusal.specs.declared.Refusal.the-variants.{Size, Ends, Byte, Length, Form, Check, Model, Parts, Digit, Misplaced, Date, Orders, Sum, Unfinished, Room, Marks, Beyond}
+use Rattle.check_digits.specs.declared.Made.{Made}
+use Rattle.check_digits.specs.declared.Made.the-variants as made
+use Rattle.fillings.specs.declared.Listed.{Listed}
+use Rattle.fillings.specs.declared.Listed.the-variants as listed
+use Rattle.slip_handed.specs.declared.Amount.{Amount}
+use Rattle.slip_handed.specs.declared.Amount.the-variants as amount
+use Rattle.slip_writer.specs.declared.Written.{Written}
+use Rattle.slip_writer.specs.declared.Written.the-variants as written
+use Rattle.condition.specs.declared.Ending.{Ending}
+use Rattle.condition.specs.declared.Ending.the-variants as ending
+use Rattle.condition.specs.declared.Judge.{Judge}
+use Rattle.condition.specs.Record.{isRefused, refusalIn}
+use Rattle.lent_fields.specs.Fields.{lentWhole}
+use Rattle.boundary.specs.declared.Told.{Told}
+use Rattle.boundary.specs.Told.{refusal, toldOf, valued, noRule}
+use Rattle.boundary.proofs.Theorems.{number-not-zero}
+use Rattle.desk_checks.specs.Made.{madeOf}
+use Rattle.desk_wet.specs.Listed.{listedOf}
+use Rattle.desk_slips.specs.Slips.{centsTold, writtenOf}
+use Rattle.desk_record.specs.Record.{recordOf}
+use Rattle.desk_judge.specs.Wages.{endedOf}
+use Rattle.promises.specs.Calls.{EveryCheckDigits, EveryMakeDigit, EveryIban, EveryOib, EveryReference, EveryListIban, EveryListReference, EveryFilled, EverySlipRead, EverySlipCents, EverySlipWrite, EveryJudgeBegin, EveryJudgeStep, EveryJudgeLines, EveryJudgeEnd, EveryWageFile, EveryWriteLabel, EveryWriteOrder, EveryWriteGroup, EveryWriteClosing}
+use Rattle.promises.specs.Refusals.{Known}
+
+-- ---------------------------------------------------------------------------
+-- What is told
+
+-- the table has seventeen numbers
+number-at-most : (r : Refusal) → refusalNumber r ≤ 17
+number-at-most (Size p) = omega arith
+number-at-most (Ends p) = omega arith
+number-at-most (Byte p) = omega arith
+number-at-most (Length p) = omega arith
+number-at-most (Form p) = omega arith
+number-at-most (Check p) = omega arith
+number-at-most (Model p) = omega arith
+number-at-most (Parts p) = omega arith
+number-at-most (Digit p) = omega arith
+number-at-most (Misplaced p) = omega arith
+number-at-most (Date p) = omega arith
+number-at-most (Orders p) = omega arith
+number-at-most (Sum p) = omega arith
+number-at-most (Unfinished p) = omega arith
+number-at-most (Room p n) = omega arith
+number-at-most (Marks p) = omega arith
+number-at-most (Beyond p) = omega arith
+
+refusal-known : (q : Refusal) → Known (refusal q)
+refusal-known q = inr (q, (refl, (omega (arith, number-not-zero q), number-at-most q)))
+
+either-known : (b : Bool) (t u : Told) → Known t → Known u → Known (cond b t u)
+either-known true t u k l = k
+either-known false t u k l = l
+
+-- an answer, a digit made, a listing, an amount, a slip written, an end, a judge's record
+answer-known : (x : Answer) → Known (toldOf x)
+unfolding toldOf
+answer-known Accepted = inl refl
+answer-known (Refused r) = refusal-known r
+
+made-known : (x : Made) → Known (madeOf x .told)
+unfolding madeOf
+made-known (made.Digit d) = inl refl
+made-known (made.Refused r) = refusal-known r
+
+listed-known : (x : Listed) → Known (listedOf x .told)
+unfolding listedOf
+listed-known (listed.Count n) = inl refl
+listed-known (listed.Refused r) = refusal-known r
+
+cents-known : (x : Amount) → Known (centsTold x .told)
+unfolding centsTold
+cents-known (amount.Cents n) = inl refl
+cents-known (amount.Refused r) = refusal-known r
+
+written-known : (x : Written) → Known (writtenOf x .told)
+unfolding writtenOf
+written-known (written.Bytes n) = inl refl
+written-known (written.Refused r) = refusal-known r
+
+ended-known : (x : Ending) → Known (endedOf x .told)
+unfolding endedOf
+ended-known (ending.Accepted n) = inl refl
+ended-known (ending.Refused r) = refusal-known r
+
+record-known : (j : Judge) → Known (recordOf j .told)
+unfolding recordOf
+record-known j = either-known (isRefused (j .condition)) _ _ (refusal-known (refusalIn (j .condition))) (inl refl)
+
+-- ---------------------------------------------------------------------------
+-- Of every call
+
+pub check-digits-known : EveryCheckDigits (λ rule digits r. Known r)
+check-digits-known κs a z w call = rw call (either-known (eqb (a .0) 0) _ _ (answer-known _) (either-known (eqb (a .0) 1) _ _ (answer-known _) (refusal-known (Form none))))
+
+-- by the rule of a number
+rule-known : (b₀ b₁ : Bool) (x y : Made) → Known (cond b₀ (madeOf x) (cond b₁ (madeOf y) (valued noRule 0)) .told)
+rule-known true b₁ x y = made-known x
+rule-known false true x y = made-known y
+rule-known false false x y = refusal-known (Form none)
+
+pub make-digit-known : EveryMakeDigit (λ rule digits r. Known (r .told))
+make-digit-known κs a z w call = rw call (rule-known (eqb (a .0) 0) (eqb (a .0) 1) _ _)
+
+pub iban-known : EveryIban (λ text r. Known r)
+iban-known κs a z w call = rw call (answer-known _)
+
+pub oib-known : EveryOib (λ text r. Known r)
+oib-known κs a z w call = rw call (answer-known _)
+
+pub reference-known : EveryReference (λ model text r. Known r)
+reference-known κs a z w call = rw call (answer-known _)
+
+pub list-iban-known : EveryListIban (λ text out r after. Known (r .told))
+list-iban-known κs a z w call = rw (call .0) (listed-known _)
+
+pub list-reference-known : EveryListReference (λ model text out r after. Known (r .told))
+list-reference-known κs a z w call = rw (call .0) (listed-known _)
+
+pub filled-known : EveryFilled (λ text number out r after. Known r)
+filled-known κs a z w call = rw (call .0) (answer-known _)
+
+pub slip-read-known : EverySlipRead (λ slip r. Known r)
+slip-read-known κs a z w call = rw call (answer-known _)
+
+pub slip-cents-known : EverySlipCents (λ slip r. Known (r .told))
+slip-cents-known κs a z w call = rw call (cents-known _)
+
+-- where it is asked first whether the fields are lent whole
+sized-known : (b : Bool) (x : Written) → Known (cond b (writtenOf x) (valued (refusal (Size none)) 0) .told)
+sized-known true x = written-known x
+sized-known false x = refusal-known (Size none)
+
+pub slip-write-known : EverySlipWrite (λ cents text sizes out r after. Known (r .told))
+slip-write-known κs a z w call = rw (call .answers) (sized-known (lentWhole 11 (a .1 .1 .0 .now) (a .1 .0 .now)) _)
+
+pub judge-begin-known : EveryJudgeBegin (λ day r. Known (r .told))
+judge-begin-known κs a z w call = rw call (record-known _)
+
+pub judge-step-known : EveryJudgeStep (λ before line r. Known (r .told))
+judge-step-known κs a z w call = rw call (record-known _)
+
+pub judge-lines-known : EveryJudgeLines (λ before bytes r. Known (r .told))
+judge-lines-known κs a z w call = rw call (record-known _)
+
+pub judge-end-known : EveryJudgeEnd (λ before r. Known (r .told))
+judge-end-known κs a z w call = rw call (ended-known _)
+
+pub wage-file-known : EveryWageFile (λ day bytes r. Known (r .told))
+wage-file-known κs a z w call = rw call (ended-known _)
+
+pub write-label-known : EveryWriteLabel (λ day text sizes out r after. Known r)
+write-label-known κs a z w call = rw (call .answers) (answer-known _)
+
+pub write-order-known : EveryWriteOrder (λ day kind text sizes out r after. Known r)
+write-order-known κs a z w call = rw (call .answers) (answer-known _)
+
+pub write-group-known : EveryWriteGroup (λ day kind text sizes orders out r after. Known r)
+write-group-known κs a z w call = rw (call .answers) (answer-known _)
+
+pub write-closing-known : EveryWriteClosing (λ day out r after. Known r)
+write-closing-known κs a z w call = rw (call .answers) (answer-known _)
