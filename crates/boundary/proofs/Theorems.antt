@@ -1,7 +1,7 @@
 -- What is promised of the boundary: nothing is lost on the way through numbers.
 -- Assumes nothing.
 use mathlib.Core.Path.{_≡_, refl, sym, ap, _∙_}
-use Prim.Native.Nat.{_<_}
+use Prim.Native.Nat.{_≤_, _<_}
 use native.Mathlib.Omega.{arith}
 use Rattle.refusal.specs.Refusal.{refusalNumber, refusalOf}
 use Rattle.refusal.specs.declared.Answer.{Answer}
@@ -23,25 +23,29 @@ refusalIn t = refusalOf (t .number) (toldPlace t) (t .needed)
 pub refusal-told-back : (r : Refusal) → refusalIn (refusal r) ≡ r
 refusal-told-back r = numbers-tell-all r
 
--- a refusal's number is never 0
+-- the table has seventeen numbers
+pub number-in-table : (r : Refusal) → (1 ≤ refusalNumber r) × (refusalNumber r ≤ 17)
+number-in-table (Size p) = (omega arith, omega arith)
+number-in-table (Ends p) = (omega arith, omega arith)
+number-in-table (Byte p) = (omega arith, omega arith)
+number-in-table (Length p) = (omega arith, omega arith)
+number-in-table (Form p) = (omega arith, omega arith)
+number-in-table (Check p) = (omega arith, omega arith)
+number-in-table (Model p) = (omega arith, omega arith)
+number-in-table (Parts p) = (omega arith, omega arith)
+number-in-table (Digit p) = (omega arith, omega arith)
+number-in-table (Misplaced p) = (omega arith, omega arith)
+number-in-table (Date p) = (omega arith, omega arith)
+number-in-table (Orders p) = (omega arith, omega arith)
+number-in-table (Sum p) = (omega arith, omega arith)
+number-in-table (Unfinished p) = (omega arith, omega arith)
+number-in-table (Room p n) = (omega arith, omega arith)
+number-in-table (Marks p) = (omega arith, omega arith)
+number-in-table (Beyond p) = (omega arith, omega arith)
+
+-- none of them is 0
 pub number-not-zero : (r : Refusal) → 0 < refusalNumber r
-number-not-zero (Size p) = omega arith
-number-not-zero (Ends p) = omega arith
-number-not-zero (Byte p) = omega arith
-number-not-zero (Length p) = omega arith
-number-not-zero (Form p) = omega arith
-number-not-zero (Check p) = omega arith
-number-not-zero (Model p) = omega arith
-number-not-zero (Parts p) = omega arith
-number-not-zero (Digit p) = omega arith
-number-not-zero (Misplaced p) = omega arith
-number-not-zero (Date p) = omega arith
-number-not-zero (Orders p) = omega arith
-number-not-zero (Sum p) = omega arith
-number-not-zero (Unfinished p) = omega arith
-number-not-zero (Room p n) = omega arith
-number-not-zero (Marks p) = omega arith
-number-not-zero (Beyond p) = omega arith
+number-not-zero r = omega (arith, number-in-table r .0)
 
 -- an answer told as numbers loses nothing
 pub told-apart : (a b : Answer) → toldOf a ≡ toldOf b → a ≡ b

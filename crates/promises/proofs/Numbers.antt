@@ -2,14 +2,12 @@
 use mathlib.Core.Path.{refl}
 use mathlib.Core.Logic.{inl, inr}
 use mathlib.Core.Bool.{Bool, true, false, cond}
-use Prim.Native.Nat.{_≤_}
-use native.Mathlib.Omega.{arith}
 use lib.Dec.{eqb}
-use Rattle.refusal.specs.Refusal.{none, refusalNumber}
+use Rattle.refusal.specs.Refusal.{none}
 use Rattle.refusal.specs.declared.Answer.{Answer}
 use Rattle.refusal.specs.declared.Answer.the-variants.{Accepted, Refused}
 use Rattle.refusal.specs.declared.Refusal.{Refusal}
-use Rattle.refusal.specs.declared.Refusal.the-variants.{Size, Ends, Byte, Length, Form, Check, Model, Parts, Digit, Misplaced, Date, Orders, Sum, Unfinished, Room, Marks, Beyond}
+use Rattle.refusal.specs.declared.Refusal.the-variants.{Size, Form, Digit}
 use Rattle.check_digits.specs.declared.Made.{Made}
 use Rattle.check_digits.specs.declared.Made.the-variants as made
 use Rattle.fillings.specs.declared.Listed.{Listed}
@@ -25,7 +23,7 @@ use Rattle.condition.specs.Record.{isRefused, refusalIn}
 use Rattle.lent_fields.specs.Fields.{lentWhole}
 use Rattle.boundary.specs.declared.Told.{Told}
 use Rattle.boundary.specs.Told.{refusal, toldOf, valued, noRule}
-use Rattle.boundary.proofs.Theorems.{number-not-zero}
+use Rattle.boundary.proofs.Theorems.{number-in-table}
 use Rattle.desk_checks.specs.Made.{madeOf}
 use Rattle.desk_wet.specs.Listed.{listedOf}
 use Rattle.desk_slips.specs.Slips.{centsTold, writtenOf}
@@ -37,28 +35,8 @@ use Rattle.promises.specs.Refusals.{Known}
 -- ---------------------------------------------------------------------------
 -- What is told
 
--- the table has seventeen numbers
-number-at-most : (r : Refusal) → refusalNumber r ≤ 17
-number-at-most (Size p) = omega arith
-number-at-most (Ends p) = omega arith
-number-at-most (Byte p) = omega arith
-number-at-most (Length p) = omega arith
-number-at-most (Form p) = omega arith
-number-at-most (Check p) = omega arith
-number-at-most (Model p) = omega arith
-number-at-most (Parts p) = omega arith
-number-at-most (Digit p) = omega arith
-number-at-most (Misplaced p) = omega arith
-number-at-most (Date p) = omega arith
-number-at-most (Orders p) = omega arith
-number-at-most (Sum p) = omega arith
-number-at-most (Unfinished p) = omega arith
-number-at-most (Room p n) = omega arith
-number-at-most (Marks p) = omega arith
-number-at-most (Beyond p) = omega arith
-
 refusal-known : (q : Refusal) → Known (refusal q)
-refusal-known q = inr (q, (refl, (omega (arith, number-not-zero q), number-at-most q)))
+refusal-known q = inr (q, (refl, number-in-table q))
 
 either-known : (b : Bool) (t u : Told) → Known t → Known u → Known (cond b t u)
 either-known true t u k l = k
