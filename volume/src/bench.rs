@@ -25,7 +25,7 @@ pub const FULL: Size = Size {
     rounds: 60,
     turn: 0.005,
     lines: 1_000_000,
-    passes: 8,
+    passes: 20,
 };
 
 pub const QUICK: Size = Size {

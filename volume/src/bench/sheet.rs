@@ -42,11 +42,12 @@ impl Sheet {
         );
     }
 
-    /// A work over so many bytes.
-    pub fn bytes(&mut self, name: &str, bytes: usize, race: Race) {
+    /// A work over so many bytes, whose ratio is to be at least `least`.
+    pub fn bytes(&mut self, name: &str, bytes: usize, race: Race, least: f64) {
         let rate = |seconds: f64| scaled(bytes as f64 / seconds, "B/s");
         let mut bars = String::new();
-        self.judge(&mut bars, "ratio >= 1.0", race.ratio() >= 1.0);
+        let asked = format!("ratio >= {least:?}");
+        self.judge(&mut bars, &asked, race.ratio() >= least);
         self.row(
             name,
             &rate(race.ours),

@@ -15,6 +15,8 @@ use std::path::{Path, PathBuf};
 
 /// Eight digits and a line feed come before the file.
 const FRONT: usize = 9;
+/// The bar of a file judged step by step: a record is handed over at each line.
+const STEPS: f64 = 0.95;
 /// The bar of the program's memory.
 const MEMORY: u64 = 8 * 1024 * 1024;
 
@@ -45,7 +47,7 @@ fn in_memory(size: Size, sheet: &mut Sheet, input: &[u8]) {
             let _ = black_box(whole(day, black_box(bytes)));
         },
     );
-    sheet.bytes("  judged whole", bytes.len(), race);
+    sheet.bytes("  judged whole", bytes.len(), race, 1.0);
     let best_whole = race.ours;
 
     let race = turns(
@@ -53,7 +55,7 @@ fn in_memory(size: Size, sheet: &mut Sheet, input: &[u8]) {
         || step_by_step(day, black_box(bytes)),
         || second_step_by_step(day, black_box(bytes)),
     );
-    sheet.bytes("  judged step by step", bytes.len(), race);
+    sheet.bytes("  judged step by step", bytes.len(), race, STEPS);
 
     let sum = (0..size.passes)
         .map(|_| {
