@@ -1,11 +1,11 @@
--- What acceptance of what only a 309 holds means: each verdict is 0 exactly when a plain test holds.
+-- What acceptance of what only a 309 holds means: each verdict is 0 exactly when the place is what document 01 says.
 -- Assumes nothing.
-use mathlib.Core.Path.{_≡_, refl}
+use mathlib.Core.Path.{_≡_, refl, sym, _∙_}
+use mathlib.Core.Logic.{_↔_}
 use mathlib.Core.Bool.{Bool, true, false, cond, not, _&&_, _||_, false≢true}
 use mathlib.Core.List.{List}
 use Prim.Native.Nat.{ℕ}
-use native.Mathlib.Omega.{arith}
-use lib.Dec.{eqb, leb}
+use lib.Dec.{eqb}
 use lib.ListN.{length, getD}
 use borrow.Author.Tests.{eqb-true}
 use Rattle.verdict.specs.Verdict.{onlyIf}
@@ -15,16 +15,16 @@ use Rattle.classes.specs.declared.Class.the-variants.{Digits, Reference, Letter
 use Rattle.text.specs.declared.Found.{Found}
 use Rattle.text.specs.declared.Found.the-variants.{At, Nothing}
 use Rattle.text.proofs.Blanks.{trimmed-blanks, trimmed-some}
-use Rattle.models.specs.Models.{modelOf}
-use Rattle.model_text.specs.Texts.{modelNumber}
-use Rattle.reference.specs.Answers.{obeys, textVerdict}
-use Rattle.reference.proofs.Theorems.{accepted-obeys}
+use Rattle.model_text.specs.Texts.{modelNumber, modelFrom}
+use Rattle.model_text.proofs.Theorems.{HandledModel, model-accepted-exactly}
+use Rattle.reference.specs.Answers.{numberVerdict}
+use Rattle.reference.proofs.Theorems.{RightReference, reference-accepted-exactly}
 use Rattle.codes.specs.Codes.{codePlace}
 use Rattle.sums.specs.Sums.{numberIn}
 use Rattle.order_contents.specs.declared.Held.the-variants.{Blank}
 use Rattle.wage_contents.specs.Contents.{tested, oneOf}
 use Rattle.order_contents.specs.Contents.{isFound, purposePlaceVerdict, signVerdict, heldFrom, heldIn, heldBlank, heldVerdict, referenceHeld, descriptionVerdict, codeVerdict}
-use Rattle.wage_contents.proofs.Accepted.{Exactly, both, after-bytes, if-tested}
+use Rattle.wage_contents.proofs.Accepted.{Exactly, after-bytes, if-tested}
 
 -- blank or letters
 pub purpose-accepted : (f : List ℕ) → Exactly (purposePlaceVerdict f) (allOf Blanks f || allOf Letters f)
@@ -48,37 +48,39 @@ blank-model-accepted f = (
     blank true e z = refl
     blank false e z = absurd (trimmed-some f e z)
 
--- the two digits of a model's text are those of a handled model
-abbrev pub isHandled : Found → Bool
-isHandled (At n) = modelOf n .handled
-isHandled Nothing = false
-
 -- "model": blank, or `HR` and two digits of a handled model
-pub model-accepted : (f : List ℕ) → Exactly (heldVerdict (heldIn f)) (allOf Blanks f || isHandled (modelNumber f))
-unfolding heldVerdict heldIn
-model-accepted f = go (allOf Blanks f) (modelNumber f)
+pub model-accepted : (f : List ℕ) → (heldVerdict (heldIn f) ≡ 0) ↔ (allOf Blanks f ≡ false → HandledModel f)
+unfolding heldIn heldVerdict
+model-accepted f = go (allOf Blanks f)
   where
-    go : (t : Bool) (n : Found) → Exactly (heldVerdict (cond t Blank (heldFrom n))) (t || isHandled n)
-    go true n = ((λ e. refl), (λ e. refl))
-    go false (At n) = if-tested (modelOf n .handled) 7 refl
-    go false Nothing = ((λ e. absurd (omega arith)), (λ e. absurd (false≢true e)))
+    by-number : (n : Found) → heldVerdict (heldFrom n) ≡ modelFrom n
+    by-number (At n) = refl
+    by-number Nothing = refl
 
--- "digits and hyphens, at most 22 characters, obeying the model": under the two digits of a handled model
-abbrev pub isObeyed : Found → List ℕ → Bool
-isObeyed (At n) g = modelOf n .handled && (leb (length g) 22 && obeys (modelOf n) g)
-isObeyed Nothing g = false
+    go : (t : Bool) → (heldVerdict (cond t Blank (heldFrom (modelNumber f))) ≡ 0) ↔ (t ≡ false → HandledModel f)
+    go true = ((λ e q. absurd (false≢true (sym q))), (λ w. refl))
+    go false = (
+      (λ e q. model-accepted-exactly f .0 (sym (by-number (modelNumber f)) ∙ e)),
+      (λ w. by-number (modelNumber f) ∙ model-accepted-exactly f .1 (w refl)),
+    )
 
 -- "Trailing blanks end a reference. A blank model needs a blank reference": m is the place of the reference's model
-pub reference-accepted : (m f : List ℕ) → Exactly (referenceHeld (heldIn m) f) (cond (allOf Blanks m) (allOf Blanks f) (isObeyed (modelNumber m) (trimmed f)))
-unfolding referenceHeld heldIn
-reference-accepted m f = go (allOf Blanks m) (modelNumber m)
+pub reference-accepted :
+    (m f : List ℕ) →
+    (referenceHeld (heldIn m) f ≡ 0) ↔ ((allOf Blanks m ≡ true → allOf Blanks f ≡ true) × (allOf Blanks m ≡ false → RightReference m (trimmed f)))
+unfolding heldIn referenceHeld
+reference-accepted m f = go (allOf Blanks m)
   where
-    go : (t : Bool) (n : Found) → Exactly (referenceHeld (cond t Blank (heldFrom n)) f) (cond t (allOf Blanks f) (isObeyed n (trimmed f)))
-    go true n = blank-model-accepted f
-    go false (At n) =
-        let g = trimmed f in
-        both _ (textVerdict (modelOf n) g) (modelOf n .handled) (leb (length g) 22 && obeys (modelOf n) g) (if-tested (modelOf n .handled) 7 refl) (accepted-obeys (modelOf n) g)
-    go false Nothing = ((λ e. absurd (omega arith)), (λ e. absurd (false≢true e)))
+    by-number : (n : Found) → referenceHeld (heldFrom n) f ≡ numberVerdict (trimmed f) n
+    by-number (At n) = refl
+    by-number Nothing = refl
+
+    go : (t : Bool) → (referenceHeld (cond t Blank (heldFrom (modelNumber m))) f ≡ 0) ↔ ((t ≡ true → allOf Blanks f ≡ true) × (t ≡ false → RightReference m (trimmed f)))
+    go true = ((λ e. ((λ q. blank-model-accepted f .0 e), (λ q. absurd (false≢true (sym q))))), (λ w. blank-model-accepted f .1 (w .0 refl)))
+    go false = (
+      (λ e. ((λ q. absurd (false≢true q)), (λ q. reference-accepted-exactly m (trimmed f) .0 (sym (by-number (modelNumber m)) ∙ e)))),
+      (λ w. by-number (modelNumber m) ∙ reference-accepted-exactly m (trimmed f) .1 (w .1 refl)),
+    )
 
 -- "not all blank"
 pub description-accepted : (f : List ℕ) → Exactly (descriptionVerdict f) (allOf Description f && not (allOf Blanks f))

@@ -18,7 +18,8 @@ use Rattle.account.specs.Answers.{isIban}
 use Rattle.dates.specs.Dates.{isDate}
 use Rattle.sums.specs.Sums.{numberIn}
 use Rattle.codes.specs.Codes.{codePlace}
-use Rattle.model_text.specs.Texts.{modelNumber}
+use Rattle.model_text.proofs.Theorems.{HandledModel}
+use Rattle.reference.proofs.Theorems.{RightReference}
 use Rattle.wage_places.specs.declared.LineType.{LineType}
 use Rattle.wage_places.specs.declared.LineType.the-variants.{Label, Group, Order, Closing}
 use Rattle.wage_places.specs.declared.Spot.{Spot}
@@ -30,7 +31,7 @@ use Rattle.wage_line.proofs.Theorems.{typed-exactly}
 use Rattle.wage_contents.specs.Contents.{oneOf, twoOf}
 use Rattle.wage_contents.proofs.Accepted.{bytes-accepted, among-accepted, oib-accepted, employer-accepted, currency-accepted, zeros-accepted, today-accepted, later-accepted, iban-place-accepted, iban-whole-accepted}
 use Rattle.order_contents.specs.Contents.{isFound}
-use Rattle.order_contents.proofs.Accepted.{isHandled, isObeyed, purpose-accepted, sign-accepted, model-accepted, reference-accepted, description-accepted, code-modelled-accepted}
+use Rattle.order_contents.proofs.Accepted.{purpose-accepted, sign-accepted, model-accepted, reference-accepted, description-accepted, code-modelled-accepted}
 use Rattle.wage_fields.specs.Rules.{ruleVerdict, placesFrom, placesAnswer, RightLine}
 use Rattle.wage_fields.proofs.Laws.{accept-both}
 use Rattle.wage_fields.proofs.Theorems.{place-right, closing-has-none}
@@ -81,20 +82,20 @@ pub record OrderPlaces (kind : ℕ) (s : List ℕ) : Type 0 where
   pub field-1 : let f = partOf Order 1 s in (allOf Blanks (drop 21 f) && isIban (take 21 f)) ≡ true
   -- "175–177 `000` or `191`"
   pub field-5 : let f = partOf Order 5 s in (allOf Digits f && oneOf 0 191 191 (numberIn f)) ≡ true
-  -- "178–181 .. payer's model"
-  pub field-6 : let f = partOf Order 6 s in (allOf Blanks f || isHandled (modelNumber f)) ≡ true
+  -- "178–181 .. payer's model", where it is not blank
+  pub field-6 : let f = partOf Order 6 s in allOf Blanks f ≡ false → HandledModel f
   -- "and 182–203 .. reference"; "Trailing blanks end a reference. A blank model needs a blank reference, else 8."
-  pub field-7 : let f = partOf Order 7 s in let m = partOf Order 6 s in cond (allOf Blanks m) (allOf Blanks f) (isObeyed (modelNumber m) (trimmed f)) ≡ true
+  pub field-7 : let f = partOf Order 7 s in let m = partOf Order 6 s in (allOf Blanks m ≡ true → allOf Blanks f ≡ true) × (allOf Blanks m ≡ false → RightReference m (trimmed f))
   -- "204–207 blank or four letters A to Z"
   pub field-8 : let f = partOf Order 8 s in (allOf Blanks f || allOf Letters f) ≡ true
   -- "208–347 description"; "not all blank"
   pub field-9 : let f = partOf Order 9 s in (allOf Description f && not (allOf Blanks f)) ≡ true
   -- "348–362 amount"
   pub field-10 : allOf Digits (partOf Order 10 s) ≡ true
-  -- "363–366 .. recipient's model"
-  pub field-11 : let f = partOf Order 11 s in (allOf Blanks f || isHandled (modelNumber f)) ≡ true
+  -- "363–366 .. recipient's model", where it is not blank
+  pub field-11 : let f = partOf Order 11 s in allOf Blanks f ≡ false → HandledModel f
   -- "and 367–388 .. reference"
-  pub field-12 : let f = partOf Order 12 s in let m = partOf Order 11 s in cond (allOf Blanks m) (allOf Blanks f) (isObeyed (modelNumber m) (trimmed f)) ≡ true
+  pub field-12 : let f = partOf Order 12 s in let m = partOf Order 11 s in (allOf Blanks m ≡ true → allOf Blanks f ≡ true) × (allOf Blanks m ≡ false → RightReference m (trimmed f))
   -- "543 is 0, 1 or 2"
   pub field-18 : let f = partOf Order 18 s in (allOf Digits f && oneOf 0 1 2 (numberIn f)) ≡ true
   -- "544–546 blank or `EUR`"

@@ -1,0 +1,2 @@
+-- The laws of the crate `desk_version`.
+pub mod One

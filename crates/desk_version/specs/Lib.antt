@@ -1,0 +1,2 @@
+-- The definitions of the crate `desk_version`.
+pub mod Version
