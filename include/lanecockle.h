@@ -1,6 +1,7 @@
 /* Lanecockle for C: HUB3 payment slips, wage files of 300/301/309/399 lines, wet slips, check digits.
  *
- * Link with target/staticlib/libdesk.a (`callers/library` writes it). The library is proved: whatever numbers and bytes
+ * Link with liblanecockle, static or shared (`make install`; in the project target/staticlib/libdesk.a, which
+ * `callers/library` writes). The library is proved: whatever numbers and bytes
  * a caller lends, every call answers and ends, keeps nothing, allocates nothing and has no state of its own, so any number
  * of threads may call it.
  *
@@ -20,6 +21,10 @@
 #include <stddef.h>
 #include <stdint.h>
 
+/* The version of this header; lanecockle_version() is that of the library that a program runs with. */
+#define LANECOCKLE_VERSION "1.0.0"
+#define LANECOCKLE_VERSION_NUMBER 10000
+
 #ifdef __cplusplus
 extern "C" {
 #endif
@@ -30,45 +35,27 @@ extern "C" {
  * `number` is 0 where all is right, and otherwise one refusal. Lines and fields count from 1, bytes from 0 in the slip or
  * in the line of the wage file; 0 stands for "none". `needed` is told for 15 alone.
  *
- *    1  wrong size of the whole input or line; or a writer's sizes are not those of its text
- *    2  line ends wrong: a slip has not exactly fourteen LF with one last; a file line lacks CR LF
- *    3  a byte that the field does not permit
- *    4  field too long or not of its fixed length
- *    5  field not a required word, form or code
- *    6  IBAN or OIB check fails
- *    7  model not handled
- *    8  reference: wrong number or lengths of parts
- *    9  reference: check digit fails
- *   10  line type out of place
- *   11  not a date, or not in the required relation to today
- *   12  number of orders differs
- *   13  sum differs
- *   14  file ended before its 399 line
- *   15  no room; the needed number is told
- *   16  more than four unreadable digits
- *   17  line beyond 1,000,000
- *
  * For 3, `byte` is the first offending byte; otherwise the field's first byte. 1, 2, 10, 12, 13, 14, 15 and 17 have field
  * 0 and byte 0. A wrong type of line is 5 with field 0 and byte 997. */
 enum {
     LANECOCKLE_ACCEPTED = 0,
-    LANECOCKLE_SIZE = 1,
-    LANECOCKLE_ENDS = 2,
-    LANECOCKLE_BYTE = 3,
-    LANECOCKLE_LENGTH = 4,
-    LANECOCKLE_FORM = 5,
-    LANECOCKLE_CHECK = 6,
-    LANECOCKLE_MODEL = 7,
-    LANECOCKLE_PARTS = 8,
-    LANECOCKLE_DIGIT = 9,
-    LANECOCKLE_MISPLACED = 10,
-    LANECOCKLE_DATE = 11,
-    LANECOCKLE_ORDERS = 12,
-    LANECOCKLE_SUM = 13,
-    LANECOCKLE_UNFINISHED = 14,
-    LANECOCKLE_ROOM = 15,
-    LANECOCKLE_MARKS = 16,
-    LANECOCKLE_BEYOND = 17
+    LANECOCKLE_SIZE = 1,        /* wrong size of the whole input or line */
+    LANECOCKLE_ENDS = 2,        /* line ends wrong: a slip has not exactly fourteen LF with one last; a file line lacks CR LF */
+    LANECOCKLE_BYTE = 3,        /* a byte that the field does not permit */
+    LANECOCKLE_LENGTH = 4,      /* field too long or not of its fixed length */
+    LANECOCKLE_FORM = 5,        /* field not a required word, form or code */
+    LANECOCKLE_CHECK = 6,       /* IBAN or OIB check fails */
+    LANECOCKLE_MODEL = 7,       /* model not handled */
+    LANECOCKLE_PARTS = 8,       /* reference: wrong number or lengths of parts */
+    LANECOCKLE_DIGIT = 9,       /* reference: check digit fails */
+    LANECOCKLE_MISPLACED = 10,  /* line type out of place */
+    LANECOCKLE_DATE = 11,       /* not a date, or not in the required relation to today */
+    LANECOCKLE_ORDERS = 12,     /* number of orders differs */
+    LANECOCKLE_SUM = 13,        /* sum differs */
+    LANECOCKLE_UNFINISHED = 14, /* file ended before its 399 line */
+    LANECOCKLE_ROOM = 15,       /* no room; the needed number is told */
+    LANECOCKLE_MARKS = 16,      /* more than four unreadable digits */
+    LANECOCKLE_BEYOND = 17      /* line beyond 1,000,000 */
 };
 
 /* An answer. */
@@ -99,6 +86,10 @@ typedef struct {
     size_t start;
     size_t length;
 } lanecockle_part;
+
+/* The version of the library, as LANECOCKLE_VERSION_NUMBER has that of the header: 10,000 times the first number, 100 times
+ * the second, the third. */
+uint32_t lanecockle_version(void);
 
 /* ---------------------------------------------------------------------------------------------------------------------
  * Check digits, accounts, references. None of these writes anywhere. */

@@ -144,6 +144,18 @@ static int is_untouched(const uint8_t *room, size_t from)
 }
 
 /* ---------------------------------------------------------------------------------------------------------------------
+ * The version */
+
+static void test_version(void)
+{
+    unsigned number = LANECOCKLE_VERSION_NUMBER;
+    char text[36];
+    CHECK(lanecockle_version() == LANECOCKLE_VERSION_NUMBER);
+    snprintf(text, sizeof text, "%u.%u.%u", number / 10000, number / 100 % 100, number % 100);
+    CHECK(strcmp(text, LANECOCKLE_VERSION) == 0);
+}
+
+/* ---------------------------------------------------------------------------------------------------------------------
  * Check digits, accounts, references */
 
 static void test_check_digits(void)
@@ -1208,7 +1220,7 @@ static void (*const tests[])(void) = {
     test_wage_file,      test_wage_refusals,  test_judge_steps,
     test_judge_parts,    test_judge_refused,  test_record_counts,
     test_record_sums,    test_record_conditions, test_record_refusals,
-    test_places,         test_wage_round,
+    test_places,         test_wage_round,     test_version,
 };
 
 int main(void)

@@ -117,6 +117,7 @@ pub struct Record {
 
 #[rustfmt::skip]
 extern "C" {
+    fn lanecockle_version() -> u32;
     fn lanecockle_check_digits(rule: u32, digits: *const u8, length: usize) -> Told;
     fn lanecockle_make_digit(rule: u32, digits: *const u8, length: usize) -> Valued;
     fn lanecockle_iban(text: *const u8, length: usize) -> Told;
@@ -144,6 +145,11 @@ extern "C" {
     fn lanecockle_write_group(day: u64, kind: u64, text: *const u8, text_length: usize, sizes: *const usize, count: usize,
                               orders: *const u8, orders_length: usize, out: *mut u8, room: usize) -> Told;
     fn lanecockle_write_closing(day: u64, out: *mut u8, room: usize) -> Told;
+}
+
+pub fn version() -> u32 {
+    // SAFETY: the call takes nothing.
+    unsafe { lanecockle_version() }
 }
 
 pub fn check_digits(rule: u32, digits: &[u8]) -> Told {

@@ -1,9 +1,10 @@
 //! Lanecockle for Rust: HUB3 payment slips, wage files of 300/301/309/399 lines, wet slips and check digits, as the desk of a
 //! Croatian water rights association checks them.
 //!
-//! The checks are those of a proved library, `libdesk.a`, that this crate links with: `build.rs` looks for it in the folder
-//! that the environment variable `LANECOCKLE_LIB` names, else in `target/staticlib` of the project. Every call answers,
-//! whatever bytes it is given, and keeps nothing, so any number of threads may call.
+//! The checks are those of a proved library, `libdesk.a` in the project and `liblanecockle.a` where it is installed, that this
+//! crate links with: `build.rs` looks for it in the folder that the environment variable `LANECOCKLE_LIB` names, else in the
+//! `lib` of a release archive and in `target/staticlib` of the project. Every call answers, whatever bytes it is given, and
+//! keeps nothing, so any number of threads may call.
 //!
 //! Text is bytes: a slip is UTF-8, a wage file WIN-1250. Every call that can refuse gives a [`Refusal`], with its number, its
 //! place, and one sentence in English or Croatian; what is lent as `out` is then as it was.
@@ -25,16 +26,31 @@
 //! # Ok::<(), lanecockle::Refusal>(())
 //! ```
 //!
-//! Slips are read and written by [`slip`], wage files by [`wage`].
+//! Slips are read and written by [`slip`], wage files by [`wage`]. [`FIELDS`] has the names, places and rules of all fields.
 #![deny(missing_docs, unsafe_code, unsafe_op_in_unsafe_fn)]
 
 #[allow(unsafe_code)]
 mod ffi;
+mod fields;
 mod refusal;
 pub mod slip;
+#[rustfmt::skip]
+mod tables;
 pub mod wage;
 
-pub use refusal::{InCroatian, Kind, Refusal};
+pub use fields::{Field, Layout};
+pub use refusal::{InCroatian, Language, Refusal};
+pub use tables::{Kind, FIELDS, VERSION};
+
+/// The version of the library that this crate is linked with, as `1.0.0`; that of the crate is [`VERSION`].
+///
+/// ```
+/// assert_eq!(lanecockle::version(), lanecockle::VERSION);
+/// ```
+pub fn version() -> String {
+    let number = ffi::version();
+    format!("{}.{}.{}", number / 10_000, number / 100 % 100, number % 100)
+}
 
 /// A rule of check digits.
 ///

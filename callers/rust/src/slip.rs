@@ -1,4 +1,5 @@
-//! Slips: the bytes of a HUB3 barcode, fourteen fields that each end in a line feed.
+//! Slips: the bytes of a HUB3 barcode, fourteen fields that each end in a line feed; [`FIELDS`](crate::FIELDS) tells their
+//! names and widths.
 //!
 //! ```
 //! use lanecockle::slip;

@@ -1,7 +1,8 @@
 //! Wage files: lines of 1,002 bytes, judged whole or line by line, queried and written.
 //!
 //! A file is one 300 (the label), groups of one 301 and its 309 lines (the orders), and one 399. A day is a number, YYYYMMDD.
-//! A writer takes each field as the bytes of its positions, with its blanks and zeros.
+//! A writer takes each field as the bytes of its positions, with its blanks and zeros; [`FIELDS`](crate::FIELDS) tells which
+//! these are.
 //!
 //! ```
 //! use lanecockle::wage;

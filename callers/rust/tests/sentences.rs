@@ -1,34 +1,63 @@
-//! The sentences of refusals, in both languages, as ../sentences.txt gives them.
+//! The sentences of refusals, in both languages, as ../told.txt has them, which has one of each in ../sentences.txt.
 
-use lanecockle::{Kind, Refusal};
+use lanecockle::{Kind, Language, Refusal};
 use std::collections::HashSet;
 use std::error::Error;
 
+const TOLD: &str = include_str!("../../told.txt");
 const SENTENCES: &str = include_str!("../../sentences.txt");
 
-/// The refusals of the file, each with its two sentences.
-fn sentences() -> impl Iterator<Item = (Refusal, &'static str, &'static str)> {
-    SENTENCES.lines().filter(|line| !line.starts_with('#')).map(|line| {
-        let parts: Vec<&str> = line.split('|').collect();
-        let numbers: Vec<usize> = parts[0].split(' ').map(|number| number.parse().unwrap()).collect();
+/// The rows of a table, each in its parts.
+fn rows(table: &'static str) -> impl Iterator<Item = Vec<&'static str>> {
+    table.lines().filter(|line| !line.starts_with('#')).map(|line| line.split('|').collect())
+}
+
+/// The examples: each a refusal with its two sentences.
+fn examples() -> impl Iterator<Item = (Refusal, [&'static str; 2])> {
+    rows(TOLD).map(|row| {
+        let numbers: Vec<usize> = row[0].split(' ').map(|number| number.parse().unwrap()).collect();
         let kind = Kind::from_number(numbers[0]).unwrap();
         let refusal = Refusal { kind, line: numbers[1], field: numbers[2], byte: numbers[3], needed: numbers[4] };
-        (refusal, parts[1], parts[2])
+        (refusal, [row[1], row[2]])
     })
 }
 
+/// A text without its first letter, which a sentence has as a capital where no place stands before it.
+fn tail(text: &str) -> &str {
+    let mut letters = text.chars();
+    letters.next();
+    letters.as_str()
+}
+
+/// Whether an example says a row of sentences.txt, in both languages.
+fn says(example: &(Refusal, [&str; 2]), row: &[&str]) -> bool {
+    let (refusal, told) = example;
+    let needed = refusal.needed.to_string();
+    row[0] == refusal.kind.number().to_string()
+        && told.iter().zip(&row[2..]).all(|(told, what)| told.ends_with(&tail(what).replace("{needed}", &needed)))
+}
+
 #[test]
-fn sentences_are_those_of_the_file() {
-    for (refusal, english, croatian) in sentences() {
+fn sentences_are_those_of_the_examples() {
+    for (refusal, [english, croatian]) in examples() {
         assert_eq!(refusal.to_string(), english);
         assert_eq!(refusal.in_croatian().to_string(), croatian);
+        assert_eq!(refusal.sentence(Language::English), english);
+        assert_eq!(refusal.sentence(Language::Croatian), croatian);
     }
 }
 
 #[test]
-fn the_file_has_every_kind() {
-    let kinds: HashSet<Kind> = sentences().map(|(refusal, ..)| refusal.kind).collect();
-    assert_eq!(kinds.len(), Kind::ALL.len());
+fn every_sentence_has_an_example() {
+    let sentences: Vec<Vec<&str>> = rows(SENTENCES).filter(|row| row.len() == 4).collect();
+    assert!(sentences.len() > Kind::ALL.len());
+    for row in &sentences {
+        assert!(examples().any(|example| says(&example, row)), "no example of {row:?}");
+    }
+    for example in examples() {
+        let said = sentences.iter().filter(|row| says(&example, row)).count();
+        assert_eq!(said, 1, "{example:?}");
+    }
 }
 
 /// The sentences of all kinds, told of one place.
@@ -45,8 +74,19 @@ fn sentences_are_distinct_and_whole() {
         for sentence in all {
             assert!(sentence.ends_with('.') && sentence.len() > 10);
             assert!(sentence.starts_with(char::is_uppercase));
+            assert!(!sentence.contains('{'));
         }
     }
+}
+
+#[test]
+fn a_sentence_is_its_place_and_what_is_wrong() {
+    let refusal = Refusal { kind: Kind::Byte, line: 3, field: 10, byte: 350, needed: 0 };
+    assert_eq!(refusal.place(Language::English), "line 3, field 10, position 351");
+    assert_eq!(refusal.place(Language::Croatian), "slog 3, polje 10, pozicija 351");
+    assert_eq!(refusal.what(Language::English), "this byte is not permitted here.");
+    assert_eq!(refusal.what(Language::Croatian), "ovaj znak ovdje nije dozvoljen.");
+    assert_eq!(Refusal { line: 0, field: 0, byte: 0, ..refusal }.place(Language::English), "");
 }
 
 #[test]

@@ -1,0 +1,497 @@
+"""The command `lanecockle`: slips, wage files, wet slips, accounts, references, check digits, judged and explained."""
+
+import argparse
+import contextlib
+import datetime
+import io
+import json
+import os
+import re
+import stat
+import sys
+import time
+from typing import (
+    Any, Callable, ContextManager, Dict, Iterator, List, Mapping, NamedTuple, Optional, Sequence, TextIO, Tuple, cast,
+)
+
+from . import explain
+from .calls import LINE, Bytes, Rule, iban, list_iban, list_reference, make_digit, oib, reference, slip_cents
+from .explain import Shown, count, money
+from .judging import Accepted, Judging
+from .refusal import LANGUAGES, Refusal
+from .scan import scanned
+from .tables import FIELDS, VERSION
+
+PROGRAM = "lanecockle"
+
+#: The bytes that are read of a wage file at once, and at most of what should be a slip or a typed line.
+_PART = 1 << 20
+_MOST = 1 << 16
+
+_RULES = {"ini": Rule.INI, "mod11": Rule.MOD_11_10}
+
+#: What the answers say, in English and Croatian.
+_WORDS: Dict[str, Tuple[str, str]] = {
+    "accepted": ("accepted", "prihvaćeno"),
+    "changed": ("mended: what the barcode reader had added or lost",
+                "ispravljeno: što je čitač barkoda dodao ili izgubio"),
+    "scan": ("With --scan this slip is accepted.", "Uz --scan ova je uplatnica prihvaćena."),
+    "counts": ("accepted: lines {}, groups {}, orders {}, sum {}",
+               "prihvaćeno: slogova {}, grupa {}, naloga {}, zbroj {}"),
+    "fillings": ("fillings: {}", "mogućih dopuna: {}"),
+    "digit": ("check digit: {}", "kontrolni broj: {}"),
+    "number": ("number with it: {}", "broj s kontrolnim brojem: {}"),
+    "progress": ("{} MB, lines {}, orders {}", "{} MB, slogova {}, naloga {}"),
+    "of": ("{} of {}", "{} od {}"),
+    "unreadable": ("{}: cannot be read: {}", "{}: ne može se pročitati: {}"),
+    "unwritable": ("the answer cannot be written: {}", "odgovor se ne može ispisati: {}"),
+    "input": ("standard input", "standardni ulaz"),
+    "see": ("{} (see {} --help)", "{} (pomoć: {} --help)"),
+}
+
+#: What --help says.
+_HELP: Dict[str, Tuple[str, str]] = {
+    "about": ("Judges HUB3 payment slips, wage files, IBANs, OIBs and references, and explains what is wrong.",
+              "Provjerava uplatnice HUB3, datoteke osobnih primanja, IBAN, OIB i poziv na broj te objašnjava što nije "
+              "ispravno."),
+    "status": ("Exit status: 0 accepted, 1 refused, 2 wrong usage or a file that cannot be read.",
+               "Izlazni status: 0 prihvaćeno, 1 odbijeno, 2 pogrešna uporaba ili datoteka koja se ne može pročitati."),
+    "commands": ("commands", "naredbe"),
+    "arguments": ("arguments", "argumenti"),
+    "options": ("options", "opcije"),
+    "help": ("show this help and end", "ispiši ovu pomoć i završi"),
+    "version": ("show the version and end", "ispiši verziju i završi"),
+    "lang": ("language: en or hr (else that of the environment)", "jezik: en ili hr (inače jezik okoline)"),
+    "json": ("answer with one line of JSON", "odgovori jednim retkom u formatu JSON"),
+    "slip": ("judge a slip, the bytes of its barcode", "provjeri uplatnicu, sadržaj njezina barkoda"),
+    "wage": ("judge a wage file of 300, 301, 309 and 399 lines",
+             "provjeri datoteku osobnih primanja (slogovi 300, 301, 309 i 399)"),
+    "wet": ("list what an IBAN or a reference with ? for unreadable digits may be",
+            "ispiši moguće dopune IBAN-a ili poziva na broj u kojem ? stoji za nečitljivu znamenku"),
+    "iban": ("judge an IBAN", "provjeri IBAN"),
+    "oib": ("judge an OIB", "provjeri OIB"),
+    "reference": ("judge a reference under its model", "provjeri poziv na broj prema modelu"),
+    "digit": ("make the check digit of a number", "izračunaj kontrolni broj"),
+    "page": ("serve the page to try it all in a browser", "pokreni stranicu za isprobavanje u pregledniku"),
+    "file": ("a file; standard input if none or -", "datoteka; standardni ulaz ako je nema ili je -"),
+    "text": ("the text; one line of standard input if none", "tekst; jedan redak standardnog ulaza ako ga nema"),
+    "model": ("the model, as HR01", "model, npr. HR01"),
+    "of wet": ("the model, as HR01, for a reference; none for an IBAN",
+               "model, npr. HR01, za poziv na broj; bez njega za IBAN"),
+    "rule": ("the rule: ini or mod11", "pravilo: ini ili mod11"),
+    "digits": ("the digits; one line of standard input if none", "znamenke; jedan redak standardnog ulaza ako ih nema"),
+    "scan": ("mend first what barcode readers add or lose", "najprije ispravi što čitači barkoda dodaju ili gube"),
+    "day": ("the day of submission, YYYYMMDD (today if none)", "dan podnošenja, GGGGMMDD (inače današnji)"),
+    "port": ("the port (a free one if none)", "port (inače bilo koji slobodan)"),
+    "no-browser": ("open no browser", "ne otvaraj preglednik"),
+}
+
+
+class Answer(NamedTuple):
+    """What a command answers: whether it accepts, the facts for JSON, the lines for a person."""
+
+    accepted: bool
+    facts: Dict[str, object]
+    text: str
+
+
+class Failure(Exception):
+    """Wrong usage, or a file that cannot be read: one line about it."""
+
+
+def main(arguments: Optional[Sequence[str]] = None) -> int:
+    """Runs the command and gives its exit status: 0 accepted, 1 refused, 2 wrong usage or an unreadable file."""
+    try:
+        return _run(sys.argv[1:] if arguments is None else list(arguments))
+    except SystemExit as ended:
+        return int(ended.code or 0)
+    except Failure as failure:
+        said = "".join(character if character.isprintable() else "·" for character in str(failure))
+        _write(sys.stderr, f"{PROGRAM}: {said}\n")
+        return 2
+    except KeyboardInterrupt:
+        return 130
+
+
+def _run(arguments: List[str]) -> int:
+    common, rest = _common().parse_known_args(arguments)
+    language = common.lang or _language(os.environ)
+    if common.version:
+        _deliver(f"{PROGRAM} {VERSION}\n", language)
+        return 0
+    asked = _parser(language).parse_args(rest)
+    if asked.command == "page":
+        from .page import serve
+        return serve(asked.port, not asked.no_browser, language)
+    answer = _COMMANDS[asked.command](asked, language)
+    facts = json.dumps({"accepted": answer.accepted, **answer.facts})
+    _deliver((facts if common.json else answer.text) + "\n", language)
+    return 0 if answer.accepted else 1
+
+
+def _language(environment: Mapping[str, str]) -> str:
+    """The language of an environment: Croatian where it says so, else English."""
+    named = next((environment[name] for name in ("LC_ALL", "LC_MESSAGES", "LANG") if environment.get(name)), "")
+    return "hr" if re.match(r"hr(?![A-Za-z])", named) else "en"
+
+
+def _say(word: str, language: str, *values: object) -> str:
+    return _WORDS[word][LANGUAGES.index(language)].format(*values)
+
+
+# ----------------------------------------------------------------------------------------------------------------------
+# What is asked
+
+
+class _CroatianHelp(argparse.HelpFormatter):
+    """Help whose first word is Croatian too."""
+
+    def add_usage(self, usage: Any, actions: Any, groups: Any, prefix: Optional[str] = None) -> None:
+        super().add_usage(usage, actions, groups, "uporaba: " if prefix is None else prefix)
+
+
+class _Parser(argparse.ArgumentParser):
+    """A parser that speaks both languages and says what is wrong in one line."""
+
+    def __init__(self, language: str, **given: Any) -> None:
+        formatter = argparse.HelpFormatter if language == "en" else _CroatianHelp
+        super().__init__(add_help=False, allow_abbrev=False, formatter_class=formatter, **given)
+        self._language = language
+        self.taken = self.add_argument_group(self.help_of("arguments"))
+        self.options = self.add_argument_group(self.help_of("options"))
+
+    def help_of(self, word: str) -> str:
+        return _HELP[word][LANGUAGES.index(self._language)]
+
+    def take(self, *names: str, word: str, **given: Any) -> None:
+        """Takes an argument or, by names with hyphens, an option."""
+        group = self.options if names[0].startswith("-") else self.taken
+        group.add_argument(*names, help=self.help_of(word), **given)
+
+    def take_common(self) -> None:
+        """Takes the options that may stand anywhere."""
+        self.take("--lang", word="lang", choices=LANGUAGES)
+        self.take("--json", word="json", action="store_true")
+        self.take("--version", word="version", action="store_true")
+
+    def print_help(self, file: Any = None) -> None:
+        _deliver(self.format_help(), self._language)
+
+    def error(self, message: str) -> Any:
+        raise Failure(_say("see", self._language, message, self.prog))
+
+
+def _common() -> _Parser:
+    """The parser of the options that may stand before the command, behind it, or between its arguments."""
+    parser = _Parser("en", prog=PROGRAM)
+    parser.take_common()
+    return parser
+
+
+def _parser(language: str) -> _Parser:
+    """The parser of the rest. It takes the common options too, so that its help names them."""
+    parser = _Parser(language, prog=PROGRAM)
+    parser.description, parser.epilog = parser.help_of("about"), parser.help_of("status")
+    commands = parser.add_subparsers(title=parser.help_of("commands"), dest="command", metavar="COMMAND", required=True)
+    made = {}
+    for name in [*_COMMANDS, "page"]:
+        about = parser.help_of(name)
+        whole = about[0].upper() + about[1:] + "."
+        made[name] = commands.add_parser(name, language=language, help=about, description=whole)
+    _take_arguments(made)
+    for each in [parser, *made.values()]:
+        each.take("-h", "--help", word="help", action="help")
+        each.take_common()
+    return parser
+
+
+def _take_arguments(made: Dict[str, _Parser]) -> None:
+    """Gives each command its arguments and options."""
+    for name in ("slip", "wage"):
+        made[name].take("file", word="file", metavar="FILE", nargs="?", default="-")
+    made["slip"].take("--scan", word="scan", action="store_true")
+    made["wage"].take("--day", word="day", metavar="YYYYMMDD", type=_day)
+    made["wet"].take("model", word="of wet", metavar="MODEL", nargs="?")
+    made["reference"].take("model", word="model", metavar="MODEL")
+    made["digit"].take("rule", word="rule", metavar="RULE", choices=sorted(_RULES))
+    for name in ("wet", "iban", "oib", "reference"):
+        made[name].take("text", word="text", metavar="TEXT", nargs="?")
+    made["digit"].take("text", word="digits", metavar="DIGITS", nargs="?")
+    made["page"].take("--port", word="port", metavar="PORT", type=_port, default=0)
+    made["page"].take("--no-browser", word="no-browser", action="store_true")
+
+
+def _day(text: str) -> int:
+    if not re.fullmatch("[0-9]{8}", text):
+        raise argparse.ArgumentTypeError(f"not YYYYMMDD: {text!r}")
+    return int(text)
+
+
+def _port(text: str) -> int:
+    if not re.fullmatch("[0-9]{1,5}", text) or int(text) > 65_535:
+        raise argparse.ArgumentTypeError(f"not a port: {text!r}")
+    return int(text)
+
+
+# ----------------------------------------------------------------------------------------------------------------------
+# What is read
+
+
+@contextlib.contextmanager
+def _reading(name: str, language: str) -> Iterator[io.BufferedIOBase]:
+    """A file by its name, `-` for standard input; one that cannot be opened or read is a Failure."""
+    shown = _say("input", language) if name == "-" else name
+    try:
+        with _opened(name) as file:
+            yield file
+    except OSError as failure:
+        raise Failure(_say("unreadable", language, shown, failure.strerror or failure)) from None
+
+
+def _opened(name: str) -> ContextManager[io.BufferedIOBase]:
+    if name != "-":
+        return cast(ContextManager[io.BufferedIOBase], open(name, "rb"))
+    if sys.stdin is None:
+        raise OSError("closed")
+    return contextlib.nullcontext(cast(io.BufferedIOBase, sys.stdin.buffer))
+
+
+def _size(file: io.BufferedIOBase) -> int:
+    """The size of a file, 0 where it is not known."""
+    try:
+        found = os.fstat(file.fileno())
+    except OSError:
+        return 0
+    return found.st_size if stat.S_ISREG(found.st_mode) else 0
+
+
+def _typed(text: Optional[str], language: str) -> bytes:
+    """A text as it was typed, or one line of standard input without its line end."""
+    if text is not None:
+        return text.encode("utf-8", "surrogateescape")
+    with _reading("-", language) as file:
+        line = file.readline(_MOST)
+    line = line[:-1] if line.endswith(b"\n") else line
+    return line[:-1] if line.endswith(b"\r") else line
+
+
+# ----------------------------------------------------------------------------------------------------------------------
+# What is written
+
+
+def _write(stream: Optional[TextIO], text: str) -> None:
+    """Writes text, with `?` for what the stream's encoding does not have."""
+    if stream is not None:
+        encoding = stream.encoding or "utf-8"
+        stream.write(text.encode(encoding, "replace").decode(encoding))
+        stream.flush()
+
+
+def _deliver(text: str, language: str) -> None:
+    """Writes to standard output; that nobody reads on is no fault."""
+    try:
+        _write(sys.stdout, text)
+    except OSError as failure:
+        # Python writes out what is left once more at its end.
+        os.dup2(os.open(os.devnull, os.O_WRONLY), sys.stdout.fileno())
+        if not isinstance(failure, BrokenPipeError):
+            raise Failure(_say("unwritable", language, failure.strerror)) from None
+
+
+class Progress:
+    """A bar on a terminal for what takes longer than a second; on any other stream nothing."""
+
+    _BAR = 16
+    _PATIENCE = 1.0
+    _PAUSE = 0.1
+
+    def __init__(
+        self, stream: Optional[TextIO], size: int, language: str, clock: Callable[[], float] = time.monotonic,
+    ) -> None:
+        self._stream = stream if stream is not None and stream.isatty() else None
+        self._size = size
+        self._language = language
+        self._clock = clock
+        self._next = clock() + self._PATIENCE
+        self._width = 0
+
+    def tell(self, done: int, judging: Judging) -> None:
+        """Shows the bytes, lines and orders read so far, if it is time to."""
+        if self._stream is None or self._clock() < self._next:
+            return
+        self._next = self._clock() + self._PAUSE
+        line = self._line(done, judging)
+        _write(self._stream, "\r" + line.ljust(self._width))
+        self._width = len(line)
+
+    def clear(self) -> None:
+        """Takes the bar away."""
+        if self._width:
+            _write(self._stream, "\r" + " " * self._width + "\r")
+            self._width = 0
+
+    def _line(self, done: int, judging: Judging) -> str:
+        language = self._language
+        read = count(done // 10**6, language)
+        lines, orders = count(judging.lines, language), count(judging.orders, language)
+        if not self._size:
+            return _say("progress", language, read, lines, orders)
+        filled = min(self._BAR, self._BAR * done // self._size)
+        read = _say("of", language, read, count(self._size // 10**6, language))
+        return f"[{'#' * filled}{'-' * (self._BAR - filled)}] " + _say("progress", language, read, lines, orders)
+
+
+# ----------------------------------------------------------------------------------------------------------------------
+# The commands
+
+
+def _refused(shown: Shown, language: str) -> Answer:
+    return Answer(False, {"refusal": shown.as_dict()}, shown.text(language))
+
+
+def _slip(asked: argparse.Namespace, language: str) -> Answer:
+    """A slip: its amount and every field with its name."""
+    with _reading(asked.file, language) as file:
+        read = file.read(_MOST)
+    data = scanned(read) if asked.scan else read
+    try:
+        cents = slip_cents(data)
+    except Refusal as refusal:
+        shown = explain.of_slip(refusal, data, language)
+        mended = [_say("scan", language)] if _is_slip(scanned(data)) else []
+        return _refused(shown._replace(hints=shown.hints + mended), language)
+    fields = _fields(data, language)
+    lines = [_say("accepted", language)] + ([_say("changed", language)] if data != read else [])
+    for field in fields:
+        content = money(cents, language) if field["number"] == 3 else field["content"]
+        lines.append(f"  {field['number']:2} {field['name']}: {content}".rstrip())
+    return Answer(True, {"changed": data != read, "cents": cents, "fields": fields}, "\n".join(lines))
+
+
+def _is_slip(data: bytes) -> bool:
+    try:
+        slip_cents(data)
+    except Refusal:
+        return False
+    return True
+
+
+def _fields(slip: bytes, language: str) -> List[Dict[str, Any]]:
+    """The fourteen fields of an accepted slip, with their names."""
+    at = LANGUAGES.index(language)
+    return [
+        {"number": number, "name": FIELDS["slip", number].name[at], "content": content.decode()}
+        for number, content in enumerate(slip.split(b"\n")[:14], 1)
+    ]
+
+
+def _wage(asked: argparse.Namespace, language: str) -> Answer:
+    """A wage file, read in parts: its counts and the sum of its orders."""
+    judging = Judging(_today() if asked.day is None else asked.day, language)
+    with _reading(asked.file, language) as file:
+        progress = Progress(sys.stderr, _size(file), language)
+        try:
+            _feed(judging, file, progress)
+        finally:
+            progress.clear()
+    ended = judging.end()
+    if not isinstance(ended, Accepted):
+        return _refused(ended, language)
+    counts = [count(number, language) for number in ended[:3]]
+    return Answer(True, ended._asdict(), _say("counts", language, *counts, money(ended.cents, language)))
+
+
+def _feed(judging: Judging, file: io.BufferedIOBase, progress: Progress) -> None:
+    """Feeds a file to its judging, until its end or a refusal; hints are made of its first two lines."""
+    done = 0
+    part = file.read1(_PART)
+    while part:
+        judging.feed(part)
+        done += len(part)
+        if judging.refused and done >= 2 * LINE:
+            return
+        progress.tell(done, judging)
+        part = file.read1(_PART)
+
+
+def _today() -> datetime.date:
+    return datetime.date.today()
+
+
+def _wet(asked: argparse.Namespace, language: str) -> Answer:
+    """The fillings of an IBAN, or of a reference under its model."""
+    model, text = _wet_texts(asked, language)
+    try:
+        if model is None:
+            texts = list_iban(text, texts=True)
+        else:
+            texts = list_reference(model, text, texts=True)
+    except Refusal as refusal:
+        return _text_refused(refusal, "iban" if model is None else "reference", model, text, language)
+    fillings = [cast(bytes, filling).decode() for filling in texts]
+    facts = {"count": len(fillings), "fillings": fillings}
+    return Answer(True, facts, "\n".join([_say("fillings", language, len(fillings))] + fillings))
+
+
+def _wet_texts(asked: argparse.Namespace, language: str) -> Tuple[Optional[bytes], bytes]:
+    """The model, or none, and the text; a line has a model where its only blank follows four characters."""
+    if asked.text is not None:
+        return _typed(asked.model, language), _typed(asked.text, language)
+    line = _typed(asked.model, language)
+    if asked.model is None and line.count(b" ") == 1 and line.index(b" ") == 4:
+        return line[:4], line[5:]
+    return None, line
+
+
+def _iban(asked: argparse.Namespace, language: str) -> Answer:
+    return _checked("iban", iban, asked, language)
+
+
+def _oib(asked: argparse.Namespace, language: str) -> Answer:
+    return _checked("oib", oib, asked, language)
+
+
+def _checked(what: str, call: Callable[[Bytes], None], asked: argparse.Namespace, language: str) -> Answer:
+    """An IBAN or an OIB."""
+    text = _typed(asked.text, language)
+    try:
+        call(text)
+    except Refusal as refusal:
+        return _text_refused(refusal, what, None, text, language, placed=True)
+    return Answer(True, {"text": text.decode()}, _say("accepted", language))
+
+
+def _reference(asked: argparse.Namespace, language: str) -> Answer:
+    """A reference under its model."""
+    model, text = _typed(asked.model, language), _typed(asked.text, language)
+    try:
+        reference(model, text)
+    except Refusal as refusal:
+        return _text_refused(refusal, "reference", model, text, language, placed=True)
+    return Answer(True, {"model": model.decode(), "text": text.decode()}, _say("accepted", language))
+
+
+def _digit(asked: argparse.Namespace, language: str) -> Answer:
+    """The check digit of a number, and the whole number with it."""
+    digits = _typed(asked.text, language)
+    try:
+        digit = make_digit(_RULES[asked.rule], digits)
+    except Refusal as refusal:
+        return _text_refused(refusal, "digits", None, digits, language)
+    number = f"{digits.decode()}{digit}"
+    text = "\n".join((_say("digit", language, digit), _say("number", language, number)))
+    return Answer(True, {"digit": digit, "number": number}, text)
+
+
+def _text_refused(
+    refusal: Refusal, what: str, model: Optional[bytes], text: bytes, language: str, placed: bool = False,
+) -> Answer:
+    """A typed text refused; of a reference 5 and 7 are said of its model."""
+    if model is not None and refusal.number in (5, 7):
+        what, text = "model", model
+    return _refused(explain.of_text(refusal, what, text, language, placed, model or b""), language)
+
+
+_COMMANDS: Dict[str, Callable[[argparse.Namespace, str], Answer]] = {
+    "slip": _slip, "wage": _wage, "wet": _wet, "iban": _iban, "oib": _oib, "reference": _reference, "digit": _digit,
+}
