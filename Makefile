@@ -28,7 +28,7 @@ SOFILE = liblanecockle.so.$(VERSION)
 .PHONY: all install uninstall wheel release help
 
 all: $(STATIC) $(SHARED) $(PROGRAMS)
-	@echo "built: $^"
+	@echo "there: $^"
 
 $(STATIC):
 	@echo "$@ is proved and written: with the programs about nine minutes on two cores"
@@ -42,7 +42,7 @@ $(PROGRAMS): target/bin/%:
 	@echo "$@ is proved and built: some minutes, fewer once the library is there"
 	@rt check $*
 
-install: all
+install: $(STATIC) $(SHARED) $(PROGRAMS)
 	@install -d $(addprefix $(DESTDIR),$(BINDIR) $(LIBDIR)/pkgconfig $(INCLUDEDIR) $(DOCDIR))
 	@install -m 755 $(PROGRAMS) $(DESTDIR)$(BINDIR)
 	@install -m 644 include/lanecockle.h $(DESTDIR)$(INCLUDEDIR)

@@ -99,13 +99,14 @@ def platform(shared: bytes) -> str:
     """The platform that a shared library is for, as wheels name it.
 
     `manylinux2014` promises that no library but those of every Linux is needed, and of glibc nothing newer than 2.17:
-    liblanecockle.so needs memcpy and memset alone.
+    liblanecockle.so needs memcpy and memset alone. A linker that packs relocations asks for a newer glibc (GLIBC_ABI).
     """
     machine = MACHINES.get(int.from_bytes(shared[18:20], "little"))
     if shared[:6] != b"\x7fELF\x02\x01" or machine is None:
         raise SystemExit("lanecockle: the shared library is for no machine that is known here")
     needed = [(int(first), int(second)) for first, second in re.findall(rb"GLIBC_([0-9]+)\.([0-9]+)", shared)]
-    return f"manylinux2014_{machine}" if max(needed, default=(0, 0)) <= MANYLINUX else f"linux_{machine}"
+    is_old = max(needed, default=(0, 0)) <= MANYLINUX and b"GLIBC_ABI" not in shared
+    return f"manylinux2014_{machine}" if is_old else f"linux_{machine}"
 
 
 # ----------------------------------------------------------------------------------------------------------------------

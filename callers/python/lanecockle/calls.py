@@ -82,6 +82,11 @@ def _room(size: int) -> Any:
     return ctypes.create_string_buffer(size)
 
 
+def _front(room: Any, length: int) -> bytes:
+    """What was written at the front of lent room."""
+    return bytes(room.raw[:length])
+
+
 def _part(value: bytes, part: Part) -> bytes:
     return value[part.start:part.start + part.length]
 
@@ -181,7 +186,7 @@ def filled(text: Bytes, number: int) -> bytes:
     text = _bytes(text)
     out = _room(len(text))
     accept(_CALLS["filled"](*_lent(text), _number(number, 16), out, len(text)))
-    return out.raw
+    return _front(out, len(text))
 
 
 # ----------------------------------------------------------------------------------------------------------------------
@@ -240,7 +245,7 @@ def slip_write(cents: int, fields: Sequence[Bytes]) -> bytes:
     """
     out = _room(_SLIP)
     length = _value(_CALLS["slip_write"](_number(cents), *_fields(fields, 11), out, _SLIP))
-    written: bytes = out.raw[:length]
+    written = _front(out, length)
     warn_of_barcode(written)
     return written
 
@@ -355,4 +360,4 @@ def _written(name: str, *lent: Any) -> bytes:
     """The line that a writer writes."""
     out = _room(LINE)
     accept(_CALLS[name](*lent, out, LINE))
-    return out.raw
+    return _front(out, LINE)

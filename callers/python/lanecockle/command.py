@@ -192,8 +192,9 @@ def _parser(language: str) -> _Parser:
     """The parser of the rest. It takes the common options too, so that its help names them."""
     parser = _Parser(language, prog=PROGRAM)
     parser.description, parser.epilog = parser.help_of("about"), parser.help_of("status")
-    commands = parser.add_subparsers(title=parser.help_of("commands"), dest="command", metavar="COMMAND", required=True)
-    made = {}
+    titled = parser.help_of("commands")
+    commands: Any = parser.add_subparsers(title=titled, dest="command", metavar="COMMAND", required=True)
+    made: Dict[str, _Parser] = {}
     for name in [*_COMMANDS, "page"]:
         about = parser.help_of(name)
         whole = about[0].upper() + about[1:] + "."

@@ -119,8 +119,7 @@ class Shown(NamedTuple):
             said = "with it" if counted > declared else "orders"
             return [_say(said, language, count(declared, language), count(counted, language))]
         if self.number == 13 and self.figures:
-            declared, summed = (money(self.figures[name], language) for name in ("declared", "summed"))
-            return [_say("sum", language, declared, summed)]
+            return [_say("sum", language, *(money(self.figures[name], language) for name in ("declared", "summed")))]
         if self.number in (1, 2) and self.line:
             return self._length(language)
         return []

@@ -264,8 +264,8 @@ HINTS: Dict[str, Tuple[str, str]] = {
         "{date} is not a date: month {month} of {year} has no day {day}, its last is {last}. Correct the day.",
         "{date} nije datum: mjesec {month} u godini {year} nema dan {day}, zadnji je {last}. Ispravite dan."),
     "other_day": (
-        "The file is dated {date}, and the day of submission is {due}. Submit it on its date, or date it {due}.",
-        "Datum u datoteci je {date}, a dan podnošenja {due}. Podnesite datoteku na taj datum ili upišite {due}."),
+        "The file is dated {date}, and the day of submission is {due}. Either date it {due}, or submit it on its date.",
+        "Datum u datoteci je {date}, a dan podnošenja {due}. Podnesite datoteku na njezin datum ili upišite {due}."),
     "before": (
         "The orders are to be executed on {date}, before the day of submission, {due}. Write {due} or a later day.",
         "Datum izvršenja je {date}, prije dana podnošenja, {due}. Upišite {due} ili kasniji dan."),
@@ -577,6 +577,7 @@ def _wage_field(line: bytes, refusal: Refusal, day: int) -> Iterator[_Found]:
     letter = _letter_of_utf8(line)
     if refusal.number == 3 and letter and line[refusal.byte:refusal.byte + 1] >= b"\x80":
         yield "utf8", {"letter": letter}
+        return
     kind = _KINDS.get(place, "text")
     text = _cut(line, field)
     if kind == "date" and refusal.number == 11:

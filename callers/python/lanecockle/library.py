@@ -135,7 +135,7 @@ def load() -> Dict[str, Callable[..., Any]]:
     if not found.is_file():
         raise ImportError(f"there is no {found}; write it with callers/build, or name it or its folder in LANECOCKLE_LIB")
     library = ctypes.CDLL(str(found.resolve()))
-    functions = {}
+    functions: Dict[str, Callable[..., Any]] = {}
     for name, (answer, taken) in _FUNCTIONS.items():
         function = library["lanecockle_" + name]
         function.restype = answer

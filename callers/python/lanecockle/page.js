@@ -46,8 +46,8 @@ const TEXTS = {
     amount: "Amount",
     number: "No.",
     empty: "empty",
-    mended: "What the barcode reader had added (line ends, a prefix or the like) was put right first.",
-    wetLead: "Type ? for each unreadable digit, four at most, and choose among what they may have been.",
+    mended: "What the barcode reader had added or lost was put right first.",
+    wetLead: "Type ? for each unreadable digit (four at most) and choose among the fillings.",
     kind: "What is to be read",
     iban: "IBAN",
     reference: "Reference",
@@ -55,8 +55,8 @@ const TEXTS = {
     model: "Model",
     check: "Check",
     right: "This is right as it stands.",
-    none: "There are no digits that make this right: another digit must have been misread.",
-    fillings: "Possible: {count}",
+    none: "No filling is right: another digit was probably misread.",
+    fillings: "Possible fillings: {count}",
     shown: "The first {shown} are listed.",
     choose: "Choose the one that fits the slip:",
     chosen: "Chosen",
@@ -71,15 +71,15 @@ const TEXTS = {
   },
   hr: {
     title: "Lanecockle: stranica za probu",
-    lead: "Provjerava datoteke s plaćama i uplatnice HUB3 na ovom računalu. Ništa se ne pohranjuje niti šalje dalje.",
+    lead: "Provjerava datoteke osobnih primanja i uplatnice HUB3 na ovom računalu. Ništa se ne pohranjuje niti šalje.",
     language: "Jezik",
     parts: "Dijelovi stranice",
-    wage: "Datoteka s plaćama",
+    wage: "Osobna primanja",
     slip: "Uplatnica",
     wet: "Mokra uplatnica",
-    wageLead: "Datoteka sa slogovima 300, 301, 309 i 399, provjerena za dan podnošenja.",
+    wageLead: "Datoteka sa slogovima 300, 301, 309 i 399; provjerava se za dan podnošenja.",
     day: "Dan podnošenja",
-    chooseWage: "Odaberite datoteku s plaćama",
+    chooseWage: "Odaberite datoteku osobnih primanja",
     chooseSlip: "Odaberite datoteku skeniranog barkoda",
     orDrop: "ili je ispustite ovdje",
     again: "Provjeri ponovno",
@@ -101,7 +101,7 @@ const TEXTS = {
     markedPosition: "označena je pozicija {place}",
     markedCharacter: "označen je {place}. znak",
     declared: "Upisano u slogu 301",
-    counted: "Izbrojeno",
+    counted: "Prebrojeno",
     summed: "Zbrojeno",
     hints: "Što učiniti",
     slipLead: "Sadržaj barkoda s uplatnice, onako kako ga daje čitač.",
@@ -111,8 +111,8 @@ const TEXTS = {
     amount: "Iznos",
     number: "Br.",
     empty: "prazno",
-    mended: "Prije čitanja ispravljeno je ono što je dodao čitač barkoda (krajevi redaka, prefiks i slično).",
-    wetLead: "Za svaku nečitljivu znamenku upišite ?, najviše četiri puta, i odaberite među mogućim znamenkama.",
+    mended: "Prije čitanja ispravljeno je ono što je čitač barkoda dodao ili izgubio.",
+    wetLead: "Za svaku nečitljivu znamenku upišite ? (najviše četiri) i odaberite među mogućim dopunama.",
     kind: "Što treba pročitati",
     iban: "IBAN",
     reference: "Poziv na broj",
@@ -120,8 +120,8 @@ const TEXTS = {
     model: "Model",
     check: "Provjeri",
     right: "Ovako je ispravno.",
-    none: "Ni uz koje znamenke ovo nije ispravno: vjerojatno je pogrešno pročitana neka druga znamenka.",
-    fillings: "Mogućnosti: {count}",
+    none: "Nijedna dopuna nije ispravna: vjerojatno je pogrešno pročitana neka druga znamenka.",
+    fillings: "Moguće dopune: {count}",
     shown: "Navedeno je prvih {shown}.",
     choose: "Odaberite onu koja odgovara uplatnici:",
     chosen: "Odabrano",
@@ -129,7 +129,7 @@ const TEXTS = {
     copied: "Kopirano",
     noDay: "Upišite dan podnošenja.",
     noText: "Još ništa nije upisano.",
-    tooLarge: "Ovo je preveliko: dozvoljeno je najviše {limit} bajtova.",
+    tooLarge: "Ovo je preveliko: dozvoljeno je najviše {limit} znakova.",
     unreachable: "Program ne odgovara ili se datoteka ne može pročitati. Radi li još lanecockle page?",
     failed: "Program ovo nije prihvatio (status {status}).",
     stopped: "Prekinuto.",
@@ -140,10 +140,14 @@ const PARTS = ["wage", "slip", "wet"];
 const LOCALES = { en: "en-GB", hr: "hr-HR" };
 const LIMITS = { wage: 1002001002, slip: 4096, wet: 4096 };
 
+// The names of the characters that U+2400 and those behind it picture.
+const CONTROLS = ("NUL SOH STX ETX EOT ENQ ACK BEL BS HT LF VT FF CR SO SI DLE DC1 DC2 DC3 DC4 NAK SYN ETB CAN EM " +
+  "SUB ESC FS GS RS US SP DEL").split(" ");
+
 const EXAMPLES = {
-  slip: ["HRVHUB30", "EUR", "000000000012355", "ŽELJKO SENEKOVIĆ", "IVANEČKA ULICA 125", "42000 VARAŽDIN", "2DBK d.d.",
-    "ALKARSKI PROLAZ 13B", "21230 SINJ", "HR1210010051863000160", "HR01", "7269-68499637766-00011", "COST",
-    "Troškovi za 1. mjesec", ""].join("\n"),
+  slip: ["HRVHUB30", "EUR", "000000000012355", "ŽELJKO SENEKOVIĆ", "IVANEČKA ULICA 125", "42000 VARAŽDIN",
+    "2DBK d.d.", "ALKARSKI PROLAZ 13B", "21230 SINJ", "HR1210010051863000160", "HR01", "7269-68499637766-00011",
+    "COST", "Troškovi za 1. mjesec", ""].join("\n"),
   iban: "HR12 1001 0051 8630 0?1?0",
   reference: "7269-684996377?6-0001?",
   oib: "12345678903",
@@ -151,6 +155,7 @@ const EXAMPLES = {
 
 let language = "en";
 let part = "wage";
+let wageFile = null;
 
 // What is asked again in another language, by part; and the request that runs, by part.
 const again = {};
@@ -192,8 +197,13 @@ function make(tag, attributes = {}, ...children) {
 
 /** A list of names and contents. */
 function pairs(kind, entries) {
-  const rows = entries.map(([name, content]) => make("div", {}, make("dt", {}, name), make("dd", {}, content)));
-  return make("dl", { class: kind }, ...rows);
+  const row = ([name, content]) => make("div", {}, make("dt", {}, name), make("dd", {}, ...coded(content)));
+  return make("dl", { class: kind }, ...entries.map(row));
+}
+
+/** A text, what stands in it between backticks set off. */
+function coded(text) {
+  return text.split("`").map((piece, index) => index % 2 ? make("code", {}, piece) : piece);
 }
 
 /** A paragraph of a kind, unless it is empty. */
@@ -219,28 +229,25 @@ function complain(name, text) {
 // Requests
 
 /** Posts a body and hands what is answered to `answered`; an earlier request of the same part is dropped. */
-function post(name, path, query, body, answered) {
+function post(name, path, query, body, answered, prepare = () => {}) {
   const request = new XMLHttpRequest();
   stop(name);
   running[name] = request;
-  const done = () => {
-    delete running[name];
-  };
+  prepare(request);
   request.onload = () => {
-    done();
-    if (request.status !== 200) {
+    delete running[name];
+    if (request.status === 200) {
+      answered(JSON.parse(request.responseText));
+    } else {
       complain(name, failure(name, request.status));
-      return;
     }
-    answered(JSON.parse(request.responseText));
   };
   request.onerror = () => {
-    done();
+    delete running[name];
     complain(name, say("unreachable"));
   };
   request.open("POST", `${path}?${new URLSearchParams({ lang: language, ...query })}`);
   request.send(body);
-  return request;
 }
 
 function failure(name, status) {
@@ -249,9 +256,10 @@ function failure(name, status) {
 
 /** Ends the request of a part, if one runs. */
 function stop(name) {
-  if (running[name]) {
-    running[name].abort();
-    delete running[name];
+  const request = running[name];
+  delete running[name];
+  if (request) {
+    request.abort();
   }
 }
 
@@ -262,8 +270,9 @@ function stop(name) {
 function showRefusal(name, answer, note) {
   const refusal = answer.refusal;
   const title = say("refused", { number: refusal.number });
+  const figures = figuresOf(answer);
   show(name, card("refused", title, ...line("note", note), ...line("sentence", refusal.sentence), ...placeOf(refusal),
-    ...contentOf(refusal), ...figuresOf(answer), ...hintsOf(refusal)));
+    ...(refusal.field || !figures.length ? contentOf(refusal) : figures), ...hintsOf(refusal)));
   announce(`${title}. ${refusal.sentence}`);
 }
 
@@ -273,8 +282,7 @@ function placeOf(refusal) {
     entries.push([say("line"), grouped(refusal.line) + (refusal.type ? ` (${refusal.type})` : "")]);
   }
   if (refusal.field_name) {
-    const number = refusal.field ? `${refusal.field} · ` : "";
-    entries.push([say("field"), number + refusal.field_name]);
+    entries.push([say("field"), `${refusal.field} · ${refusal.field_name}`]);
   }
   if (refusal.rule) {
     entries.push([say("rule"), refusal.rule]);
@@ -293,11 +301,17 @@ function contentOf(refusal) {
   if (!characters.length) {
     return [title, ...line("note", say("empty"))];
   }
-  if (place < 0) {
-    return [title, make("pre", {}, refusal.content)];
+  const shown = characters.map(visible);
+  if (place >= 0) {
+    shown[place] = make("mark", {}, shown[place] || " ");
   }
-  const mark = make("mark", {}, characters[place] || " ");
-  return [title, make("pre", {}, characters.slice(0, place).join(""), mark, characters.slice(place + 1).join(""))];
+  return [title, make("pre", {}, ...shown)];
+}
+
+/** A character as it is; the picture of a control character by its name, since few fonts have the picture. */
+function visible(character) {
+  const name = CONTROLS[character.charCodeAt(0) - 0x2400];
+  return name ? make("span", { class: "control" }, name) : character;
 }
 
 function contentTitle(refusal, length) {
@@ -339,6 +353,7 @@ function freshName() {
 function judge(file) {
   const day = at("wage-day").value;
   stop("wage");
+  wageFile = file;
   again.wage = () => judge(file);
   at("wage-again").hidden = false;
   showRunning(null);
@@ -354,22 +369,20 @@ function judge(file) {
 function send(file, day) {
   const id = freshName();
   const counts = { sent: 0, lines: 0, orders: 0, refused: false };
-  const query = { day: day.replace(/-/g, ""), id };
-  const request = post("wage", "/api/wage", query, file, (answer) => showJudged(file, day, answer));
+  const tell = (told) => showRunning(file, Object.assign(counts, told));
   show("wage");
-  showRunning(file, counts);
-  request.upload.onprogress = (event) => {
-    counts.sent = event.loaded;
-    showRunning(file, counts);
-  };
-  request.onloadend = () => {
-    clearInterval(asking);
-    if (!running.wage) {
-      showRunning(null);
-    }
-  };
-  const told = (answer) => showRunning(file, Object.assign(counts, answer));
-  const asking = setInterval(() => askProgress(id, request, told), 250);
+  tell({});
+  const answered = (answer) => showJudged(file, day, answer);
+  post("wage", "/api/wage", { day: day.replace(/-/g, ""), id }, file, answered, (request) => {
+    const asking = setInterval(() => askProgress(id, request, tell), 250);
+    request.upload.onprogress = (event) => tell({ sent: event.loaded });
+    request.onloadend = () => {
+      clearInterval(asking);
+      if (!running.wage) {
+        showRunning(null);
+      }
+    };
+  });
 }
 
 /** Asks how far a file is judged; what comes after the request's end is passed over. */
@@ -382,6 +395,12 @@ async function askProgress(id, request, told) {
   } catch (error) {
     // the request itself says what is wrong
   }
+}
+
+function stopJudging() {
+  stop("wage");
+  again.wage = () => complain("wage", say("stopped"));
+  again.wage();
 }
 
 function showRunning(file, counts) {
@@ -409,6 +428,16 @@ function showJudged(file, day, answer) {
 
 // ---------------------------------------------------------------------------------------------------------------------
 // The slip
+
+function readTyped() {
+  const text = at("slip-text").value;
+  if (text) {
+    readSlip(text);
+  } else {
+    again.slip = readTyped;
+    complain("slip", say("noText"));
+  }
+}
 
 /** Reads a slip: text, which goes as UTF-8, or a file. */
 function readSlip(slip) {
@@ -462,6 +491,7 @@ function askWet() {
     asked.model = at("wet-model").value;
   }
   if (!asked.text.trim() && what !== "reference") {
+    again.wet = askWet;
     complain("wet", say("noText"));
     return;
   }
@@ -497,7 +527,7 @@ function showFillings(what, answer, chosen) {
   }
   const shown = answer.fillings.length < answer.count ? say("shown", { shown: grouped(answer.fillings.length) }) : "";
   const choices = answer.fillings.map((filling) => make("li", {}, choice(what, answer, filling)));
-  show("wet", make("h2", {}, count), ...line("lead", `${say("choose")} ${shown}`),
+  show("wet", make("h2", {}, count), ...line("lead", `${shown} ${say("choose")}`),
     make("ul", { class: "fillings" }, ...choices), make("div", { id: "wet-chosen" }));
   announce(`${count}. ${shown}`);
   const only = answer.count === 1 ? answer.fillings[0] : chosen;
@@ -663,13 +693,10 @@ function onClick(id, taken) {
 function begin() {
   at("wage-day").value = today();
   onFile("wage-file", judge);
-  onClick("wage-again", () => again.wage());
-  onClick("wage-stop", () => {
-    stop("wage");
-    complain("wage", say("stopped"));
-  });
+  onClick("wage-again", () => judge(wageFile));
+  onClick("wage-stop", stopJudging);
   onFile("slip-file", readSlip);
-  onSubmit("slip-form", () => readSlip(at("slip-text").value));
+  onSubmit("slip-form", readTyped);
   onClick("slip-example", () => {
     at("slip-text").value = EXAMPLES.slip;
   });

@@ -128,7 +128,7 @@ def _refused_text(refusal: Refusal, what: str, model: bytes, text: bytes, langua
     """The refusal of a typed text; 5 and 7 of a reference are said of its model."""
     if what == "reference" and refusal.number in (5, 7):
         what, text = "model", model
-    return _refused(of_text(refusal, what, text, language, placed=placed), language)
+    return _refused(of_text(refusal, what, text, language, placed=placed, model=model), language)
 
 
 # ----------------------------------------------------------------------------------------------------------------------

@@ -471,6 +471,7 @@ class Bad(Served):
             with self.connect() as connection:
                 connection.sendall(sent)
                 self.assertEqual(connection.recv(1), b"")
+        self.server.patience = page.PATIENCE
         self.assert_forgotten()
         self.assert_answers()
 
