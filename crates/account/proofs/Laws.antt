@@ -1,21 +1,11 @@
 -- An IBAN's number, taken in runs of digits as the code takes it; what an IBAN's form decides.
 -- Assumes nothing.
-use mathlib.Core.Path.{_≡_, refl, sym, ap, _∙_}
-use mathlib.Core.Bool.{true, false, _&&_, and-false}
-use mathlib.Core.List.{List, [], _∷_, _++_}
-use Prim.Native.Nat.{ℕ, suc, _^_, _+_, _*_, _/_, _%_, _≤_, _<_}
-use native.Mathlib.Nat.{div-add-mod, add-mul-mod-self-left, add-mul, mul-assoc, mul-comm, pow-suc}
-use native.Mathlib.Omega.{arith}
-use lib.Dec.{eqb, leb}
-use lib.ListN.{length, take, drop, getD, take-append-drop, length-take, length-drop}
-use lib.Seq.{length-take-le, take-all, drop-drop}
-use borrow.Author.Tests.{eqb-true, lt-leb, le-leb}
+use Rattle.refusal.proofs.Basics.{_≡_, refl, sym, ap, _∙_, arith, ℕ, suc, _^_, _+_, _*_, _/_, _%_, _≤_, _<_, length, take, drop, getD, take-append-drop, length-take, length-drop, eqb-true, lt-leb, le-leb, List, [], _∷_, _++_, true, false, _&&_, and-false, eqb, leb, length-take-le, take-all, drop-drop, div-add-mod, add-mul-mod-self-left, add-mul, mul-assoc, mul-comm, pow-suc, both-true, or-first}
 use Rattle.classes.specs.Classes.{isDigit}
 use Rattle.text.specs.Bytes.{allOf, bytesVerdict}
 use Rattle.classes.specs.declared.Class.the-variants.{Digits, Account}
 use Rattle.text.specs.Digits.{digitsOf, valueFrom, valueOf}
 use Rattle.text.proofs.Laws.{digits-append, value-append, all-apart, all-wider, all-passes}
-use Rattle.classes.proofs.Choices.{both-true, or-first}
 use Rattle.sums.specs.Sums.{numberIn}
 use Rattle.sums.proofs.Theorems.{text-small, number-of-all}
 use Rattle.account.specs.Account.{checkDigits, rearranged, ibanFormed, ibanPasses}

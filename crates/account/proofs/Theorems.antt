@@ -1,20 +1,11 @@
 -- What is promised of accounts: nothing is refused exactly when, and where a 3's byte lies.
 -- Assumes nothing.
-use mathlib.Core.Path.{_≡_, refl, sym}
-use mathlib.Core.Logic.{_↔_}
-use mathlib.Core.Bool.{Bool, true, false, _&&_}
-use mathlib.Core.List.{List, _∷_}
-use Prim.Native.Nat.{ℕ}
-use native.Mathlib.Omega.{arith}
-use lib.Dec.{eqb}
-use lib.ListN.{length}
-use borrow.Author.Tests.{eq-eqb}
+use Rattle.refusal.proofs.Basics.{_≡_, refl, sym, arith, ℕ, length, eq-eqb, List, _∷_, Bool, true, false, _&&_, eqb, _↔_, both-true, and-second}
 use Rattle.verdict.specs.Verdict.{onlyIf, andThen, Within}
 use Rattle.verdict.proofs.Verdicts.{passed, met, both-pass, pass-both, test-holds, then-within, only-within}
 use Rattle.text.specs.Bytes.{allOf, bytesVerdict}
 use Rattle.text.specs.Digits.{digitsOf, valueFrom, valueOf}
 use Rattle.classes.specs.declared.Class.the-variants.{Digits, Account}
-use Rattle.classes.proofs.Choices.{both-true, and-second}
 use Rattle.text.proofs.Laws.{all-passes, passes-all, bytes-within}
 use Rattle.account.specs.Account.{ibanFormed, checkDigits, inRange, ibanPasses, oibPasses}
 use Rattle.account.specs.Answers.{isIban, ibanCheckVerdict, ibanVerdict, oibVerdict}

@@ -1,8 +1,5 @@
 -- What is promised of a line without fields: its type and its size. Assumes nothing.
-use mathlib.Core.Path.{_≡_, refl, ap, _∙_}
-use mathlib.Core.List.{List}
-use Prim.Native.Nat.{ℕ}
-use lib.ListN.{length, replicate}
+use Rattle.refusal.proofs.Basics.{_≡_, refl, ap, _∙_, ℕ, length, replicate, List}
 use Rattle.wage_places.specs.declared.LineType.{LineType}
 use Rattle.wage_places.specs.declared.LineType.the-variants.{Label, Group, Order, Closing}
 use Rattle.wage_line.specs.declared.Typed.the-variants.{Line}

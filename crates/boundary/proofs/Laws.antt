@@ -1,8 +1,6 @@
 -- Laws of the boundary: what tells a refusal, and an answer told with what it leaves.
 -- Assumes nothing.
-use mathlib.Core.Path.{_≡_, ap, _∙_}
-use mathlib.Core.List.{List}
-use Prim.Native.Nat.{ℕ}
+use Rattle.refusal.proofs.Basics.{_≡_, ap, _∙_, ℕ, List}
 use Rattle.refusal.specs.Refusal.{refusalNumber, refusalPlace, neededOf}
 use Rattle.refusal.specs.declared.Place.{Place}
 use Rattle.refusal.specs.declared.Refusal.{Refusal}

@@ -1,8 +1,6 @@
 -- What is promised of the boundary: nothing is lost on the way through numbers.
 -- Assumes nothing.
-use mathlib.Core.Path.{_≡_, refl, sym, ap, _∙_}
-use Prim.Native.Nat.{_≤_, _<_}
-use native.Mathlib.Omega.{arith}
+use Rattle.refusal.proofs.Basics.{_≡_, refl, sym, ap, _∙_, arith, _≤_, _<_}
 use Rattle.refusal.specs.Refusal.{refusalNumber, refusalOf}
 use Rattle.refusal.specs.declared.Answer.{Answer}
 use Rattle.refusal.specs.declared.Answer.the-variants.{Accepted, Refused}

@@ -24,7 +24,7 @@ use words::say;
 fn main() {
     let mut input = [0u8; 200000];
     let n = io::read_full(0, &mut input);
-    answer_all(&input[..n]);
+    answer_all(front(&input, n));
 }
 
 // Answers each line.

@@ -1,19 +1,8 @@
 -- A text's characters, one after another, from a place of the text on.
 -- Assumes nothing.
-use mathlib.Core.Path.{_≡_, refl, sym, ap, _∙_}
-use mathlib.Core.Bool.{Bool, true, false, cond, _&&_, _||_}
-use mathlib.Core.List.{List, [], _∷_}
-use Prim.Native.Nat.{ℕ, suc, _+_, _≤_, _<_}
-use native.Mathlib.Nat.{zero-add, add-zero}
-use native.Mathlib.Numerals.{add-one}
-use native.Mathlib.Omega.{arith}
-use lib.Dec.{ltb}
-use lib.ListN.{length, drop, getD}
-use lib.Seq.{drop-cons, drop-length}
-use borrow.Author.Tests.{ne-eqb, lt-leb, le-leb, ltb-true, ltb-false}
+use Rattle.refusal.proofs.Basics.{_≡_, refl, sym, ap, _∙_, arith, ℕ, suc, _+_, _≤_, _<_, length, drop, getD, ne-eqb, lt-leb, le-leb, ltb-true, ltb-false, List, [], _∷_, Bool, true, false, cond, _&&_, _||_, ltb, drop-cons, drop-length, zero-add, add-zero, add-one, taken, left, both-true}
 use Rattle.text.specs.Bytes.{later}
 use Rattle.text.specs.declared.Found.the-variants.{At, Nothing}
-use Rattle.classes.proofs.Choices.{taken, left, both-true}
 use Rattle.text.proofs.Laws.{shifted, shifted-zero, shifted-later, Below, below-later}
 use Rattle.verdict.specs.Verdict.{wrongAt}
 use Rattle.verdict.proofs.Verdicts.{refused}

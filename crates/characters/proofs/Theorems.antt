@@ -1,14 +1,6 @@
 -- What is promised of text fields: which texts are permitted, accepted exactly when, characters against bytes.
 -- Assumes nothing.
-use mathlib.Core.Path.{_≡_, refl, ap, _∙_}
-use mathlib.Core.Logic.{_↔_}
-use mathlib.Core.Bool.{Bool, true, false, cond, _&&_, _||_, and-false}
-use mathlib.Core.List.{List, [], _∷_}
-use Prim.Native.Nat.{ℕ, zero, suc, _*_, _≤_, _<_}
-use native.Mathlib.Omega.{arith}
-use lib.Dec.{eqb}
-use lib.ListN.{length, getD}
-use borrow.Author.Tests.{leb-true, le-leb, eqb-true}
+use Rattle.refusal.proofs.Basics.{_≡_, refl, ap, _∙_, arith, ℕ, zero, suc, _*_, _≤_, _<_, length, getD, leb-true, le-leb, eqb-true, List, [], _∷_, Bool, true, false, cond, _&&_, _||_, and-false, eqb, _↔_}
 use Rattle.verdict.proofs.Verdicts.{both-pass, test-holds}
 use Rattle.text.specs.Bytes.{later, found}
 use Rattle.text.proofs.Laws.{nothing-found}

@@ -1,17 +1,6 @@
 -- From how the code reads digits (specs/Mirror.antt) to what a check digit is (specs/CheckDigit.antt).
 -- Assumes nothing.
-use mathlib.Core.Path.{_≡_, refl, sym, ap, _∙_}
-use mathlib.Core.Bool.{Bool, true, false, cond}
-use mathlib.Core.List.{List, [], _∷_}
-use Prim.Native.Nat.{ℕ, suc, _+_, _-_, _*_, _/_, _%_, _≤_, _<_}
-use native.Mathlib.Nat.{mod-lt, mod-eq-of-lt, mod-eq-sub-mod, mul-add, add-mul, suc-mul, mul-left-comm, zero-mul, div-add-mod, add-mul-mod-self-left}
-use native.Mathlib.Numerals.{add-one}
-use native.Mathlib.Omega.{arith}
-use lib.Dec.{ltb, lit<}
-use borrow.Author.Tests.{ne-eqb, lt-ltb, le-ltb}
-use Rattle.classes.proofs.Choices.{taken, left}
-use lib.ListN.{length, drop, getD}
-use lib.Seq.{drop-cons, drop-length}
+use Rattle.refusal.proofs.Basics.{_≡_, refl, sym, ap, _∙_, arith, ℕ, suc, _+_, _-_, _*_, _/_, _%_, _≤_, _<_, length, drop, getD, ne-eqb, lt-ltb, le-ltb, List, [], _∷_, Bool, true, false, cond, ltb, lit<, drop-cons, drop-length, mod-lt, mod-eq-of-lt, mod-eq-sub-mod, mul-add, add-mul, suc-mul, mul-left-comm, zero-mul, div-add-mod, add-mul-mod-self-left, add-one, taken, left}
 use Rattle.classes.specs.Classes.{isDigit}
 use Rattle.text.specs.Digits.{digitsOf}
 use Rattle.check_digits.specs.declared.Rule.{Rule}

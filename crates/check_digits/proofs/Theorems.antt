@@ -1,24 +1,13 @@
 -- What is promised of check digits, over any number of digits and both rules: exactly one digit completes any digits, and the made digit
 -- is that one.
 -- Assumes nothing.
-use mathlib.Core.Path.{_≡_, refl, sym, _∙_}
-use mathlib.Core.Logic.{_↔_}
-use mathlib.Core.Bool.{Bool, true, false, cond}
-use mathlib.Core.List.{List, [], _∷_, _++_}
-use Prim.Native.Nat.{ℕ, _+_, _-_, _≤_, _<_}
-use native.Mathlib.Nat.{mod-lt}
-use native.Mathlib.Omega.{arith}
-use lib.Dec.{eqb, leb, ltb, lit<}
-use lib.ListN.{length, length-append}
-use lib.Seq.{take-append-seam, getD-append-seam}
-use borrow.Author.Tests.{lt-ltb, le-leb, eq-eqb, eqb-true, leb-true, ltb-false}
+use Rattle.refusal.proofs.Basics.{_≡_, refl, sym, _∙_, arith, ℕ, _+_, _-_, _≤_, _<_, length, length-append, lt-ltb, le-leb, eq-eqb, eqb-true, leb-true, ltb-false, List, [], _∷_, _++_, Bool, true, false, cond, eqb, leb, ltb, lit<, take-append-seam, getD-append-seam, mod-lt, _↔_, chosen, both-true}
 use Rattle.refusal.specs.Refusal.{none}
 use Rattle.refusal.specs.declared.Answer.the-variants.{Accepted, Refused}
 use Rattle.refusal.specs.declared.Refusal.{Refusal}
 use Rattle.refusal.specs.declared.Refusal.the-variants.{Size, Byte}
 use Rattle.classes.specs.declared.Class.the-variants.{Digits}
 use Rattle.refusal.proofs.Theorems.{refused-not-accepted}
-use Rattle.classes.proofs.Choices.{chosen, both-true}
 use Rattle.text.specs.Bytes.{allOf}
 use Rattle.text.specs.Digits.{digitsOf}
 use Rattle.text.proofs.Laws.{all-joined}

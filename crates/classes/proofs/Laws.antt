@@ -1,12 +1,7 @@
 -- Digits by their bounds.
 -- Assumes nothing.
-use mathlib.Core.Path.{_≡_, sym}
-use mathlib.Core.Bool.{true, false}
-use Prim.Native.Nat.{ℕ, _≤_, _<_}
-use lib.Dec.{leb}
-use borrow.Author.Tests.{lt-leb, le-leb, leb-true}
+use Rattle.refusal.proofs.Basics.{_≡_, sym, ℕ, _≤_, _<_, lt-leb, le-leb, leb-true, true, false, leb, and-first, and-second, both-true}
 use Rattle.classes.specs.Classes.{isDigit}
-use Rattle.classes.proofs.Choices.{and-first, and-second, both-true}
 
 pub no-digit-below : (b : ℕ) → b < 48 → isDigit b ≡ false
 no-digit-below b h = sym (and-first (leb 48 b) (leb b 57) (lt-leb 48 b h))

@@ -1,4 +1,3 @@
--- The laws that nearly every proof goes by, and what is promised of classes.
-pub mod Choices
+-- The laws of classes, and what is promised of classes.
 pub mod Laws
 pub mod One

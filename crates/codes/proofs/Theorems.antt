@@ -1,17 +1,8 @@
 -- What is promised of the codes: 55 of three digits, ascending; each is found at its place, and nothing else is found.
 -- Assumes nothing.
-use mathlib.Core.Path.{_≡_, refl}
-use mathlib.Core.Logic.{_↔_}
-use mathlib.Core.Bool.{Bool, true, _&&_}
-use mathlib.Core.List.{List, [], _∷_}
-use Prim.Native.Nat.{ℕ, zero, suc, _≤_, _<_}
-use native.Mathlib.Omega.{arith}
-use lib.Dec.{ltb, leb}
-use lib.ListN.{length, getD}
-use borrow.Author.Tests.{ltb-true, leb-true, eq-eqb, ne-eqb}
+use Rattle.refusal.proofs.Basics.{_≡_, refl, arith, ℕ, zero, suc, _≤_, _<_, length, getD, ltb-true, leb-true, eq-eqb, ne-eqb, List, [], _∷_, Bool, true, _&&_, ltb, leb, _↔_, both-true}
 use Rattle.text.specs.declared.Found.{Found}
 use Rattle.text.specs.declared.Found.the-variants.{At, Nothing}
-use Rattle.classes.proofs.Choices.{both-true}
 use Rattle.codes.specs.Codes.{codes, firstIn, codePlace}
 use Rattle.codes.proofs.Laws.{place-tells}
 

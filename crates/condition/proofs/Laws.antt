@@ -1,11 +1,6 @@
 -- Laws of a sound record: what its test says of its counts.
 -- Assumes nothing.
-use mathlib.Core.Path.{_≡_}
-use mathlib.Core.Bool.{true}
-use Prim.Native.Nat.{_≤_}
-use lib.Dec.{leb}
-use borrow.Author.Tests.{leb-true}
-use Rattle.classes.proofs.Choices.{both-true}
+use Rattle.refusal.proofs.Basics.{_≡_, _≤_, leb-true, true, leb, both-true}
 use Rattle.sums.specs.Sums.{fits}
 use Rattle.condition.specs.declared.Judge.{Judge}
 use Rattle.condition.specs.Record.{isSound}

@@ -1,8 +1,6 @@
 -- What is promised of the judge's record: at the end a refusal again, 14 for a file cut short, or acceptance.
 -- Assumes nothing.
-use mathlib.Core.Path.{_≡_, refl}
-use mathlib.Core.Bool.{true, false}
-use lib.Dec.{eqb}
+use Rattle.refusal.proofs.Basics.{_≡_, refl, true, false, eqb}
 use Rattle.refusal.specs.declared.Refusal.{Refusal}
 use Rattle.refusal.specs.declared.Refusal.the-variants.{Unfinished}
 use Rattle.condition.specs.declared.Condition.{Condition}

@@ -1,13 +1,6 @@
 -- What is promised of dates: the calendar's leap years, and eight digits.
 -- Assumes nothing.
-use mathlib.Core.Path.{_≡_, refl}
-use mathlib.Core.Logic.{_↔_}
-use mathlib.Core.Bool.{Bool, true, false, cond, _&&_, _||_}
-use Prim.Native.Nat.{ℕ, _+_, _*_, _≤_, _<_}
-use native.Mathlib.Omega.{arith}
-use lib.Dec.{eqb, leb}
-use borrow.Author.Tests.{leb-true, le-leb}
-use Rattle.classes.proofs.Choices.{both-true}
+use Rattle.refusal.proofs.Basics.{_≡_, refl, arith, ℕ, _+_, _*_, _≤_, _<_, leb-true, le-leb, Bool, true, false, cond, _&&_, _||_, eqb, leb, _↔_, both-true}
 use Rattle.dates.specs.Dates.{isLeap, daysOf, yearOf, monthOf, dayOf, isDate}
 
 -- ---------------------------------------------------------------------------

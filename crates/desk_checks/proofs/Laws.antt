@@ -1,11 +1,6 @@
 -- Rule 0, rule 1, and no rule.
 -- Assumes nothing.
-use mathlib.Core.Path.{_≡_}
-use mathlib.Core.Bool.{cond}
-use Prim.Native.Nat.{ℕ}
-use lib.Dec.{eqb}
-use borrow.Author.Tests.{eq-eqb, ne-eqb}
-use Rattle.classes.proofs.Choices.{left, entered}
+use Rattle.refusal.proofs.Basics.{_≡_, ℕ, eq-eqb, ne-eqb, cond, eqb, left, entered}
 
 module _ {A : Type 0} (rule : ℕ) (first second no r : A) where
   pub by-ini : rule ≡ 0 → r ≡ first → r ≡ cond (eqb rule 0) first (cond (eqb rule 1) second no)

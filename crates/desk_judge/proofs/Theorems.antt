@@ -1,8 +1,5 @@
 -- What is promised of the judge's calls: they fit together, and a place that is told is the one that is handed back. Assumes nothing.
-use mathlib.Core.Path.{_≡_, refl, ap}
-use mathlib.Core.List.{List}
-use Prim.Native.Nat.{ℕ}
-use lib.ListN.{take, drop}
+use Rattle.refusal.proofs.Basics.{_≡_, refl, ap, ℕ, take, drop, List}
 use Rattle.refusal.specs.declared.Answer.the-variants.{Refused}
 use Rattle.text.specs.declared.Part.{Part}
 use Rattle.wage_line.specs.declared.Typed.{Typed}

@@ -1,5 +1,5 @@
 -- What is promised of the judge's record: nothing is lost on the way through numbers. Assumes nothing.
-use mathlib.Core.Path.{_≡_, refl, ap}
+use Rattle.refusal.proofs.Basics.{_≡_, refl, ap}
 use Rattle.refusal.specs.declared.Answer.the-variants.{Refused}
 use Rattle.condition.specs.declared.Condition.{Condition}
 use Rattle.condition.specs.declared.Condition.the-variants as condition

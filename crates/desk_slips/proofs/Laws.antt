@@ -1,11 +1,6 @@
 -- A slip written, told across the boundary, and where a lent field stands.
 -- Assumes nothing.
-use mathlib.Core.Path.{_≡_, refl}
-use mathlib.Core.Bool.{true, false}
-use mathlib.Core.List.{List, [], _∷_}
-use Prim.Native.Nat.{ℕ, zero, suc}
-use lib.ListN.{take, drop, getD, length}
-use Rattle.classes.proofs.Choices.{left, entered}
+use Rattle.refusal.proofs.Basics.{_≡_, refl, ℕ, zero, suc, take, drop, getD, length, List, [], _∷_, true, false, left, entered}
 use Rattle.refusal.specs.declared.Refusal.the-variants.{Size}
 use Rattle.refusal.specs.Refusal.{none}
 use Rattle.slip_writer.specs.Steps.{WritesSlip}

@@ -1,8 +1,5 @@
 -- What is promised of the calls of slips. Assumes nothing.
-use mathlib.Core.Path.{_≡_}
-use mathlib.Core.List.{List}
-use Prim.Native.Nat.{ℕ}
-use lib.ListN.{take, drop}
+use Rattle.refusal.proofs.Basics.{_≡_, ℕ, take, drop, List}
 use Rattle.text.specs.declared.Part.{Part}
 use Rattle.slip_handed.specs.Handed.{fieldPart, fieldOf}
 use Rattle.slip_handed.proofs.Laws.{field-stands}

@@ -1,8 +1,6 @@
 -- A wage line written, told across the boundary.
 -- Assumes nothing.
-use mathlib.Core.Path.{_≡_, ap, _∙_}
-use mathlib.Core.List.{List}
-use Prim.Native.Nat.{ℕ}
+use Rattle.refusal.proofs.Basics.{_≡_, ap, _∙_, ℕ, List}
 use Rattle.refusal.specs.declared.Answer.{Answer}
 use Rattle.line_room.specs.LineRoom.{Writes}
 use Rattle.boundary.specs.Told.{toldOf}

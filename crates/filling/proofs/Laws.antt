@@ -1,19 +1,11 @@
 -- Laws of a filled text: written from the last byte to the first, and read where it stands.
 -- Assumes nothing.
-use mathlib.Core.Path.{_≡_, refl, sym, _∙_}
-use mathlib.Core.List.{List, _∷_, _++_}
-use Prim.Native.Nat.{ℕ, suc, _+_, _/_, _%_, _^_, _≤_, _<_}
-use native.Mathlib.Omega.{arith}
-use native.Mathlib.Nat.{pow-suc, div-one, div-div-eq-div-mul}
-use lib.ListN.{length, getD, take, drop, set, take-append-drop}
-use lib.Seq.{take-suc, append-snoc, set-at, length-take-le, drop-length, drop-cons, take-at}
-use borrow.Author.Tests.{ne-eqb, lt-ltb, le-ltb}
+use Rattle.refusal.proofs.Basics.{_≡_, refl, sym, _∙_, arith, ℕ, suc, _+_, _/_, _%_, _^_, _≤_, _<_, length, getD, take, drop, set, take-append-drop, ne-eqb, lt-ltb, le-ltb, List, _∷_, _++_, take-suc, append-snoc, set-at, length-take-le, drop-length, drop-cons, take-at, pow-suc, div-one, div-div-eq-div-mul, left}
 use Rattle.refusal.specs.declared.Place.{Place}
 use Rattle.refusal.specs.declared.Refusal.the-variants.{Room}
 use Rattle.refusal.specs.declared.Answer.{Answer}
 use Rattle.refusal.specs.Refusal.{none}
 use Rattle.text.specs.Bytes.{countOf, marks}
-use Rattle.classes.proofs.Choices.{left}
 use Rattle.filling.specs.Filling.{fill, filledAnswer, filledBy}
 use Rattle.filling.proofs.Theorems.{fill-length}
 

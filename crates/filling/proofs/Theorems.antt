@@ -1,15 +1,7 @@
 -- What holds of the fillings of one text: they are the texts that fill it, each by one number; and what `filled` answers is determined.
 -- Assumes nothing.
-use mathlib.Core.Path.{_≡_, refl, sym, ap, _∙_}
-use mathlib.Core.Bool.{Bool, true, false, cond}
-use mathlib.Core.List.{List, [], _∷_}
-use Prim.Native.Nat.{ℕ, zero, suc, _+_, _-_, _*_, _/_, _%_, _^_, _<_}
-use native.Mathlib.Omega.{arith}
-use native.Mathlib.Nat.{mul-assoc, pow-succ', one-le-pow, mod-one, mod-eq-of-lt, mul-add-div-right}
+use Rattle.refusal.proofs.Basics.{_≡_, refl, sym, ap, _∙_, arith, ℕ, zero, suc, _+_, _-_, _*_, _/_, _%_, _^_, _<_, length, getD, drop, eq-eqb, ne-eqb, eqb-true, eqb-false, List, [], _∷_, Bool, true, false, cond, eqb, mul-assoc, pow-succ', one-le-pow, mod-one, mod-eq-of-lt, mul-add-div-right}
 use lib.Arith.{digits-lt, digits-div, mod-mul}
-use lib.Dec.{eqb}
-use lib.ListN.{length, getD, drop}
-use borrow.Author.Tests.{eq-eqb, ne-eqb, eqb-true, eqb-false}
 use Rattle.text.specs.Bytes.{countOf, marks}
 use Rattle.filling.specs.Filling.{fill}
 use Rattle.filling.specs.Claims.{Fills, fillingNumber}

@@ -1,16 +1,6 @@
 -- Laws of the listing, over any rule: of ranges of numbers, of the first mark, of the ten digits at it, and of runs of stores.
 -- Assumes nothing.
-use mathlib.Core.Path.{_≡_, refl, sym, ap, _∙_}
-use mathlib.Core.Bool.{Bool, true, false, cond, not}
-use mathlib.Core.List.{List, [], _∷_, _++_}
-use Prim.Native.Nat.{ℕ, zero, suc, _+_, _-_, _*_, _/_, _%_, _^_, _≤_, _<_}
-use native.Mathlib.Numerals.{add-one}
-use native.Mathlib.Omega.{arith}
-use native.Mathlib.Nat.{zero-add, add-zero, suc-add, mul-one, suc-mul, add-mul, mul-assoc, one-mul, zero-mul, pow-succ', one-le-pow, mul-le-mul-right, le-mul-of-pos-right, pow-le-pow-right, div-eq-of-lt-le}
-use lib.Dec.{eqb}
-use lib.ListN.{length, getD, take, drop, set, length-take}
-use lib.Seq.{take-suc, take-suc-set, take-set-lt}
-use borrow.Author.Tests.{eqb-true, ne-eqb, lt-ltb, le-ltb, le-leb}
+use Rattle.refusal.proofs.Basics.{_≡_, refl, sym, ap, _∙_, arith, ℕ, zero, suc, _+_, _-_, _*_, _/_, _%_, _^_, _≤_, _<_, length, getD, take, drop, set, length-take, eqb-true, ne-eqb, lt-ltb, le-ltb, le-leb, List, [], _∷_, _++_, Bool, true, false, cond, not, eqb, take-suc, take-suc-set, take-set-lt, zero-add, add-zero, suc-add, mul-one, suc-mul, add-mul, mul-assoc, one-mul, zero-mul, pow-succ', one-le-pow, mul-le-mul-right, le-mul-of-pos-right, pow-le-pow-right, div-eq-of-lt-le, add-one, left}
 use Rattle.refusal.specs.declared.Place.{Place}
 use Rattle.refusal.specs.declared.Refusal.the-variants.{Room}
 use Rattle.refusal.specs.Refusal.{none}
@@ -19,7 +9,6 @@ use Rattle.text.specs.declared.Found.{Found}
 use Rattle.text.specs.declared.Found.the-variants.{At, Nothing}
 use Rattle.text.specs.Bytes.{later, firstBad, countOf, marks}
 use Rattle.text.specs.Stands.{Stands}
-use Rattle.classes.proofs.Choices.{left}
 use Rattle.text.proofs.Stands.{stands-none, stands-append, front-stands}
 use Rattle.filling.specs.Filling.{fill}
 use Rattle.filling.proofs.Theorems.{fill-dry}

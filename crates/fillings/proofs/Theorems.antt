@@ -1,17 +1,7 @@
 -- What holds of every listing, over any rule p and any text s: it has every accepted filling and no other, ascending, each once, and as many
 -- as there are; a rule that agrees on the fillings of s lists the same. (That the fillings of s are the texts that fill it: filling/proofs/Theorems.antt.)
 -- Assumes nothing.
-use mathlib.Core.Path.{_≡_, refl, sym, ap, _∙_}
-use mathlib.Core.Bool.{Bool, true, false, cond}
-use mathlib.Core.Logic.{inl, inr, ⊎-elim}
-use mathlib.Core.List.{List, [], _∷_, _++_}
-use Prim.Native.Nat.{ℕ, zero, suc, _+_, _^_, _≤_, _<_}
-use native.Mathlib.Numerals.{add-one}
-use native.Mathlib.Omega.{arith}
-use native.Mathlib.Nat.{zero-add, zero-mul}
-use lib.Dec.{eqb, ltb}
-use lib.ListN.{length, getD, length-append}
-use borrow.Author.Tests.{eqb-true, eqb-false, ltb-true, ltb-false}
+use Rattle.refusal.proofs.Basics.{_≡_, refl, sym, ap, _∙_, arith, ℕ, zero, suc, _+_, _^_, _≤_, _<_, length, getD, length-append, eqb-true, eqb-false, ltb-true, ltb-false, List, [], _∷_, _++_, Bool, true, false, cond, eqb, ltb, zero-add, zero-mul, inl, inr, ⊎-elim, add-one}
 use Rattle.text.specs.Bytes.{marks}
 use Rattle.filling.specs.Filling.{fill}
 use Rattle.fillings.specs.Mirror.{between}

@@ -1,16 +1,11 @@
 -- The number and the sum of a 301 in digits, and lent as two fields.
 -- Assumes nothing.
-use mathlib.Core.Path.{_≡_, sym, ap, _∙_, refl}
-use mathlib.Core.List.{List, _++_, append-assoc, [], _∷_}
-use Prim.Native.Nat.{ℕ, _<_, _*_, _/_, _%_, zero, suc, _-_, _+_, _≤_}
-use native.Mathlib.Omega.{arith}
-use lib.ListN.{length, take, drop, getD, length-append}
+use Rattle.refusal.proofs.Basics.{_≡_, sym, ap, _∙_, refl, arith, ℕ, _<_, _*_, _/_, _%_, zero, suc, _-_, _+_, _≤_, length, take, drop, getD, length-append, List, _++_, append-assoc, [], _∷_, sets, length-sets, take-at, take-all, drop-at, getD-drop, sets-eq, length-take-le}
 use Rattle.sums.specs.Sums.{sumOf, limb}
 use Rattle.sums.specs.declared.Sum.{Sum}
 use Rattle.sums.proofs.Laws.{sum-small, in-limbs, low-small}
 use Rattle.wage_places.specs.declared.LineType.the-variants.{Group}
 use Rattle.wage_places.specs.Places.{spots}
-use lib.Seq.{sets, length-sets, take-at, take-all, drop-at, getD-drop, sets-eq, length-take-le}
 use Rattle.text.specs.Digits.{digitsText}
 use Rattle.room.proofs.Digits.{digits-length, digits-two-limbs}
 use Rattle.refusal.specs.declared.Answer.{Answer}

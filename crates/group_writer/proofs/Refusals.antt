@@ -1,12 +1,6 @@
 -- Laws of what a refusal of the lent orders tells: its line, or that they are not lines of a group; so it is not the refusal of the room.
 -- Assumes nothing.
-use mathlib.Core.Path.{_≡_, refl, _∙_}
-use mathlib.Core.Bool.{Bool, true, false, cond}
-use mathlib.Core.List.{List, [], _∷_}
-use Prim.Native.Nat.{ℕ, _+_, _/_, _%_, _≤_}
-use native.Mathlib.Omega.{arith}
-use lib.Dec.{eqb, leb}
-use lib.ListN.{length}
+use Rattle.refusal.proofs.Basics.{_≡_, refl, _∙_, arith, ℕ, _+_, _/_, _%_, _≤_, length, List, [], _∷_, Bool, true, false, cond, eqb, leb}
 use Rattle.refusal.specs.Refusal.{none, refusalPlace, inLine, firstOf}
 use Rattle.refusal.specs.declared.Answer.{Answer}
 use Rattle.refusal.specs.declared.Answer.the-variants.{Accepted, Refused}

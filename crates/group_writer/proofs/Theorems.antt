@@ -1,12 +1,6 @@
 -- What is promised of the writer of a 301: 15 exactly when all else is right and the room is under
 -- 1,002. Assumes nothing.
-use mathlib.Core.Path.{_≡_}
-use mathlib.Core.Logic.{_↔_}
-use mathlib.Core.Bool.{true, _||_}
-use mathlib.Core.List.{List}
-use Prim.Native.Nat.{ℕ, _<_}
-use lib.Dec.{eqb}
-use borrow.Author.Tests.{lt-leb}
+use Rattle.refusal.proofs.Basics.{_≡_, ℕ, _<_, lt-leb, List, true, _||_, eqb, _↔_}
 use Rattle.refusal.specs.declared.Answer.the-variants.{Accepted}
 use Rattle.dates.specs.Dates.{isDate}
 use Rattle.wage_places.specs.declared.LineType.the-variants.{Group}

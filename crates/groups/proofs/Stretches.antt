@@ -1,17 +1,7 @@
 -- Check groups as stretches of the text between the ends of its parts, in which hyphens do not count: so what `obeysAt` asks of a formed
 -- text is what `partsRight` asks of its parts.
 -- Assumes nothing.
-use mathlib.Core.Path.{_≡_, refl, sym, ap, _∙_}
-use mathlib.Core.Bool.{Bool, true, false, cond, _||_}
-use mathlib.Core.List.{List, [], _∷_, _++_, append-assoc, append-nil}
-use Prim.Native.Nat.{ℕ, zero, suc, _+_, _-_, _≤_, _<_}
-use native.Mathlib.Numerals.{add-one}
-use native.Mathlib.Omega.{arith}
-use native.Mathlib.Nat.{zero-add, suc-add}
-use lib.Dec.{eqb, ltb, eqb·suc-zero}
-use lib.ListN.{length, take, drop, getD, length-append, length-take, length-drop, drop-of-length-le}
-use lib.Seq.{take-all, take-length, take-append-seam, take-append-add, drop-append-add, drop-drop, getD-append-add, append-snoc, drop-cons}
-use borrow.Author.Tests.{ne-eqb, lt-ltb, le-leb, ltb-true, ltb-false}
+use Rattle.refusal.proofs.Basics.{_≡_, refl, sym, ap, _∙_, arith, ℕ, zero, suc, _+_, _-_, _≤_, _<_, length, take, drop, getD, length-append, length-take, length-drop, drop-of-length-le, ne-eqb, lt-ltb, le-leb, ltb-true, ltb-false, List, [], _∷_, _++_, append-assoc, append-nil, Bool, true, false, cond, _||_, eqb, ltb, eqb·suc-zero, take-all, take-length, take-append-seam, take-append-add, drop-append-add, drop-drop, getD-append-add, append-snoc, drop-cons, zero-add, suc-add, add-one}
 use Rattle.text.specs.Digits.{digitsOf}
 use Rattle.text.specs.Split.{joined}
 use Rattle.text.proofs.Laws.{digits-append, to-the-end}

@@ -1,13 +1,7 @@
 -- What is promised of check groups, over every list of groups and every text.
 -- Assumes nothing.
-use mathlib.Core.Path.{_≡_, refl, sym}
-use mathlib.Core.Logic.{_↔_, ⊎-elim}
-use mathlib.Core.Bool.{true}
-use mathlib.Core.List.{List, [], _∷_, List·Memᴰ, List·Memᴰ·head, List·Memᴰ·tail, List·Memᴰ·not-nil, List·Memᴰ·cases-cons}
-use Prim.Native.Nat.{ℕ}
-use native.Mathlib.Omega.{arith}
+use Rattle.refusal.proofs.Basics.{_≡_, refl, sym, arith, ℕ, List, [], _∷_, List·Memᴰ, List·Memᴰ·head, List·Memᴰ·tail, List·Memᴰ·not-nil, List·Memᴰ·cases-cons, true, _↔_, ⊎-elim, both-true, and-second}
 use Rattle.text.specs.Split.{joined}
-use Rattle.classes.proofs.Choices.{both-true, and-second}
 use Rattle.check_digits.specs.CheckDigit.{passes}
 use Rattle.models.specs.declared.Group.{Group}
 use Rattle.groups.specs.Groups.{present, groupRight, groupsRight}

@@ -1,9 +1,6 @@
 -- What is promised of the judge: a refusal stays, a record that it did not make and a line too many get 17.
 -- Assumes nothing.
-use mathlib.Core.Path.{_≡_, refl, ap, _∙_}
-use mathlib.Core.Bool.{true, false}
-use mathlib.Core.List.{List, [], _∷_, _++_}
-use Prim.Native.Nat.{ℕ}
+use Rattle.refusal.proofs.Basics.{_≡_, refl, ap, _∙_, ℕ, List, [], _∷_, _++_, true, false}
 use Rattle.refusal.specs.Refusal.{none}
 use Rattle.refusal.specs.declared.Refusal.the-variants.{Date, Beyond}
 use Rattle.dates.specs.Dates.{isDate}

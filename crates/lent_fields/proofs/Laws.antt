@@ -1,15 +1,5 @@
 -- Laws of the fields that are lent, one behind the other. Assumes nothing.
-use mathlib.Core.Path.{_≡_, refl, sym, _∙_}
-use mathlib.Core.List.{List, [], _∷_, map}
-use Prim.Native.Nat.{ℕ, zero, suc, _+_, _-_, _≤_, _<_}
-use native.Mathlib.Numerals.{add-one}
-use native.Mathlib.Omega.{arith}
-use native.Mathlib.Nat.{add-zero}
-use mathlib.Core.Bool.{Bool, true, false, cond}
-use lib.Dec.{eqb, ltb}
-use borrow.Author.Tests.{eq-eqb, ne-eqb, eqb-true, eqb-false, le-ltb, ltb-true, ltb-false}
-use lib.ListN.{length, take, drop, getD, length-drop, drop-of-length-le, length-append}
-use lib.Seq.{drop-cons, drop-drop, drop-length, take-all, take-nil, take-append-seam, drop-append-seam, getD-drop}
+use Rattle.refusal.proofs.Basics.{_≡_, refl, sym, _∙_, arith, ℕ, zero, suc, _+_, _-_, _≤_, _<_, length, take, drop, getD, length-drop, drop-of-length-le, length-append, eq-eqb, ne-eqb, eqb-true, eqb-false, le-ltb, ltb-true, ltb-false, List, [], _∷_, map, Bool, true, false, cond, eqb, ltb, drop-cons, drop-drop, drop-length, take-all, take-nil, take-append-seam, drop-append-seam, getD-drop, add-zero, add-one}
 use Rattle.text.specs.Split.{joined}
 use Rattle.lent_fields.specs.Fields.{fieldsOf, behind, fieldEnd, together, lentWhole, FieldEnd}
 

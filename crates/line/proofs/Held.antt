@@ -1,17 +1,7 @@
 -- A side of a line as it fills, and what each byte does to the two of them: what the theorem on the kept line is proved by. Assumes nothing.
-use mathlib.Core.Path.{_≡_, refl, sym, ap, subst, _∙_}
-use mathlib.Core.Bool.{Bool, true, false}
-use mathlib.Core.List.{List, [], _∷_, _++_, append-nil, append-assoc}
-use Prim.Native.Nat.{ℕ, _+_, _≤_, _<_}
-use native.Mathlib.Numerals.{add-one}
-use native.Mathlib.Omega.{arith}
-use lib.Dec.{eqb, ltb}
-use lib.ListN.{length, take, set, length-append, length-take, length-set}
-use lib.Seq.{take-all, take-suc-set, take-append-le, take-nil}
-use borrow.Author.Tests.{ltb-true, ltb-false}
+use Rattle.refusal.proofs.Basics.{_≡_, refl, sym, ap, subst, _∙_, arith, ℕ, _+_, _≤_, _<_, length, take, set, length-append, length-take, length-set, ltb-true, ltb-false, List, [], _∷_, _++_, append-nil, append-assoc, Bool, true, false, eqb, ltb, take-all, take-suc-set, take-append-le, take-nil, add-one, taken, left}
 use Rattle.line.specs.Mirror.{Kept, took, feed}
 use Rattle.line.specs.Line.{before, following, has, lineOf, headOf, tailOf}
-use Rattle.classes.proofs.Choices.{taken, left}
 use Rattle.line.proofs.Laws.{took-feed, took-behind, took-space, took-ahead, feed-ended}
 
 -- ---------------------------------------------------------------------------

@@ -1,14 +1,5 @@
 -- Laws that the proofs here cite: of one byte, and of the bytes that the loop feeds. Assumes nothing.
-use mathlib.Core.Path.{_≡_, refl, ap}
-use mathlib.Core.Bool.{true, false}
-use mathlib.Core.List.{List, [], _∷_}
-use Prim.Native.Nat.{ℕ, _+_, _≤_, _<_}
-use native.Mathlib.Numerals.{add-one}
-use native.Mathlib.Omega.{arith}
-use lib.Dec.{eqb}
-use lib.ListN.{length, drop, getD}
-use lib.Seq.{drop-cons, drop-length}
-use Rattle.classes.proofs.Choices.{taken, left, entered}
+use Rattle.refusal.proofs.Basics.{_≡_, refl, ap, arith, ℕ, _+_, _≤_, _<_, length, drop, getD, List, [], _∷_, true, false, eqb, drop-cons, drop-length, add-one, taken, left, entered}
 use Rattle.line.specs.Mirror.{Kept, keptOf, took, feed, tookTail, tookHead}
 
 -- ---------------------------------------------------------------------------

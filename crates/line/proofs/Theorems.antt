@@ -1,8 +1,5 @@
 -- What the crate's definitions say of a line, over plain lists: chunks do not matter, and what is kept is the line's. Assumes nothing.
-use mathlib.Core.Path.{_≡_, refl}
-use mathlib.Core.List.{List, [], _∷_, _++_}
-use Prim.Native.Nat.{ℕ, _≤_}
-use lib.ListN.{length, take}
+use Rattle.refusal.proofs.Basics.{_≡_, refl, ℕ, _≤_, length, take, List, [], _∷_, _++_}
 use Rattle.line.specs.declared.Seen.{Seen}
 use Rattle.line.specs.Mirror.{Kept, starting, keptOf, took, feed}
 use Rattle.line.specs.Line.{has, lineOf, headOf, tailOf}

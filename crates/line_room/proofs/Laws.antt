@@ -1,14 +1,6 @@
 -- Laws of a line put into lent room: what each refusal and the line itself leave, and what stands before the refusal of the room.
 -- Assumes nothing.
-use mathlib.Core.Path.{_≡_, refl, ap, _∙_}
-use mathlib.Core.Bool.{true, false, _||_, Bool, cond}
-use mathlib.Core.List.{List, _++_}
-use Prim.Native.Nat.{ℕ, _≤_, _<_}
-use native.Mathlib.Omega.{arith}
-use lib.Dec.{eqb, leb}
-use lib.ListN.{length, drop}
-use lib.Seq.{sets}
-use borrow.Author.Tests.{lt-leb, le-leb, leb-false}
+use Rattle.refusal.proofs.Basics.{_≡_, refl, ap, _∙_, arith, ℕ, _≤_, _<_, length, drop, lt-leb, le-leb, leb-false, List, _++_, true, false, _||_, Bool, cond, eqb, leb, sets}
 use Rattle.refusal.specs.Refusal.{none, firstOf}
 use Rattle.refusal.specs.declared.Place.{Place}
 use Rattle.refusal.specs.declared.Answer.{Answer}

@@ -1,13 +1,6 @@
 -- What is promised of a line put into lent room: a refusal changes nothing there, and nothing changes behind
 -- the line. Assumes nothing.
-use mathlib.Core.Path.{_≡_, refl}
-use mathlib.Core.Logic.{_↔_}
-use mathlib.Core.Bool.{true}
-use mathlib.Core.List.{List}
-use Prim.Native.Nat.{ℕ, _<_}
-use lib.ListN.{length, drop}
-use lib.Seq.{drop-at}
-use borrow.Author.Tests.{lt-leb}
+use Rattle.refusal.proofs.Basics.{_≡_, refl, ℕ, _<_, length, drop, lt-leb, List, true, drop-at, _↔_}
 use Rattle.refusal.specs.declared.Answer.{Answer}
 use Rattle.refusal.specs.declared.Answer.the-variants.{Accepted, Refused}
 use Rattle.refusal.specs.declared.Refusal.{Refusal}

@@ -1,15 +1,7 @@
 -- What the listing program prints of a line of any length: the first 22 bytes before its first space and the first 23 after it (the crate
 -- `line` keeps just these) are answered as the whole line is, and fill to the same texts where the answer is a count; and the rooms
 -- that the program lends hold its lines. Assumes nothing.
-use mathlib.Core.Path.{_≡_, refl, sym, ap, _∙_}
-use mathlib.Core.Bool.{Bool, true, false, cond}
-use mathlib.Core.List.{List, [], _∷_, _++_, append-assoc}
-use Prim.Native.Nat.{ℕ, _≤_, _<_}
-use native.Mathlib.Omega.{arith}
-use lib.Dec.{leb}
-use lib.ListN.{length, take, length-take}
-use lib.Seq.{take-all}
-use borrow.Author.Tests.{ne-eqb, leb-true, leb-false, lt-leb, le-ltb}
+use Rattle.refusal.proofs.Basics.{_≡_, refl, sym, ap, _∙_, arith, ℕ, _≤_, _<_, length, take, length-take, ne-eqb, leb-true, leb-false, lt-leb, le-ltb, List, [], _∷_, _++_, append-assoc, Bool, true, false, cond, leb, take-all}
 use Rattle.refusal.specs.Refusal.{none, refusalNumber}
 use Rattle.refusal.specs.declared.Refusal.the-variants.{Size}
 use Rattle.line.specs.Line.{has, lineOf, headOf, tailOf}

@@ -1,13 +1,6 @@
 -- What acceptance of what only a 309 holds means: each verdict is 0 exactly when the place is what document 01 says.
 -- Assumes nothing.
-use mathlib.Core.Path.{_≡_, refl, sym, _∙_}
-use mathlib.Core.Logic.{_↔_}
-use mathlib.Core.Bool.{Bool, true, false, cond, not, _&&_, _||_, false≢true}
-use mathlib.Core.List.{List}
-use Prim.Native.Nat.{ℕ}
-use lib.Dec.{eqb}
-use lib.ListN.{length, getD}
-use borrow.Author.Tests.{eqb-true}
+use Rattle.refusal.proofs.Basics.{_≡_, refl, sym, _∙_, ℕ, length, getD, eqb-true, List, Bool, true, false, cond, not, _&&_, _||_, false≢true, eqb, _↔_}
 use Rattle.verdict.specs.Verdict.{onlyIf}
 use Rattle.verdict.proofs.Verdicts.{both-pass, test-holds}
 use Rattle.text.specs.Bytes.{bytesVerdict, firstBad, allOf, trimmed}

@@ -1,9 +1,5 @@
 -- A law of the first byte of a place. Assumes nothing.
-use mathlib.Core.Path.{_≡_, refl}
-use mathlib.Core.List.{List, [], _∷_}
-use Prim.Native.Nat.{ℕ}
-use native.Mathlib.Omega.{arith}
-use lib.ListN.{length, getD}
+use Rattle.refusal.proofs.Basics.{_≡_, refl, arith, ℕ, length, getD, List, [], _∷_}
 
 -- the first byte of nothing
 pub first-of-none : (f : List ℕ) → length f ≡ 0 → 0 ≡ getD f 0 0

@@ -1,10 +1,6 @@
 -- The byte that the refusal of what only a 309 holds tells lies within its place.
 -- Assumes nothing.
-use mathlib.Core.Bool.{Bool, _||_}
-use mathlib.Core.List.{List}
-use Prim.Native.Nat.{ℕ}
-use native.Mathlib.Omega.{arith}
-use lib.ListN.{length, getD}
+use Rattle.refusal.proofs.Basics.{arith, ℕ, length, getD, List, Bool, _||_}
 use Rattle.verdict.specs.Verdict.{Within}
 use Rattle.verdict.proofs.Verdicts.{only-within}
 use Rattle.text.specs.Bytes.{allOf, trimmed}

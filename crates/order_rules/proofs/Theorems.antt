@@ -1,11 +1,6 @@
 -- What is promised of the rules of a 309: the byte that a verdict tells lies within its place.
 -- Assumes nothing.
-use mathlib.Core.Bool.{true, false, not}
-use mathlib.Core.List.{List}
-use Prim.Native.Nat.{ℕ}
-use native.Mathlib.Omega.{arith}
-use lib.Dec.{eqb}
-use lib.ListN.{length}
+use Rattle.refusal.proofs.Basics.{arith, ℕ, length, List, true, false, not, eqb}
 use Rattle.verdict.specs.Verdict.{Within}
 use Rattle.verdict.proofs.Verdicts.{choice-within}
 use Rattle.classes.specs.declared.Class.the-variants.{Digits}

@@ -1,14 +1,6 @@
 -- The ends of parts unpacked (specs/Mirror.antt): where each part ends, and how many there are.
 -- Assumes nothing.
-use mathlib.Core.Path.{_≡_, refl, sym, ap, _∙_}
-use mathlib.Core.Bool.{Bool, true, false, not, _&&_, and-true, and-false}
-use mathlib.Core.List.{List, [], _∷_}
-use Prim.Native.Nat.{ℕ, zero, suc, _+_, _*_, _-_, _/_, _≤_, _<_, _^_}
-use native.Mathlib.Omega.{arith}
-use native.Mathlib.Nat.{pow-succ', zero-div, div-div-eq-div-mul}
-use lib.Dec.{eqb, leb, ltb, eqb·suc-zero, leb·zero}
-use lib.ListN.{length, take, length-append, length-take}
-use borrow.Author.Tests.{ne-eqb, le-leb, lt-leb, ltb-true, ltb-false, leb-true, leb-false}
+use Rattle.refusal.proofs.Basics.{_≡_, refl, sym, ap, _∙_, arith, ℕ, zero, suc, _+_, _*_, _-_, _/_, _≤_, _<_, _^_, length, take, length-append, length-take, ne-eqb, le-leb, lt-leb, ltb-true, ltb-false, leb-true, leb-false, List, [], _∷_, Bool, true, false, not, _&&_, and-true, and-false, eqb, leb, ltb, eqb·suc-zero, leb·zero, pow-succ', zero-div, div-div-eq-div-mul}
 use Rattle.parts.specs.Parts.{partsOf}
 use Rattle.parts.specs.Mirror.{endsFrom, endOf, countFits}
 use Rattle.parts.proofs.Pieces.{bound, spanOf, Solid, short-span}

@@ -1,13 +1,6 @@
 -- What the readers find (specs/Mirror.antt), by whether the text is formed.
 -- Assumes nothing.
-use mathlib.Core.Path.{_≡_, refl}
-use mathlib.Core.Bool.{Bool, true, false, cond, _&&_, and-true, and-false}
-use mathlib.Core.List.{List, [], _∷_}
-use Prim.Native.Nat.{ℕ, zero, suc, _≤_, _<_}
-use native.Mathlib.Omega.{arith}
-use lib.Dec.{eqb, leb, eqb·suc-zero, leb·suc-zero}
-use lib.ListN.{length}
-use borrow.Author.Tests.{ne-eqb, le-leb}
+use Rattle.refusal.proofs.Basics.{_≡_, refl, arith, ℕ, zero, suc, _≤_, _<_, length, ne-eqb, le-leb, List, [], _∷_, Bool, true, false, cond, _&&_, and-true, and-false, eqb, leb, eqb·suc-zero, leb·suc-zero}
 use Rattle.text.specs.Split.{split}
 use Rattle.text.specs.declared.Found.the-variants.{At, Nothing}
 use Rattle.models.specs.declared.Model.{Model}

@@ -1,20 +1,12 @@
 -- The parts of a text: the text is its parts with hyphens between them, and those of a formed text are digits, not empty, and end below 1024.
 -- Assumes nothing.
-use mathlib.Core.Path.{_≡_, refl, sym, ap, _∙_}
-use mathlib.Core.Bool.{Bool, true, false, cond, _&&_, false≢true}
-use mathlib.Core.List.{List, [], _∷_, _++_}
-use Prim.Native.Nat.{ℕ, zero, suc, _+_, _*_, _≤_, _<_}
-use native.Mathlib.Omega.{arith}
-use lib.Dec.{eqb, leb, ltb}
-use lib.ListN.{length, getD}
+use Rattle.refusal.proofs.Basics.{_≡_, refl, sym, ap, _∙_, arith, ℕ, zero, suc, _+_, _*_, _≤_, _<_, length, getD, eqb-true, ltb-true, leb-true, List, [], _∷_, _++_, Bool, true, false, cond, _&&_, false≢true, eqb, leb, ltb, both-true}
 use mir.Syntax.{w8}
 use mir.Val.{Fits}
-use borrow.Author.Tests.{eqb-true, ltb-true, leb-true}
 use Rattle.classes.specs.Classes.{isDigit}
 use Rattle.text.specs.Bytes.{allOf}
 use Rattle.classes.specs.declared.Class.the-variants.{Digits, Reference}
 use Rattle.text.specs.Split.{longer, split}
-use Rattle.classes.proofs.Choices.{both-true}
 use Rattle.models.specs.declared.Model.{Model}
 use Rattle.parts.specs.Parts.{lengthFits, partsOf, partsFit, formed}
 

@@ -1,17 +1,7 @@
 -- How the readers go through a reference (specs/Mirror.antt): their turns, the room for the ends of the parts, and that what they read is where
 -- the parts of a formed text end.
 -- Assumes nothing.
-use mathlib.Core.Path.{_≡_, sym, _∙_}
-use mathlib.Core.Bool.{Bool, true, false, cond, _&&_, and-true, and-false}
-use mathlib.Core.List.{List, [], _∷_}
-use Prim.Native.Nat.{ℕ, zero, suc, _+_, _*_, _-_, _%_, _^_, _≤_, _<_}
-use native.Mathlib.Numerals.{add-one}
-use native.Mathlib.Omega.{arith}
-use native.Mathlib.Nat.{one-le-pow, add-zero}
-use lib.Dec.{eqb, leb, ltb}
-use lib.ListN.{length, take, drop, getD, drop-of-length-le}
-use lib.Seq.{drop-cons}
-use borrow.Author.Tests.{eq-eqb, ne-eqb, lt-ltb, le-ltb}
+use Rattle.refusal.proofs.Basics.{_≡_, sym, _∙_, arith, ℕ, zero, suc, _+_, _*_, _-_, _%_, _^_, _≤_, _<_, length, take, drop, getD, drop-of-length-le, eq-eqb, ne-eqb, lt-ltb, le-ltb, List, [], _∷_, Bool, true, false, cond, _&&_, and-true, and-false, eqb, leb, ltb, drop-cons, one-le-pow, add-zero, add-one}
 use Rattle.classes.specs.Classes.{isDigit}
 use Rattle.text.specs.Bytes.{allOf}
 use Rattle.classes.specs.declared.Class.the-variants.{Digits}

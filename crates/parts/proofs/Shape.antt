@@ -1,14 +1,7 @@
 -- A reference's shape: where its hyphens are, and that all else is digits. Whether a text is formed, and where its parts end, depends on its
 -- shape alone: what is found of one filling of a wet text holds of all.
 -- Assumes nothing.
-use mathlib.Core.Path.{_≡_, refl, sym, ap, _∙_}
-use mathlib.Core.Bool.{Bool, true, false, cond}
-use mathlib.Core.List.{List, [], _∷_}
-use Prim.Native.Nat.{ℕ, suc, _+_}
-use native.Mathlib.Omega.{arith}
-use lib.Dec.{eqb}
-use lib.ListN.{length}
-use borrow.Author.Tests.{ne-eqb}
+use Rattle.refusal.proofs.Basics.{_≡_, refl, sym, ap, _∙_, arith, ℕ, suc, _+_, length, ne-eqb, List, [], _∷_, Bool, true, false, cond, eqb}
 use Rattle.classes.specs.Classes.{isDigit}
 use Rattle.text.specs.Bytes.{allOf}
 use Rattle.classes.specs.declared.Class.the-variants.{Digits}

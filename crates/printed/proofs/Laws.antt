@@ -1,14 +1,5 @@
 -- Laws of texts put one behind the other into lent room, and of numbers in decimal digits. Assumes nothing.
-use mathlib.Core.Path.{_≡_, refl, sym, ap, _∙_}
-use mathlib.Core.Bool.{Bool, true, false, cond}
-use mathlib.Core.List.{List, [], _++_}
-use Prim.Native.Nat.{ℕ, zero, suc, _+_, _-_, _/_, _^_, _≤_, _<_}
-use native.Mathlib.Nat.{pow-suc}
-use native.Mathlib.Omega.{arith}
-use lib.Dec.{ltb}
-use borrow.Author.Tests.{le-ltb, lt-ltb, ltb-true, ltb-false}
-use lib.ListN.{length, length-append}
-use lib.Seq.{sets, length-sets}
+use Rattle.refusal.proofs.Basics.{_≡_, refl, sym, ap, _∙_, arith, ℕ, zero, suc, _+_, _-_, _/_, _^_, _≤_, _<_, length, length-append, le-ltb, lt-ltb, ltb-true, ltb-false, List, [], _++_, Bool, true, false, cond, ltb, sets, length-sets, pow-suc}
 use Rattle.text.proofs.Stands.{sets-append}
 use Rattle.text.specs.Digits.{digitsText}
 use Rattle.room.proofs.Laws.{sets-past}

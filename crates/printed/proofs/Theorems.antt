@@ -1,15 +1,6 @@
 -- What is printed stands whole at the front of a room that is large enough, and how large that is; a number reads back.
 -- Assumes nothing.
-use mathlib.Core.Path.{_≡_, refl}
-use mathlib.Core.List.{List, [], _∷_, _++_}
-use mathlib.Core.Bool.{Bool, true, false, cond}
-use Prim.Native.Nat.{ℕ, zero, suc, _+_, _/_, _^_, _≤_, _<_}
-use native.Mathlib.Nat.{zero-add, pow-suc}
-use native.Mathlib.Omega.{arith}
-use lib.Dec.{ltb}
-use lib.ListN.{length, take, drop, length-append}
-use lib.Seq.{take-append-seam}
-use borrow.Author.Tests.{ltb-true}
+use Rattle.refusal.proofs.Basics.{_≡_, refl, arith, ℕ, zero, suc, _+_, _/_, _^_, _≤_, _<_, length, take, drop, length-append, ltb-true, List, [], _∷_, _++_, Bool, true, false, cond, ltb, take-append-seam, zero-add, pow-suc}
 use Rattle.refusal.specs.declared.Place.{Place}
 use Rattle.refusal.specs.declared.Refusal.{Refusal}
 use Rattle.refusal.specs.Refusal.{refusalNumber, refusalPlace}

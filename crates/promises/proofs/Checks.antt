@@ -1,14 +1,6 @@
 -- Demand 2, check digits, accounts and references: accepted exactly when, of the calls `lanecockle_iban`, `lanecockle_oib`, `lanecockle_reference`,
 -- `lanecockle_check_digits` and `lanecockle_make_digit`. Assumes nothing.
-use mathlib.Core.Path.{_≡_, refl}
-use mathlib.Core.Logic.{_↔_, _⊎_, inl, inr}
-use mathlib.Core.Bool.{Bool, true, false, cond, _&&_}
-use mathlib.Core.List.{List, [], _∷_, _++_}
-use Prim.Native.Nat.{ℕ, _+_, _-_, _<_}
-use native.Mathlib.Omega.{arith}
-use lib.Dec.{eqb, leb}
-use lib.ListN.{length}
-use borrow.Author.Tests.{le-leb, ne-eqb, eqb-false}
+use Rattle.refusal.proofs.Basics.{_≡_, refl, arith, ℕ, _+_, _-_, _<_, length, le-leb, ne-eqb, eqb-false, List, [], _∷_, _++_, Bool, true, false, cond, _&&_, eqb, leb, _↔_, _⊎_, inl, inr}
 use Rattle.refusal.specs.Refusal.{refusalNumber}
 use Rattle.refusal.specs.declared.Answer.the-variants.{Refused}
 use Rattle.verdict.specs.Verdict.{onlyIf, andThen}

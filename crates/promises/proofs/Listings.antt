@@ -1,14 +1,5 @@
 -- Demand 3, wet slips, of the calls `lanecockle_list_iban`, `lanecockle_list_reference` and `lanecockle_filled`. Assumes nothing.
-use mathlib.Core.Path.{_≡_, refl, ap, _∙_}
-use mathlib.Core.Logic.{_⊎_, inl, inr}
-use mathlib.Core.Bool.{Bool, true, false, cond}
-use mathlib.Core.List.{List, _++_}
-use Prim.Native.Nat.{ℕ, _<_, _≤_}
-use native.Mathlib.Omega.{arith}
-use lib.Dec.{eqb, leb, ltb}
-use lib.ListN.{length, take, drop}
-use lib.Seq.{take-append-seam, drop-append-seam}
-use borrow.Author.Tests.{ltb-true, ltb-false, eq-eqb, le-leb}
+use Rattle.refusal.proofs.Basics.{_≡_, refl, ap, _∙_, arith, ℕ, _<_, _≤_, length, take, drop, ltb-true, ltb-false, eq-eqb, le-leb, List, _++_, Bool, true, false, cond, eqb, leb, ltb, take-append-seam, drop-append-seam, _⊎_, inl, inr}
 use Rattle.refusal.specs.Refusal.{none, refusalNumber, neededOf}
 use Rattle.refusal.specs.declared.Answer.the-variants.{Refused}
 use Rattle.refusal.specs.declared.Refusal.{Refusal}

@@ -1,8 +1,5 @@
 -- Demand 1: "A refusal is one of the documents' numbers, with line, field and byte", of every call that answers. Assumes nothing.
-use mathlib.Core.Path.{refl}
-use mathlib.Core.Logic.{inl, inr}
-use mathlib.Core.Bool.{Bool, true, false, cond}
-use lib.Dec.{eqb}
+use Rattle.refusal.proofs.Basics.{refl, Bool, true, false, cond, eqb, inl, inr}
 use Rattle.refusal.specs.Refusal.{none}
 use Rattle.refusal.specs.declared.Answer.{Answer}
 use Rattle.refusal.specs.declared.Answer.the-variants.{Accepted, Refused}

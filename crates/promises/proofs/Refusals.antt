@@ -1,20 +1,11 @@
 -- Demand 1: which refusal comes first, of the calls `lanecockle_slip_read`, `lanecockle_judge_step` and `lanecockle_wage_file`. Assumes nothing.
-use mathlib.Core.Path.{_≡_, refl, sym, ap, _∙_}
-use mathlib.Core.Bool.{Bool, true, false, cond, _&&_, false≢true}
-use mathlib.Core.List.{List, [], _∷_, _++_}
-use Prim.Native.Nat.{ℕ, zero, suc, _+_, _-_, _≤_, _<_}
-use native.Mathlib.Nat.{add-zero, zero-add}
-use native.Mathlib.Omega.{arith}
-use lib.Dec.{eqb, leb, ltb}
-use lib.ListN.{length, length-append, getD, take}
-use borrow.Author.Tests.{eqb-true, eqb-false, eq-eqb, leb-true, leb-false, le-ltb}
+use Rattle.refusal.proofs.Basics.{_≡_, refl, sym, ap, _∙_, arith, ℕ, zero, suc, _+_, _-_, _≤_, _<_, length, length-append, getD, take, eqb-true, eqb-false, eq-eqb, leb-true, leb-false, le-ltb, List, [], _∷_, _++_, Bool, true, false, cond, _&&_, false≢true, eqb, leb, ltb, add-zero, zero-add, both-true}
 use Rattle.refusal.specs.Refusal.{none}
 use Rattle.refusal.specs.declared.Answer.{Answer}
 use Rattle.refusal.specs.declared.Answer.the-variants.{Accepted, Refused}
 use Rattle.refusal.specs.declared.Refusal.{Refusal}
 use Rattle.refusal.specs.declared.Refusal.the-variants.{Size, Ends}
 use Rattle.verdict.specs.Verdict.{answerAt}
-use Rattle.classes.proofs.Choices.{both-true}
 use Rattle.text.specs.Bytes.{countOf}
 use Rattle.text.specs.Split.{split}
 use Rattle.text.proofs.Pieces.{pieces-counted}

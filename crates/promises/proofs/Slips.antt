@@ -1,14 +1,6 @@
 -- Demand 2, slips: accepted exactly when; written, and read back; read, and written again. Of the calls `lanecockle_slip_read`, `lanecockle_slip_field`,
 -- `lanecockle_slip_cents` and `lanecockle_slip_write`. Assumes nothing.
-use mathlib.Core.Path.{_≡_, refl, ap, _∙_}
-use mathlib.Core.Logic.{_↔_}
-use mathlib.Core.Bool.{Bool, true, false, cond}
-use mathlib.Core.List.{List, [], _∷_, _++_, map, List·Memᴰ}
-use Prim.Native.Nat.{ℕ, zero, suc, _+_, _-_, _<_, _≤_}
-use native.Mathlib.Nat.{zero-add, add-zero}
-use native.Mathlib.Omega.{arith}
-use lib.ListN.{length, getD, take, drop}
-use lib.Seq.{take-append-seam, drop-append-seam}
+use Rattle.refusal.proofs.Basics.{_≡_, refl, ap, _∙_, arith, ℕ, zero, suc, _+_, _-_, _<_, _≤_, length, getD, take, drop, List, [], _∷_, _++_, map, List·Memᴰ, Bool, true, false, cond, take-append-seam, drop-append-seam, zero-add, add-zero, _↔_}
 use Rattle.refusal.specs.Refusal.{none, refusalNumber}
 use Rattle.refusal.specs.declared.Answer.the-variants.{Accepted}
 use Rattle.refusal.specs.declared.Refusal.the-variants.{Size}

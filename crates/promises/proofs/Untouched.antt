@@ -1,11 +1,6 @@
 -- Demand 1: "A refusal .. writes to none of the lent memory", of the calls that are lent memory to write (the listings': Listings.antt); and fields that are not lent whole are
 -- refused. Assumes nothing.
-use mathlib.Core.Path.{_≡_, refl, ap, _∙_}
-use mathlib.Core.Bool.{Bool, true, false, cond}
-use mathlib.Core.List.{List}
-use Prim.Native.Nat.{ℕ}
-use lib.ListN.{length, take}
-use borrow.Author.Tests.{ne-eqb}
+use Rattle.refusal.proofs.Basics.{_≡_, refl, ap, _∙_, ℕ, length, take, ne-eqb, List, Bool, true, false, cond}
 use Rattle.refusal.specs.Refusal.{none}
 use Rattle.refusal.specs.declared.Answer.{Answer}
 use Rattle.refusal.specs.declared.Answer.the-variants.{Accepted, Refused}

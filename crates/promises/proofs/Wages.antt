@@ -1,14 +1,6 @@
 -- Demand 2, wage files: accepted exactly when; whole, in parts and line by line; written, and read back; read, and written again. Of the calls
 -- `lanecockle_wage_file`, `lanecockle_judge_begin`, `_step`, `_lines`, `_end`, `lanecockle_wage_place` and the four writers. Assumes nothing.
-use mathlib.Core.Path.{_≡_, refl, sym, ap, _∙_}
-use mathlib.Core.Logic.{_↔_}
-use mathlib.Core.Bool.{Bool, true, false, cond, _||_}
-use mathlib.Core.List.{List, [], _∷_, _++_}
-use Prim.Native.Nat.{ℕ, _/_, _%_, _≤_, _<_}
-use native.Mathlib.Omega.{arith}
-use lib.Dec.{eqb}
-use lib.ListN.{length, take, drop, getD, drop-of-length-le}
-use lib.Seq.{take-all, take-at, drop-at}
+use Rattle.refusal.proofs.Basics.{_≡_, refl, sym, ap, _∙_, arith, ℕ, _/_, _%_, _≤_, _<_, length, take, drop, getD, drop-of-length-le, List, [], _∷_, _++_, Bool, true, false, cond, _||_, eqb, take-all, take-at, drop-at, _↔_}
 use Rattle.refusal.specs.Refusal.{none, refusalNumber}
 use Rattle.refusal.specs.declared.Answer.{Answer}
 use Rattle.refusal.specs.declared.Answer.the-variants.{Accepted, Refused}

@@ -1,17 +1,6 @@
 -- Laws of the loops that read a question, and of those that lay out its fields.
 -- Assumes nothing.
-use mathlib.Core.Path.{_≡_, refl, sym, ap, _∙_}
-use mathlib.Core.Bool.{Bool, true, false, cond}
-use mathlib.Core.List.{List, [], _∷_}
-use Prim.Native.Nat.{ℕ, zero, suc, _+_, _-_, _≤_, _<_}
-use native.Mathlib.Numerals.{add-one}
-use native.Mathlib.Omega.{arith}
-use native.Mathlib.Nat.{add-zero}
-use lib.Dec.{eqb, ltb}
-use lib.ListN.{length, take, drop, getD, set, length-drop, drop-of-length-le}
-use lib.Seq.{sets, drop-cons, drop-drop, take-all}
-use borrow.Author.Tests.{eq-eqb, ne-eqb, lt-ltb, le-ltb, ltb-true, ltb-false}
-use Rattle.classes.proofs.Choices.{taken, left}
+use Rattle.refusal.proofs.Basics.{_≡_, refl, sym, ap, _∙_, arith, ℕ, zero, suc, _+_, _-_, _≤_, _<_, length, take, drop, getD, set, length-drop, drop-of-length-le, eq-eqb, ne-eqb, lt-ltb, le-ltb, ltb-true, ltb-false, List, [], _∷_, Bool, true, false, cond, eqb, ltb, sets, drop-cons, drop-drop, take-all, add-zero, add-one, taken, left}
 use Rattle.text.specs.Bytes.{same, countOf}
 use Rattle.text.specs.Digits.{valueFrom}
 use Rattle.text.specs.Split.{longer, split, joined}

@@ -1,19 +1,11 @@
 -- The answers to a reference (specs/Answers.antt), by whether the text is formed.
 -- Assumes nothing.
-use mathlib.Core.Path.{_≡_, refl, _∙_}
-use mathlib.Core.Bool.{Bool, true, false}
-use mathlib.Core.List.{List, [], _∷_}
-use Prim.Native.Nat.{ℕ, zero, suc, _≤_, _<_}
-use native.Mathlib.Omega.{arith}
-use lib.Dec.{leb}
-use lib.ListN.{length, take, drop}
-use borrow.Author.Tests.{lt-leb, le-leb}
+use Rattle.refusal.proofs.Basics.{_≡_, refl, _∙_, arith, ℕ, zero, suc, _≤_, _<_, length, take, drop, lt-leb, le-leb, List, [], _∷_, Bool, true, false, leb, taken}
 use Rattle.verdict.specs.Verdict.{onlyIf, andThen}
 use Rattle.verdict.proofs.Verdicts.{passed, failed, met}
 use Rattle.text.specs.Bytes.{bytesVerdict}
 use Rattle.classes.specs.declared.Class.the-variants.{Reference}
 use Rattle.text.specs.declared.Found.the-variants.{At}
-use Rattle.classes.proofs.Choices.{taken}
 use Rattle.text.proofs.Laws.{all-passes}
 use Rattle.models.specs.declared.Group.{Group}
 use Rattle.models.specs.declared.Model.{Model}

@@ -1,21 +1,12 @@
 -- What is promised of references, over every model, every list of groups and every text.
 -- Assumes nothing.
-use mathlib.Core.Path.{_≡_, refl, ap, _∙_}
-use mathlib.Core.Logic.{_↔_}
-use mathlib.Core.Bool.{true, _&&_}
-use mathlib.Core.List.{List}
-use Prim.Native.Nat.{ℕ, _≤_}
-use native.Mathlib.Omega.{arith}
-use lib.Dec.{leb}
-use lib.ListN.{length}
-use borrow.Author.Tests.{leb-true, le-leb}
+use Rattle.refusal.proofs.Basics.{_≡_, refl, ap, _∙_, arith, ℕ, _≤_, length, leb-true, le-leb, List, true, _&&_, leb, _↔_, both-true}
 use Rattle.verdict.specs.Verdict.{onlyIf, Within}
 use Rattle.verdict.proofs.Verdicts.{both-pass, pass-both, test-holds, then-within, only-within}
 use Rattle.text.specs.Bytes.{allOf, bytesVerdict}
 use Rattle.classes.specs.declared.Class.the-variants.{Reference}
 use Rattle.text.specs.declared.Found.{Found}
 use Rattle.text.specs.declared.Found.the-variants.{At, Nothing}
-use Rattle.classes.proofs.Choices.{both-true}
 use Rattle.text.proofs.Laws.{all-passes, passes-all, bytes-within}
 use Rattle.models.specs.declared.Model.{Model}
 use Rattle.model_text.specs.Texts.{modelNumber}

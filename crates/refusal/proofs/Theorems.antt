@@ -1,8 +1,6 @@
 -- What is promised of refusals: their numbers tell all that they hold, and a refusal is no acceptance.
 -- Assumes nothing.
-use mathlib.Core.Path.{_≡_, refl}
-use Prim.Native.Nat.{ℕ}
-use native.Mathlib.Omega.{arith}
+use Rattle.refusal.proofs.Basics.{_≡_, refl, arith, ℕ}
 use Rattle.refusal.specs.declared.Refusal.{Refusal}
 use Rattle.refusal.specs.declared.Refusal.the-variants.{Size, Ends, Byte, Length, Form, Check, Model, Parts, Digit, Misplaced, Date, Orders, Sum, Unfinished, Room, Marks, Beyond}
 use Rattle.refusal.specs.declared.Answer.the-variants.{Accepted, Refused}

@@ -1,15 +1,8 @@
 -- Laws of the digits of a number: how many, which, the number that they write, and two numbers one behind the other.
 -- Assumes nothing.
-use mathlib.Core.Path.{_≡_, refl, sym, ap, _∙_}
-use mathlib.Core.Bool.{true}
-use mathlib.Core.List.{List, [], _∷_, _++_}
-use Prim.Native.Nat.{ℕ, zero, suc, _+_, _-_, _*_, _/_, _%_, _^_, _≤_, _<_}
-use native.Mathlib.Omega.{arith}
-use native.Mathlib.Nat.{zero-add, suc-add, add-comm, add-mul, mul-assoc, pow-succ', one-le-pow, mod-one, mod-eq-of-lt, mul-le-mul-right, div-one, div-eq-of-lt-le, div-div-eq-div-mul, mul-add-div-right}
+use Rattle.refusal.proofs.Basics.{_≡_, refl, sym, ap, _∙_, arith, ℕ, zero, suc, _+_, _-_, _*_, _/_, _%_, _^_, _≤_, _<_, length, List, [], _∷_, _++_, true, zero-add, suc-add, add-comm, add-mul, mul-assoc, pow-succ', one-le-pow, mod-one, mod-eq-of-lt, mul-le-mul-right, div-one, div-eq-of-lt-le, div-div-eq-div-mul, mul-add-div-right, both-true}
 use lib.Arith.{mod-mul, digits-div}
-use lib.ListN.{length}
 use lib.Pow.{pow-add}
-use Rattle.classes.proofs.Choices.{both-true}
 use Rattle.classes.proofs.Laws.{digit-between, digit-bounds}
 use Rattle.classes.specs.Classes.{isDigit}
 use Rattle.text.specs.Bytes.{allOf}

@@ -1,12 +1,5 @@
 -- Laws of loops that write into lent room: what is left to be written makes up the whole. Assumes nothing.
-use mathlib.Core.Path.{_≡_, refl, sym, _∙_}
-use mathlib.Core.List.{List, [], _∷_, _++_}
-use Prim.Native.Nat.{ℕ, zero, suc, _+_, _-_, _/_, _%_, _≤_, _<_}
-use native.Mathlib.Numerals.{add-one}
-use native.Mathlib.Omega.{arith}
-use native.Mathlib.Nat.{add-zero}
-use lib.ListN.{length, getD, drop, set, drop-of-length-le}
-use lib.Seq.{sets, drop-cons, set-out, set-comm}
+use Rattle.refusal.proofs.Basics.{_≡_, refl, sym, _∙_, arith, ℕ, zero, suc, _+_, _-_, _/_, _%_, _≤_, _<_, length, getD, drop, set, drop-of-length-le, List, [], _∷_, _++_, sets, drop-cons, set-out, set-comm, add-zero, add-one}
 use Rattle.text.specs.Digits.{digitsText}
 use Rattle.room.proofs.Digits.{digits-length, digits-last}
 

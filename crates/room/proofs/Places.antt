@@ -1,12 +1,5 @@
 -- Laws of lists written at the places of a line: what stands at a place, and what stands apart from it. Assumes nothing.
-use mathlib.Core.Path.{_≡_, refl, sym, ap, _∙_}
-use mathlib.Core.Logic.{_⊎_, ⊎-elim}
-use mathlib.Core.List.{List, [], _∷_, _++_, append-assoc}
-use Prim.Native.Nat.{ℕ, zero, suc, _+_, _≤_, _<_}
-use native.Mathlib.Omega.{arith}
-use native.Mathlib.Nat.{zero-add, suc-add}
-use lib.ListN.{length, take, drop, set, length-drop, take-append-drop}
-use lib.Seq.{sets, length-sets, sets-eq, length-take-le, take-nil, take-add, drop-at, take-append-seam, take-set-le, drop-set-lt, set-set, set-comm}
+use Rattle.refusal.proofs.Basics.{_≡_, refl, sym, ap, _∙_, arith, ℕ, zero, suc, _+_, _≤_, _<_, length, take, drop, set, length-drop, take-append-drop, List, [], _∷_, _++_, append-assoc, sets, length-sets, sets-eq, length-take-le, take-nil, take-add, drop-at, take-append-seam, take-set-le, drop-set-lt, set-set, set-comm, zero-add, suc-add, _⊎_, ⊎-elim}
 
 -- the size stays
 pub sets-length : (s : List ℕ) (at : ℕ) (f : List ℕ) → length (sets s at f) ≡ length s

@@ -1,15 +1,6 @@
 -- The pieces of a text between the bytes that divide it, and how the loops go through a slip piece by piece.
 -- Assumes nothing.
-use mathlib.Core.Path.{_≡_, refl, sym, ap, _∙_}
-use mathlib.Core.Bool.{Bool, true, false, cond, not}
-use mathlib.Core.List.{List, [], _∷_}
-use Prim.Native.Nat.{ℕ, suc, _+_, _-_, _≤_, _<_}
-use native.Mathlib.Numerals.{add-one}
-use native.Mathlib.Omega.{arith}
-use lib.Dec.{eqb, leb}
-use lib.ListN.{length, take, drop, getD, length-drop}
-use lib.Seq.{drop-drop, length-take-le}
-use borrow.Author.Tests.{ne-eqb, eq-eqb, le-leb, lt-leb}
+use Rattle.refusal.proofs.Basics.{_≡_, refl, sym, ap, _∙_, arith, ℕ, suc, _+_, _-_, _≤_, _<_, length, take, drop, getD, length-drop, ne-eqb, eq-eqb, le-leb, lt-leb, List, [], _∷_, Bool, true, false, cond, not, eqb, leb, drop-drop, length-take-le, add-one, left, entered, and-first, and-second}
 use Rattle.refusal.specs.Refusal.{none, firstOf}
 use Rattle.verdict.specs.Verdict.{answerAt}
 use Rattle.refusal.specs.declared.Answer.{Answer}
@@ -25,7 +16,6 @@ use Rattle.text.specs.declared.Found.the-variants.{At, Nothing}
 use Rattle.text.specs.Split.{split}
 use Rattle.text.proofs.Laws.{to-the-end}
 use Rattle.text.proofs.Pieces.{first-piece}
-use Rattle.classes.proofs.Choices.{left, entered, and-first, and-second}
 use Rattle.slip_fields.specs.Fields.{fieldVerdict}
 use Rattle.slip.specs.Slip.{slipEnds, fieldsAnswer, slipAnswer}
 

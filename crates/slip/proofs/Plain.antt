@@ -1,18 +1,9 @@
 -- What is promised of a slip, to be held beside document 01, "The slip's fourteen fields": accepted exactly when, field by field, and the
 -- check digits of an accepted slip's reference.
 -- Assumes nothing.
-use mathlib.Core.Path.{_≡_, refl, sym, subst, _∙_}
-use mathlib.Core.Logic.{_↔_, _⊎_, inl, inr}
-use mathlib.Core.Bool.{Bool, true, false}
-use mathlib.Core.List.{List, [], List·Memᴰ}
-use Prim.Native.Nat.{ℕ, _+_, _-_, _≤_}
-use native.Mathlib.Omega.{arith}
-use lib.Dec.{eqb}
-use lib.ListN.{length, getD}
-use borrow.Author.Tests.{eqb-true, eqb-false}
+use Rattle.refusal.proofs.Basics.{_≡_, refl, sym, subst, _∙_, arith, ℕ, _+_, _-_, _≤_, length, getD, eqb-true, eqb-false, List, [], List·Memᴰ, Bool, true, false, eqb, _↔_, _⊎_, inl, inr, both-true}
 use Rattle.refusal.specs.declared.Answer.the-variants.{Accepted}
 use Rattle.classes.specs.declared.Class.the-variants.{Digits, Letters}
-use Rattle.classes.proofs.Choices.{both-true}
 use Rattle.text.specs.Bytes.{allOf, countOf, eur}
 use Rattle.text.specs.Split.{joined}
 use Rattle.text.specs.declared.Found.the-variants.{At, Nothing}

@@ -1,15 +1,6 @@
 -- What is promised of a slip: accepted exactly when.
 -- Assumes nothing.
-use mathlib.Core.Path.{_≡_, refl, sym}
-use mathlib.Core.Logic.{_↔_}
-use mathlib.Core.Bool.{true}
-use mathlib.Core.List.{List, [], _∷_}
-use Prim.Native.Nat.{ℕ, zero, suc, _+_, _-_, _≤_, _<_}
-use native.Mathlib.Omega.{arith}
-use native.Mathlib.Nat.{add-zero}
-use lib.Dec.{eqb, leb}
-use lib.ListN.{length, getD}
-use borrow.Author.Tests.{eq-eqb, eqb-true, leb-true}
+use Rattle.refusal.proofs.Basics.{_≡_, refl, sym, arith, ℕ, zero, suc, _+_, _-_, _≤_, _<_, length, getD, eq-eqb, eqb-true, leb-true, List, [], _∷_, true, eqb, leb, add-zero, _↔_, chosen, both-true, and-second}
 use Rattle.refusal.specs.Refusal.{none}
 use Rattle.verdict.specs.Verdict.{answerAt}
 use Rattle.refusal.specs.declared.Answer.the-variants.{Accepted}
@@ -18,7 +9,6 @@ use Rattle.verdict.proofs.Verdicts.{answer-accepted, first-both}
 use Rattle.text.specs.Bytes.{countOf}
 use Rattle.text.specs.Split.{split}
 use Rattle.refusal.proofs.Theorems.{refused-not-accepted}
-use Rattle.classes.proofs.Choices.{chosen, both-true, and-second}
 use Rattle.slip_fields.specs.Fields.{fieldVerdict}
 use Rattle.slip.specs.Slip.{slipEnds, fieldsAnswer, slipAnswer, pieceOf}
 use Rattle.text.proofs.Pieces.{pieces-counted}

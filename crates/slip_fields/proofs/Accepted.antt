@@ -1,14 +1,6 @@
 -- What an accepted field of each kind is: its bytes, its length, and that no line feed stands in it.
 -- Assumes nothing.
-use mathlib.Core.Path.{_≡_, refl, sym, ap, _∙_}
-use mathlib.Core.Logic.{_↔_, _⊎_, inl, inr, ⊎-elim}
-use mathlib.Core.Bool.{Bool, true, false, cond, not, _&&_, _||_, or-true}
-use mathlib.Core.List.{List, [], _∷_}
-use Prim.Native.Nat.{ℕ, zero, suc, _*_, _≤_, _<_}
-use native.Mathlib.Omega.{arith}
-use lib.Dec.{eqb}
-use lib.ListN.{length, getD}
-use borrow.Author.Tests.{eqb-true, eq-eqb, ne-eqb}
+use Rattle.refusal.proofs.Basics.{_≡_, refl, sym, ap, _∙_, arith, ℕ, zero, suc, _*_, _≤_, _<_, length, getD, eqb-true, eq-eqb, ne-eqb, List, [], _∷_, Bool, true, false, cond, not, _&&_, _||_, or-true, eqb, _↔_, _⊎_, inl, inr, ⊎-elim, both-true, and-second}
 use Rattle.verdict.proofs.Verdicts.{both-pass, test-holds}
 use Rattle.classes.specs.Classes.{isDigit, permits}
 use Rattle.text.specs.Bytes.{allOf, bytesVerdict, same}
@@ -17,7 +9,6 @@ use Rattle.classes.specs.declared.Class.{Class}
 use Rattle.classes.specs.declared.Class.the-variants.{Account, Reference, Line}
 use Rattle.text.specs.declared.Found.{Found}
 use Rattle.text.specs.declared.Found.the-variants.{Nothing}
-use Rattle.classes.proofs.Choices.{both-true, and-second}
 use Rattle.classes.proofs.Laws.{digit-bounds}
 use Rattle.text.proofs.Laws.{isNothing, all-passes, passes-all}
 use Rattle.characters.specs.Answers.{charactersVerdict}

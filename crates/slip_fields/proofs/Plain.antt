@@ -1,14 +1,6 @@
 -- What each of a slip's fourteen fields is, in the words of document 01: accepted exactly when.
 -- Assumes nothing.
-use mathlib.Core.Path.{_≡_, refl}
-use mathlib.Core.Logic.{_↔_, _⊎_, inl, inr, ⊎-elim}
-use mathlib.Core.Bool.{true, false}
-use mathlib.Core.List.{List, [], _∷_}
-use Prim.Native.Nat.{ℕ, _≤_, _<_}
-use native.Mathlib.Omega.{arith}
-use lib.Dec.{eqb}
-use lib.ListN.{length}
-use borrow.Author.Tests.{ne-eqb}
+use Rattle.refusal.proofs.Basics.{_≡_, refl, arith, ℕ, _≤_, _<_, length, ne-eqb, List, [], _∷_, true, false, eqb, _↔_, _⊎_, inl, inr, ⊎-elim}
 use Rattle.text.specs.Bytes.{allOf, eur}
 use Rattle.text.specs.declared.Found.the-variants.{Nothing}
 use Rattle.classes.specs.declared.Class.the-variants.{Digits, Letters}

@@ -1,13 +1,6 @@
 -- What is promised of the fields of a slip: which bytes an accepted field has, how many, and what it depends on.
 -- Assumes nothing.
-use mathlib.Core.Path.{_≡_, refl, ap}
-use mathlib.Core.Bool.{Bool, true, false, cond, _||_}
-use mathlib.Core.List.{List}
-use Prim.Native.Nat.{ℕ, _+_, _≤_}
-use native.Mathlib.Omega.{arith}
-use lib.Dec.{eqb, leb}
-use lib.ListN.{length}
-use borrow.Author.Tests.{ne-eqb}
+use Rattle.refusal.proofs.Basics.{_≡_, refl, ap, arith, ℕ, _+_, _≤_, length, ne-eqb, List, Bool, true, false, cond, _||_, eqb, leb}
 use Rattle.verdict.specs.Verdict.{Within}
 use Rattle.verdict.proofs.Verdicts.{choice-within, then-within, only-within}
 use Rattle.classes.specs.Classes.{permits}

@@ -1,11 +1,6 @@
 -- Fields judged one after the other.
 -- Assumes nothing.
-use mathlib.Core.Path.{_≡_, refl, sym, _∙_}
-use mathlib.Core.List.{List, [], _∷_, _++_}
-use Prim.Native.Nat.{ℕ, suc, _+_}
-use native.Mathlib.Omega.{arith}
-use native.Mathlib.Nat.{add-zero}
-use lib.ListN.{length}
+use Rattle.refusal.proofs.Basics.{_≡_, refl, sym, _∙_, arith, ℕ, suc, _+_, length, List, [], _∷_, _++_, add-zero}
 use Rattle.refusal.specs.declared.Refusal.{Refusal}
 use Rattle.refusal.specs.declared.Answer.{Answer}
 use Rattle.refusal.specs.Refusal.{firstOf}

@@ -1,10 +1,6 @@
 -- The amount of a slip, digit by digit.
 -- Assumes nothing.
-use mathlib.Core.Path.{_≡_}
-use mathlib.Core.List.{List}
-use Prim.Native.Nat.{ℕ}
-use native.Mathlib.Omega.{arith}
-use lib.ListN.{length}
+use Rattle.refusal.proofs.Basics.{_≡_, arith, ℕ, length, List}
 use Rattle.refusal.specs.declared.Answer.the-variants.{Accepted}
 use Rattle.text.specs.Split.{split}
 use Rattle.slip_fields.proofs.Theorems.{third-is-digits}

@@ -1,14 +1,6 @@
 -- Where the pieces of a text stand between its line feeds, and the fields that a slip hands back.
 -- Assumes nothing.
-use mathlib.Core.Path.{_≡_, refl, sym, ap, _∙_}
-use mathlib.Core.Bool.{Bool, true, false, cond}
-use mathlib.Core.List.{List, [], _∷_}
-use Prim.Native.Nat.{ℕ, zero, suc, _+_, _-_, _≤_, _<_}
-use native.Mathlib.Omega.{arith}
-use native.Mathlib.Nat.{zero-add, add-zero}
-use lib.ListN.{length, take, drop, length-drop}
-use lib.Seq.{drop-drop, length-take-le, take-all}
-use borrow.Author.Tests.{le-leb}
+use Rattle.refusal.proofs.Basics.{_≡_, refl, sym, ap, _∙_, arith, ℕ, zero, suc, _+_, _-_, _≤_, _<_, length, take, drop, length-drop, le-leb, List, [], _∷_, Bool, true, false, cond, drop-drop, length-take-le, take-all, zero-add, add-zero, left, entered}
 use Rattle.refusal.specs.Refusal.{isAccepted}
 use Rattle.text.specs.Bytes.{firstBad}
 use Rattle.classes.specs.declared.Class.the-variants.{Line}
@@ -17,7 +9,6 @@ use Rattle.text.specs.declared.Found.the-variants.{At, Nothing}
 use Rattle.text.specs.declared.Part.{Part}
 use Rattle.text.specs.Split.{split}
 use Rattle.text.proofs.Laws.{to-the-end}
-use Rattle.classes.proofs.Choices.{left, entered}
 use Rattle.slip.specs.Slip.{slipAnswer, pieceOf}
 use Rattle.text.proofs.Pieces.{first-piece}
 use Rattle.slip.proofs.Laws.{split-at, split-whole}

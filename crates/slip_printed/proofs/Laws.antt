@@ -1,12 +1,5 @@
 -- Laws of what is printed of a slip. Assumes nothing.
-use mathlib.Core.Path.{_≡_, refl, ap, _∙_}
-use mathlib.Core.List.{List, [], _++_, append-nil}
-use Prim.Native.Nat.{ℕ, suc, _+_, _-_, _≤_}
-use native.Mathlib.Omega.{arith}
-use native.Mathlib.Numerals.{add-one}
-use lib.ListN.{replicate}
-use lib.Seq.{sets}
-use borrow.Author.Tests.{le-leb}
+use Rattle.refusal.proofs.Basics.{_≡_, refl, ap, _∙_, arith, ℕ, suc, _+_, _-_, _≤_, replicate, le-leb, List, [], _++_, append-nil, sets, add-one}
 use Rattle.text.specs.Digits.{digitsText}
 use Rattle.text.specs.Split.{split}
 use Rattle.room.proofs.Places.{front}

@@ -1,11 +1,6 @@
 -- All that is printed of a slip stands in a room of 6,100 bytes.
 -- Assumes nothing.
-use mathlib.Core.Path.{_≡_, refl}
-use mathlib.Core.List.{List, [], _∷_, _++_}
-use Prim.Native.Nat.{ℕ, zero, suc, _+_, _-_, _*_, _≤_}
-use native.Mathlib.Nat.{suc-mul}
-use native.Mathlib.Omega.{arith}
-use lib.ListN.{length, take, length-append}
+use Rattle.refusal.proofs.Basics.{_≡_, refl, arith, ℕ, zero, suc, _+_, _-_, _*_, _≤_, length, take, length-append, List, [], _∷_, _++_, suc-mul}
 use Rattle.refusal.specs.declared.Answer.{Answer}
 use Rattle.refusal.specs.declared.Answer.the-variants.{Accepted, Refused}
 use Rattle.text.specs.Split.{split}

@@ -1,10 +1,5 @@
 -- Laws of texts written one behind another, of fields judged one after another, and of what the writer answers. Assumes nothing.
-use mathlib.Core.Path.{_≡_, refl, sym, _∙_}
-use mathlib.Core.List.{List, [], _∷_, _++_, append-assoc}
-use Prim.Native.Nat.{ℕ, _+_, _≤_, _<_}
-use native.Mathlib.Omega.{arith}
-use lib.ListN.{length, set, length-append}
-use borrow.Author.Tests.{lt-ltb, le-ltb}
+use Rattle.refusal.proofs.Basics.{_≡_, refl, sym, _∙_, arith, ℕ, _+_, _≤_, _<_, length, set, length-append, lt-ltb, le-ltb, List, [], _∷_, _++_, append-assoc}
 use Rattle.refusal.specs.declared.Place.{Place}
 use Rattle.refusal.specs.declared.Refusal.{Refusal}
 use Rattle.refusal.specs.declared.Refusal.the-variants.{Length, Room}

@@ -1,18 +1,9 @@
 -- Laws of lines: a text is split at its line feeds, and joined from its lines. Assumes nothing.
-use mathlib.Core.Path.{_≡_, refl, sym, ap, _∙_}
-use mathlib.Core.Bool.{Bool, true, false, cond, not}
-use mathlib.Core.List.{List, [], _∷_, _++_, append-nil}
-use Prim.Native.Nat.{ℕ, zero, suc, _+_, _-_, _<_}
-use native.Mathlib.Omega.{arith}
-use lib.Dec.{eqb}
-use lib.ListN.{length, getD, length-append}
-use lib.Seq.{getD-append-add}
-use borrow.Author.Tests.{eqb-true, eqb-false, not-true}
+use Rattle.refusal.proofs.Basics.{_≡_, refl, sym, ap, _∙_, arith, ℕ, zero, suc, _+_, _-_, _<_, length, getD, length-append, eqb-true, eqb-false, not-true, List, [], _∷_, _++_, append-nil, Bool, true, false, cond, not, eqb, getD-append-add, both-true}
 use Rattle.text.specs.Bytes.{allOf, countOf}
 use Rattle.classes.specs.declared.Class.the-variants.{Line}
 use Rattle.text.specs.Split.{longer, split}
 use Rattle.text.proofs.Pieces.{pieces-counted}
-use Rattle.classes.proofs.Choices.{both-true}
 use Rattle.slip_writer.specs.Writer.{joinLines}
 use Rattle.slip_writer.specs.Claims.{EachLine, none, more, slipLines}
 

@@ -1,16 +1,6 @@
 -- What is promised of slips written and read: what the writer writes the reader accepts, field by field; what the reader accepts is
 -- written again byte for byte. Assumes nothing.
-use mathlib.Core.Path.{_≡_, refl, sym, ap, _∙_}
-use mathlib.Core.Bool.{Bool, true, false, cond}
-use mathlib.Core.List.{List, [], _∷_, _++_}
-use Prim.Native.Nat.{ℕ, zero, suc, _+_, _-_, _^_, _≤_, _<_}
-use native.Mathlib.Numerals.{add-one}
-use native.Mathlib.Omega.{arith}
-use native.Mathlib.Nat.{zero-add, add-zero}
-use lib.Dec.{eqb, leb, ltb}
-use lib.ListN.{length, getD, drop, List·getD-append, drop-of-length-le}
-use lib.Seq.{drop-cons}
-use borrow.Author.Tests.{le-leb, eqb-true, ltb-true, ltb-false, lt-ltb, le-ltb}
+use Rattle.refusal.proofs.Basics.{_≡_, refl, sym, ap, _∙_, arith, ℕ, zero, suc, _+_, _-_, _^_, _≤_, _<_, length, getD, drop, List·getD-append, drop-of-length-le, le-leb, eqb-true, ltb-true, ltb-false, lt-ltb, le-ltb, List, [], _∷_, _++_, Bool, true, false, cond, eqb, leb, ltb, drop-cons, zero-add, add-zero, add-one, both-true}
 use Rattle.refusal.specs.declared.Answer.{Answer}
 use Rattle.refusal.specs.declared.Answer.the-variants.{Accepted, Refused}
 use Rattle.refusal.specs.Refusal.{none}
@@ -20,7 +10,6 @@ use Rattle.verdict.proofs.Verdicts.{answer-accepted, first-both}
 use Rattle.text.specs.Digits.{digitsOf, valueOf, digitsText}
 use Rattle.text.specs.Split.{split}
 use Rattle.text.specs.Bytes.{countOf, eur}
-use Rattle.classes.proofs.Choices.{both-true}
 use Rattle.slip_fields.specs.Fields.{hrvhub30, fieldVerdict}
 use Rattle.slip_fields.proofs.Theorems.{no-line-feed, first-is-hrvhub30, second-is-eur, third-is-digits, hrvhub30-accepted, eur-accepted, digits-accepted, before-matters-to-12-alone}
 use Rattle.room.proofs.Digits.{digits-length, text-digits, number-back, value-below, digits-again}

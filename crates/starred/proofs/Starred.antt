@@ -1,11 +1,7 @@
 -- Document 01, "Both sides of the line": the starred cases, as a single table under a single claim, proved about the definitions by
 -- computing them.
 -- Assumes nothing.
-use Prim.Native.Nat.{ℕ}
-use mathlib.Core.Path.{_≡_, refl}
-use mathlib.Core.Bool.{Bool, true, _&&_}
-use mathlib.Core.List.{List, [], _∷_, _++_}
-use lib.Dec.{eqb}
+use Rattle.refusal.proofs.Basics.{_≡_, refl, ℕ, List, [], _∷_, _++_, Bool, true, _&&_, eqb}
 use Rattle.refusal.specs.Refusal.{answerNumber}
 use Rattle.verdict.specs.Verdict.{verdictNumber}
 use Rattle.text.specs.Bytes.{firstBad, bytesVerdict, allOf, countOf, same}

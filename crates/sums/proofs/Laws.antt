@@ -1,15 +1,7 @@
 -- Two numbers base 10^18 as one, and a sum that is kept as its limit from there on.
 -- Assumes nothing.
-use mathlib.Core.Path.{_≡_, refl, sym, ap, _∙_}
-use mathlib.Core.Bool.{Bool, true, false}
-use mathlib.Core.List.{List}
-use Prim.Native.Nat.{ℕ, zero, suc, _+_, _*_, _/_, _%_, _≤_, _<_}
-use native.Mathlib.Nat.{div-add-mod', mod-lt, add-zero}
-use native.Mathlib.Omega.{arith}
-use lib.Dec.{ltb, eqb, lit<}
-use borrow.Author.Tests.{lt-ltb, le-ltb, ltb-true, ltb-false, eq-eqb, ne-eqb, eqb-true, eqb-false}
+use Rattle.refusal.proofs.Basics.{_≡_, refl, sym, ap, _∙_, arith, ℕ, zero, suc, _+_, _*_, _/_, _%_, _≤_, _<_, lt-ltb, le-ltb, ltb-true, ltb-false, eq-eqb, ne-eqb, eqb-true, eqb-false, List, Bool, true, false, ltb, eqb, lit<, div-add-mod', mod-lt, add-zero, taken, left}
 use Rattle.text.specs.Digits.{valueFrom}
-use Rattle.classes.proofs.Choices.{taken, left}
 use Rattle.text.proofs.Values.{value-keeps}
 use Rattle.sums.specs.Sums.{limb, centsOf, noCents, sumOf, added}
 

@@ -1,16 +1,6 @@
 -- What is promised of sums and of numbers read from digits: sums exact below any limit and told apart.
 -- Assumes nothing.
-use mathlib.Core.Path.{_≡_, refl, sym, ap, _∙_}
-use mathlib.Core.Logic.{_↔_}
-use mathlib.Core.Bool.{Bool, true, false}
-use mathlib.Core.List.{List}
-use Prim.Native.Nat.{ℕ, _+_, _*_, _^_, _≤_, _<_}
-use native.Mathlib.Nat.{zero-add, pow-le-pow-right}
-use native.Mathlib.Omega.{arith}
-use lib.Dec.{ltb}
-use lib.ListN.{length}
-use lib.Seq.{take-all}
-use borrow.Author.Tests.{lt-ltb, le-ltb, ltb-true, ltb-false, eq-eqb, ne-eqb, eqb-true}
+use Rattle.refusal.proofs.Basics.{_≡_, refl, sym, ap, _∙_, arith, ℕ, _+_, _*_, _^_, _≤_, _<_, length, lt-ltb, le-ltb, ltb-true, ltb-false, eq-eqb, ne-eqb, eqb-true, List, Bool, true, false, ltb, take-all, zero-add, pow-le-pow-right, _↔_}
 use Rattle.text.specs.Digits.{digitsOf}
 use Rattle.text.proofs.Values.{value-below, digits-few}
 use Rattle.sums.specs.declared.Sum.{Sum}

@@ -1,17 +1,8 @@
 -- Laws of a text's blanks: the text without those at its end.
 -- Assumes nothing.
-use mathlib.Core.Path.{_≡_, refl, sym, ap, _∙_}
-use mathlib.Core.Bool.{Bool, true, false, cond, _&&_, false≢true}
-use mathlib.Core.List.{List, [], _∷_, _++_}
-use Prim.Native.Nat.{ℕ, suc, _-_, _≤_, _<_}
-use native.Mathlib.Omega.{arith}
-use lib.Dec.{eqb}
-use lib.ListN.{length, take, getD}
-use lib.Seq.{take-suc}
-use borrow.Author.Tests.{ne-eqb}
+use Rattle.refusal.proofs.Basics.{_≡_, refl, sym, ap, _∙_, arith, ℕ, suc, _-_, _≤_, _<_, length, take, getD, ne-eqb, List, [], _∷_, _++_, Bool, true, false, cond, _&&_, false≢true, eqb, take-suc, left}
 use Rattle.classes.specs.declared.Class.the-variants.{Blanks}
 use Rattle.text.specs.Bytes.{allOf, trimmed}
-use Rattle.classes.proofs.Choices.{left}
 
 -- a text of blanks alone is nothing without them
 pub trimmed-blanks : (s : List ℕ) → allOf Blanks s ≡ true → trimmed s ≡ []

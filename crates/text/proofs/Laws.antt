@@ -1,16 +1,6 @@
 -- Laws that every crate's proofs cite: of choices on a test, of tests, and of the texts that loops walk through.
 -- Assumes nothing.
-use mathlib.Core.Path.{_≡_, refl, sym, ap, subst, _∙_}
-use mathlib.Core.Bool.{Bool, true, false, cond, _&&_, and-true, and-assoc, false≢true}
-use mathlib.Core.List.{List, [], _∷_, _++_}
-use Prim.Native.Nat.{ℕ, suc, _+_, _-_, _*_, _≤_, _<_}
-use native.Mathlib.Numerals.{add-one}
-use native.Mathlib.Omega.{arith}
-use native.Mathlib.Nat.{zero-add, add-zero}
-use lib.Dec.{eqb, leb}
-use lib.ListN.{length, take, drop, getD, length-drop, take-append-drop}
-use lib.Seq.{drop-cons, drop-length, take-all}
-use borrow.Author.Tests.{ne-eqb, eq-eqb, leb-true, leb-false}
+use Rattle.refusal.proofs.Basics.{_≡_, refl, sym, ap, subst, _∙_, arith, ℕ, suc, _+_, _-_, _*_, _≤_, _<_, length, take, drop, getD, length-drop, take-append-drop, ne-eqb, eq-eqb, leb-true, leb-false, List, [], _∷_, _++_, Bool, true, false, cond, _&&_, and-true, and-assoc, false≢true, eqb, leb, drop-cons, drop-length, take-all, zero-add, add-zero, add-one, and-first, and-second, both-true}
 use Rattle.classes.specs.declared.Class.{Class}
 use Rattle.text.specs.declared.Found.{Found}
 use Rattle.text.specs.declared.Found.the-variants.{At, Nothing}
@@ -18,7 +8,6 @@ use Rattle.text.specs.Digits.{digitsOf, valueFrom}
 use Rattle.verdict.specs.Verdict.{Within}
 use Rattle.classes.specs.Classes.{isDigit, permits}
 use Rattle.text.specs.Bytes.{later, firstBad, found, bytesVerdict, allOf, countOf}
-use Rattle.classes.proofs.Choices.{and-first, and-second, both-true}
 
 -- ---------------------------------------------------------------------------
 -- Digits

@@ -1,10 +1,5 @@
 -- The pieces of a text between the bytes c that divide it. Assumes nothing.
-use mathlib.Core.Path.{_≡_, refl, ap}
-use mathlib.Core.Bool.{Bool, true, false, cond}
-use mathlib.Core.List.{List, [], _∷_}
-use Prim.Native.Nat.{ℕ, suc}
-use lib.Dec.{eqb}
-use lib.ListN.{length}
+use Rattle.refusal.proofs.Basics.{_≡_, refl, ap, ℕ, suc, length, List, [], _∷_, Bool, true, false, cond, eqb}
 use Rattle.text.specs.Bytes.{countOf}
 use Rattle.text.specs.Split.{longer, split}
 

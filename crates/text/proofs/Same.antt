@@ -1,16 +1,6 @@
 -- Laws of two texts that are the same bytes, as a loop over both finds it.
 -- Assumes nothing.
-use mathlib.Core.Path.{_≡_, refl, sym, ap}
-use mathlib.Core.Bool.{Bool, true, false}
-use mathlib.Core.List.{List, [], _∷_}
-use Prim.Native.Nat.{ℕ, _+_, _≤_, _<_}
-use native.Mathlib.Numerals.{add-one}
-use native.Mathlib.Omega.{arith}
-use lib.Dec.{eqb}
-use lib.ListN.{length, drop, getD}
-use lib.Seq.{drop-cons, drop-length}
-use borrow.Author.Tests.{ne-eqb, eq-eqb, eqb-true}
-use Rattle.classes.proofs.Choices.{both-true}
+use Rattle.refusal.proofs.Basics.{_≡_, refl, sym, ap, arith, ℕ, _+_, _≤_, _<_, length, drop, getD, ne-eqb, eq-eqb, eqb-true, List, [], _∷_, Bool, true, false, eqb, drop-cons, drop-length, add-one, both-true}
 use Rattle.text.specs.Bytes.{same}
 
 -- texts that are the same bytes are one text

@@ -1,12 +1,6 @@
 -- Laws of lists written at a place of a lent slice, one behind the other.
 -- Assumes nothing.
-use mathlib.Core.Path.{_≡_, refl, ap, _∙_}
-use mathlib.Core.List.{List, [], _∷_, _++_}
-use Prim.Native.Nat.{ℕ, suc, _+_, _≤_}
-use native.Mathlib.Nat.{add-zero, zero-add}
-use native.Mathlib.Omega.{arith}
-use lib.ListN.{length, drop, set, length-append}
-use lib.Seq.{sets, sets-eq, length-sets}
+use Rattle.refusal.proofs.Basics.{_≡_, refl, ap, _∙_, arith, ℕ, suc, _+_, _≤_, length, drop, set, length-append, List, [], _∷_, _++_, sets, sets-eq, length-sets, add-zero, zero-add}
 use Rattle.text.specs.Stands.{Stands}
 
 -- two lists, one behind the other

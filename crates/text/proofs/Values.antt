@@ -1,14 +1,6 @@
 -- The number that digits write, digit by digit.
 -- Assumes nothing.
-use mathlib.Core.Path.{_≡_, refl, ap, _∙_}
-use mathlib.Core.Bool.{Bool, true, false, cond}
-use mathlib.Core.List.{List, [], _∷_}
-use Prim.Native.Nat.{ℕ, suc, _+_, _-_, _*_, _^_, _≤_, _<_}
-use native.Mathlib.Nat.{pow-suc, pow-le-pow-right, add-zero}
-use native.Mathlib.Numerals.{add-one}
-use native.Mathlib.Omega.{arith}
-use lib.ListN.{length, take, drop, getD}
-use lib.Seq.{drop-cons, drop-length, take-suc}
+use Rattle.refusal.proofs.Basics.{_≡_, refl, ap, _∙_, arith, ℕ, suc, _+_, _-_, _*_, _^_, _≤_, _<_, length, take, drop, getD, List, [], _∷_, Bool, true, false, cond, drop-cons, drop-length, take-suc, pow-suc, pow-le-pow-right, add-zero, add-one}
 use Rattle.classes.specs.Classes.{isDigit}
 use Rattle.text.specs.Digits.{digitsOf, valueFrom}
 use Rattle.text.proofs.Laws.{digits-append, value-append}

@@ -25,7 +25,7 @@ fn main() {
     let n = io::read_full(0, &mut input);
     let mut memory = [0u8; 1100];
     let mut kept = [0u8; 8016];
-    answer_all(&input[..n], &mut memory, &mut kept);
+    answer_all(front(&input, n), &mut memory, &mut kept);
 }
 
 // Answers each line. The judge's verbs are `judge_by`'s, all others `respond`'s.

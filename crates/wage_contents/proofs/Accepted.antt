@@ -1,15 +1,6 @@
 -- What acceptance of a place's content means: each verdict is 0 exactly when a plain test holds.
 -- Assumes nothing.
-use mathlib.Core.Path.{_≡_, refl, sym}
-use mathlib.Core.Logic.{_↔_}
-use mathlib.Core.Bool.{Bool, true, false, cond, not, _&&_, _||_, false≢true}
-use mathlib.Core.List.{List, [], _∷_}
-use Prim.Native.Nat.{ℕ, _+_, _-_, _≤_}
-use native.Mathlib.Omega.{arith}
-use lib.Dec.{eqb, leb}
-use lib.ListN.{length, take, drop, drop-of-length-le}
-use lib.Seq.{take-all}
-use borrow.Author.Tests.{eq-eqb, ne-eqb, eqb-true, leb-true, leb-false, le-leb}
+use Rattle.refusal.proofs.Basics.{_≡_, refl, sym, arith, ℕ, _+_, _-_, _≤_, length, take, drop, drop-of-length-le, eq-eqb, ne-eqb, eqb-true, leb-true, leb-false, le-leb, List, [], _∷_, Bool, true, false, cond, not, _&&_, _||_, false≢true, eqb, leb, take-all, _↔_, both-true}
 use Rattle.verdict.specs.Verdict.{andThen, onlyIf}
 use Rattle.verdict.proofs.Verdicts.{both-pass, pass-both, test-holds}
 use Rattle.text.specs.Bytes.{bytesVerdict, allOf, same, eur}
@@ -17,7 +8,6 @@ use Rattle.classes.specs.declared.Class.{Class}
 use Rattle.classes.specs.declared.Class.the-variants.{Digits, Blanks, Zeros, Place}
 use Rattle.text.specs.Digits.{digitsOf, valueFrom, valueOf}
 use Rattle.classes.specs.Classes.{isDigit}
-use Rattle.classes.proofs.Choices.{both-true}
 use Rattle.classes.proofs.Laws.{digit-bounds}
 use Rattle.text.proofs.Laws.{all-passes, passes-all}
 use Rattle.text.proofs.Values.{value-keeps}

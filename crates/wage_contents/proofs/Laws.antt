@@ -1,14 +1,8 @@
 -- Laws that this crate's proofs share, of an IBAN's place.
 -- Assumes nothing.
-use mathlib.Core.Path.{_≡_, refl, sym, ap, _∙_}
-use mathlib.Core.Bool.{Bool, true, false, cond, _&&_}
-use mathlib.Core.List.{List}
-use Prim.Native.Nat.{ℕ}
-use lib.ListN.{take, drop, take-append-drop}
-use borrow.Author.Tests.{eqb-true}
+use Rattle.refusal.proofs.Basics.{_≡_, refl, sym, ap, _∙_, ℕ, take, drop, take-append-drop, eqb-true, List, Bool, true, false, cond, _&&_, or-first, both-true}
 use Rattle.text.specs.Bytes.{bytesVerdict, allOf}
 use Rattle.classes.specs.declared.Class.the-variants.{Account, Blanks, Place}
-use Rattle.classes.proofs.Choices.{or-first, both-true}
 use Rattle.text.proofs.Laws.{all-joined, all-wider, all-passes, passes-all}
 use Rattle.account.specs.Account.{ibanFormed, ibanPasses}
 use Rattle.account.specs.Answers.{isIban}

@@ -1,10 +1,6 @@
 -- The byte that the refusal of a place's content tells lies within that place.
 -- Assumes nothing.
-use mathlib.Core.Bool.{Bool, _&&_, _||_}
-use mathlib.Core.List.{List}
-use Prim.Native.Nat.{ℕ, _<_}
-use native.Mathlib.Omega.{arith}
-use lib.ListN.{length, take, drop}
+use Rattle.refusal.proofs.Basics.{arith, ℕ, _<_, length, take, drop, List, Bool, _&&_, _||_}
 use Rattle.verdict.specs.Verdict.{onlyIf, Within}
 use Rattle.verdict.proofs.Verdicts.{choice-within, then-within, only-within}
 use Rattle.text.specs.Bytes.{bytesVerdict, allOf, same, eur}

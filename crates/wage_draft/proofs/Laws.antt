@@ -1,16 +1,6 @@
 -- Laws of a line being drafted: the fields put at their places; what a rule looks at besides its own field; and what a draft changes and leaves.
 -- Assumes nothing.
-use mathlib.Core.Path.{_≡_, refl, sym, ap, _∙_}
-use mathlib.Core.Bool.{Bool, true, false, _&&_}
-use mathlib.Core.Logic.{inr}
-use mathlib.Core.List.{List, [], _∷_, _++_, map, append-nil}
-use Prim.Native.Nat.{ℕ, zero, suc, _+_, _-_, _≤_, _<_}
-use native.Mathlib.Numerals.{add-one}
-use native.Mathlib.Omega.{arith}
-use lib.ListN.{length, length-replicate, replicate, take, drop, getD, drop-of-length-le}
-use lib.Dec.{eqb, leb, ltb}
-use lib.Seq.{sets, drop-cons, drop-length, take-nil, take-take}
-use borrow.Author.Tests.{eq-eqb, ne-eqb, eqb-true, eqb-false, leb-true, ltb-true, ltb-false}
+use Rattle.refusal.proofs.Basics.{_≡_, refl, sym, ap, _∙_, arith, ℕ, zero, suc, _+_, _-_, _≤_, _<_, length, length-replicate, replicate, take, drop, getD, drop-of-length-le, eq-eqb, ne-eqb, eqb-true, eqb-false, leb-true, ltb-true, ltb-false, List, [], _∷_, _++_, map, append-nil, Bool, true, false, _&&_, eqb, leb, ltb, sets, drop-cons, drop-length, take-nil, take-take, inr, add-one, both-true}
 use Rattle.refusal.specs.Refusal.{none}
 use Rattle.refusal.specs.declared.Place.{Place}
 use Rattle.refusal.specs.declared.Answer.{Answer}
@@ -18,7 +8,6 @@ use Rattle.refusal.specs.declared.Answer.the-variants.{Accepted, Refused}
 use Rattle.refusal.specs.declared.Refusal.{Refusal}
 use Rattle.refusal.specs.declared.Refusal.the-variants.{Size}
 use Rattle.verdict.proofs.Verdicts.{first-both}
-use Rattle.classes.proofs.Choices.{both-true}
 use Rattle.room.proofs.Places.{sets-length, front, take-sets, drop-sets, place-filled, set-own, sets-over, sets-apart}
 use Rattle.wage_places.specs.declared.LineType.{LineType}
 use Rattle.wage_places.specs.declared.Spot.{Spot}

@@ -1,5 +1,5 @@
 -- Any two answers that the contract of a public call allows are equal, and so is what they leave in lent memory. Assumes nothing.
-use mathlib.Core.Path.{sym, _∙_}
+use Rattle.refusal.proofs.Basics.{sym, _∙_}
 use Rattle.refusal.specs.One.{One}
 use Rattle.wage_draft.proofs as here
 

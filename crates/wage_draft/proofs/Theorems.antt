@@ -1,12 +1,6 @@
 -- What is promised of a wage line drafted from its fields: drafts joined, what an accepted draft is, and a line
 -- drafted from its own parts. Assumes nothing.
-use mathlib.Core.Path.{_≡_, refl, sym, ap, _∙_}
-use mathlib.Core.Logic.{_↔_}
-use mathlib.Core.List.{List, [], _∷_, _++_}
-use Prim.Native.Nat.{ℕ, suc, _<_}
-use native.Mathlib.Omega.{arith}
-use lib.ListN.{length, take, drop, getD, replicate, List·getD-map}
-use lib.Seq.{drop-drop}
+use Rattle.refusal.proofs.Basics.{_≡_, refl, sym, ap, _∙_, arith, ℕ, suc, _<_, length, take, drop, getD, replicate, List·getD-map, List, [], _∷_, _++_, drop-drop, _↔_}
 use Rattle.refusal.specs.declared.Answer.the-variants.{Accepted}
 use Rattle.text.specs.Split.{joined}
 use Rattle.wage_places.specs.declared.LineType.{LineType}

@@ -1,14 +1,6 @@
 -- Laws of a line's places: the byte that a verdict tells, answers joined, the places from one up to another, and the first that is refused.
 -- Assumes nothing.
-use mathlib.Core.Path.{_≡_, refl, sym, ap, _∙_}
-use mathlib.Core.Bool.{Bool, true, false, cond}
-use mathlib.Core.List.{List, [], _∷_}
-use Prim.Native.Nat.{ℕ, zero, suc, _+_, _-_, _≤_, _<_, _^_}
-use native.Mathlib.Numerals.{add-one}
-use native.Mathlib.Omega.{arith}
-use lib.Dec.{eqb, leb, ltb}
-use lib.ListN.{length, drop, getD, length-take, List·getD-eq-default}
-use borrow.Author.Tests.{leb-true, ltb-true, ltb-false, eqb-true, ne-eqb}
+use Rattle.refusal.proofs.Basics.{_≡_, refl, sym, ap, _∙_, arith, ℕ, zero, suc, _+_, _-_, _≤_, _<_, _^_, length, drop, getD, length-take, List·getD-eq-default, leb-true, ltb-true, ltb-false, eqb-true, ne-eqb, List, [], _∷_, Bool, true, false, cond, eqb, leb, ltb, add-one}
 use Rattle.refusal.specs.Refusal.{none, refusalNumber, refusalPlace, neededOf, refusalOf, answerNumber, firstOf}
 use Rattle.verdict.specs.Verdict.{verdictByte, verdictNumber, answerOf, answerAt, Within}
 use Rattle.refusal.specs.declared.Answer.{Answer}

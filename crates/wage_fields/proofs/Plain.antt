@@ -1,14 +1,7 @@
 -- A right line of each type, place by place, as document 01's section "The wage file" lists them: a plain test of the bytes of each place,
 -- and that a line is right exactly when it has its size, ends and type and passes them all.
 -- Assumes nothing.
-use mathlib.Core.Path.{_≡_, refl}
-use mathlib.Core.Logic.{_↔_}
-use mathlib.Core.Bool.{true, false, cond, not, _&&_, _||_}
-use mathlib.Core.List.{List, [], _∷_}
-use Prim.Native.Nat.{ℕ, _≤_}
-use native.Mathlib.Omega.{arith}
-use lib.Dec.{eqb, leb}
-use lib.ListN.{length, take, drop, getD}
+use Rattle.refusal.proofs.Basics.{_≡_, refl, arith, ℕ, _≤_, length, take, drop, getD, List, [], _∷_, true, false, cond, not, _&&_, _||_, eqb, leb, _↔_}
 use Rattle.refusal.specs.declared.Answer.the-variants.{Accepted}
 use Rattle.verdict.proofs.Verdicts.{first-both}
 use Rattle.classes.specs.declared.Class.the-variants.{Digits, Zeros, Blanks, Letters, Description}

@@ -1,14 +1,6 @@
 -- What is promised of a line's places: accepted exactly when each is, and what a refusal tells.
 -- Assumes nothing.
-use mathlib.Core.Path.{_≡_, refl, ap}
-use mathlib.Core.Logic.{_↔_}
-use mathlib.Core.Bool.{true, _&&_}
-use mathlib.Core.List.{List, [], _∷_}
-use Prim.Native.Nat.{ℕ, zero, suc, _+_, _≤_, _<_}
-use native.Mathlib.Omega.{arith}
-use lib.Dec.{ltb}
-use lib.ListN.{length, getD}
-use borrow.Author.Tests.{ltb-true}
+use Rattle.refusal.proofs.Basics.{_≡_, refl, ap, arith, ℕ, zero, suc, _+_, _≤_, _<_, length, getD, ltb-true, List, [], _∷_, true, _&&_, ltb, _↔_, both-true}
 use Rattle.refusal.specs.Refusal.{refusalNumber, refusalPlace}
 use Rattle.verdict.specs.Verdict.{verdictByte}
 use Rattle.refusal.specs.declared.Answer.the-variants.{Accepted, Refused}
@@ -17,7 +9,6 @@ use Rattle.refusal.specs.declared.Refusal.{Refusal}
 use Rattle.verdict.proofs.Verdicts.{answer-accepted, accepted-answer, first-both}
 use Rattle.text.specs.Bytes.{bytesVerdict}
 use Rattle.classes.specs.declared.Class.the-variants.{Digits}
-use Rattle.classes.proofs.Choices.{both-true}
 use Rattle.wage_places.specs.declared.LineType.{LineType}
 use Rattle.wage_places.specs.declared.LineType.the-variants.{Label, Group, Order, Closing}
 use Rattle.wage_places.specs.declared.Spot.{Spot}

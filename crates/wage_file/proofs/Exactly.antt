@@ -1,12 +1,6 @@
 -- What is promised of a whole wage file: accepted exactly when it is right, with its counts told, and its parts told by its lines.
 -- Assumes nothing.
-use mathlib.Core.Path.{_≡_, refl, sym, ap, _∙_}
-use mathlib.Core.Logic.{_↔_}
-use mathlib.Core.Bool.{true}
-use mathlib.Core.List.{List, [], _∷_, _++_, append-assoc}
-use Prim.Native.Nat.{ℕ, suc}
-use native.Mathlib.Omega.{arith}
-use lib.ListN.{length}
+use Rattle.refusal.proofs.Basics.{_≡_, refl, sym, ap, _∙_, arith, ℕ, suc, length, List, [], _∷_, _++_, append-assoc, true, _↔_}
 use Rattle.refusal.specs.Refusal.{none}
 use Rattle.refusal.specs.declared.Answer.the-variants.{Accepted}
 use Rattle.refusal.specs.declared.Refusal.the-variants.{Date}

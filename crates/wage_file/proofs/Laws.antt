@@ -1,10 +1,5 @@
 -- Laws of the steps of a file's lines, from a place on, and of the pieces of two files joined. Assumes nothing.
-use mathlib.Core.Path.{_≡_, refl, sym, ap, _∙_}
-use mathlib.Core.List.{List, [], _∷_, _++_}
-use Prim.Native.Nat.{ℕ, zero, suc, _%_, _≤_, _<_}
-use native.Mathlib.Omega.{arith}
-use lib.ListN.{length, take, drop, length-append, length-drop}
-use lib.Seq.{take-append-le, drop-append-le}
+use Rattle.refusal.proofs.Basics.{_≡_, refl, sym, ap, _∙_, arith, ℕ, zero, suc, _%_, _≤_, _<_, length, take, drop, length-append, length-drop, List, [], _∷_, _++_, take-append-le, drop-append-le}
 use Rattle.wage_line.specs.Pieces.{piecesOf, pieces, nextPiece}
 use Rattle.wage_line.proofs.PieceLaws.{pieces-first, pieces-more, pieces-end}
 use Rattle.condition.specs.declared.Judge.{Judge}

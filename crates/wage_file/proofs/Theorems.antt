@@ -1,12 +1,7 @@
 -- What is promised of a whole wage file: accepted exactly when its pieces are the lines of a right file, the same answer when it is read in parts
 -- of whole lines, the answer of the lines that it is made of, and 14 for an empty one.
 -- Assumes nothing.
-use mathlib.Core.Path.{_≡_, ap, _∙_}
-use mathlib.Core.Logic.{_↔_}
-use mathlib.Core.Bool.{true}
-use mathlib.Core.List.{List, [], _++_}
-use Prim.Native.Nat.{ℕ, _%_, _<_}
-use lib.ListN.{length, getD}
+use Rattle.refusal.proofs.Basics.{_≡_, ap, _∙_, ℕ, _%_, _<_, length, getD, List, [], _++_, true, _↔_}
 use Rattle.text.specs.Split.{joined}
 use Rattle.refusal.specs.declared.Refusal.the-variants.{Unfinished}
 use Rattle.dates.specs.Dates.{isDate}

@@ -1,15 +1,6 @@
 -- Laws of a line: of choices, and of its end.
 -- Assumes nothing.
-use mathlib.Core.Path.{_≡_, refl, sym}
-use mathlib.Core.Bool.{Bool, true, false, _&&_}
-use mathlib.Core.List.{List, [], _∷_}
-use Prim.Native.Nat.{ℕ, _≤_, _<_}
-use native.Mathlib.Omega.{arith}
-use lib.Dec.{eqb}
-use lib.ListN.{length, take, drop, getD, drop-of-length-le, List·getD-eq-default}
-use lib.Seq.{drop-cons}
-use borrow.Author.Tests.{eq-eqb, ne-eqb}
-use Rattle.classes.proofs.Choices.{left, entered}
+use Rattle.refusal.proofs.Basics.{_≡_, refl, sym, arith, ℕ, _≤_, _<_, length, take, drop, getD, drop-of-length-le, List·getD-eq-default, eq-eqb, ne-eqb, List, [], _∷_, Bool, true, false, _&&_, eqb, drop-cons, left, entered}
 use Rattle.wage_line.specs.Line.{endsRight}
 
 -- ---------------------------------------------------------------------------

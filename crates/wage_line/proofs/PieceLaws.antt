@@ -1,14 +1,5 @@
 -- Laws of the pieces of a file: one by one from a place on, joined again, of whole lines, and of what holds of each. Assumes nothing.
-use mathlib.Core.Path.{_≡_, refl, sym, ap, _∙_}
-use mathlib.Core.Bool.{Bool, true, false, cond}
-use mathlib.Core.List.{List, [], _∷_, _++_}
-use Prim.Native.Nat.{ℕ, zero, suc, _+_, _/_, _%_, _≤_, _<_}
-use native.Mathlib.Omega.{arith}
-use lib.Dec.{leb}
-use lib.ListN.{length, take, drop, getD, length-drop, length-append, take-append-drop, drop-of-length-le}
-use lib.Seq.{drop-drop, drop-length, length-take-le, take-at, drop-at}
-use borrow.Author.Tests.{le-leb, lt-leb, leb-true, leb-false}
-use Rattle.classes.proofs.Choices.{taken, left}
+use Rattle.refusal.proofs.Basics.{_≡_, refl, sym, ap, _∙_, arith, ℕ, zero, suc, _+_, _/_, _%_, _≤_, _<_, length, take, drop, getD, length-drop, length-append, take-append-drop, drop-of-length-le, le-leb, lt-leb, leb-true, leb-false, List, [], _∷_, _++_, Bool, true, false, cond, leb, drop-drop, drop-length, length-take-le, take-at, drop-at, taken, left}
 use Rattle.text.specs.Split.{joined}
 use Rattle.wage_line.specs.Pieces.{piecesOf, pieces, nextPiece}
 

@@ -1,8 +1,5 @@
 -- Laws of a group's orders: their answer from a place on. Assumes nothing.
-use mathlib.Core.Path.{_≡_}
-use mathlib.Core.List.{List}
-use Prim.Native.Nat.{ℕ, _+_, _≤_, _<_}
-use lib.ListN.{length, take, drop}
+use Rattle.refusal.proofs.Basics.{_≡_, ℕ, _+_, _≤_, _<_, length, take, drop, List}
 use Rattle.refusal.specs.declared.Answer.the-variants.{Accepted, Refused}
 use Rattle.refusal.specs.declared.Refusal.{Refusal}
 use Rattle.wage_line.specs.Pieces.{pieces, nextPiece}

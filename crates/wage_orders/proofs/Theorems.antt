@@ -1,13 +1,5 @@
 -- What is promised of a group's lent orders: accepted exactly when they are whole, some, not too many and each right. Assumes nothing.
-use mathlib.Core.Path.{_≡_, refl}
-use mathlib.Core.Logic.{_↔_}
-use mathlib.Core.Bool.{Bool, true, false, cond}
-use mathlib.Core.List.{List, [], _∷_}
-use Prim.Native.Nat.{ℕ, suc, _+_, _/_, _%_, _≤_, _<_}
-use native.Mathlib.Omega.{arith}
-use lib.Dec.{eqb, leb}
-use lib.ListN.{length, getD}
-use borrow.Author.Tests.{leb-true, eqb-true, eqb-false, le-leb, eq-eqb, ne-eqb}
+use Rattle.refusal.proofs.Basics.{_≡_, refl, arith, ℕ, suc, _+_, _/_, _%_, _≤_, _<_, length, getD, leb-true, eqb-true, eqb-false, le-leb, eq-eqb, ne-eqb, List, [], _∷_, Bool, true, false, cond, eqb, leb, _↔_}
 use Rattle.refusal.specs.Refusal.{none, firstOf}
 use Rattle.refusal.specs.declared.Answer.{Answer}
 use Rattle.refusal.specs.declared.Answer.the-variants as answer

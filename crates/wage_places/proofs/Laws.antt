@@ -1,17 +1,7 @@
 -- Laws of places: of tables, of the search by field number, and of the bytes of a place.
 -- Assumes nothing.
-use mathlib.Core.Path.{_≡_, sym, ap, _∙_}
-use mathlib.Core.Bool.{Bool, true, false, cond, _&&_}
-use mathlib.Core.List.{List, [], _∷_}
-use Prim.Native.Nat.{ℕ, zero, suc, _+_, _-_, _≤_, _<_}
-use native.Mathlib.Numerals.{add-one}
-use native.Mathlib.Omega.{arith}
-use lib.Dec.{eqb}
-use lib.ListN.{length, take, drop, getD, length-drop, drop-of-length-le, List·getD-eq-default}
-use lib.Seq.{drop-cons, take-all, take-nil, length-take-le}
-use borrow.Author.Tests.{eq-eqb, ne-eqb}
+use Rattle.refusal.proofs.Basics.{_≡_, sym, ap, _∙_, arith, ℕ, zero, suc, _+_, _-_, _≤_, _<_, length, take, drop, getD, length-drop, drop-of-length-le, List·getD-eq-default, eq-eqb, ne-eqb, List, [], _∷_, Bool, true, false, cond, _&&_, eqb, drop-cons, take-all, take-nil, length-take-le, add-one, both-true}
 use Rattle.text.proofs.Laws.{to-the-end}
-use Rattle.classes.proofs.Choices.{both-true}
 use Rattle.wage_places.specs.declared.Spot.{Spot}
 use Rattle.wage_places.specs.Places.{noSpot, spotIn, partAt}
 

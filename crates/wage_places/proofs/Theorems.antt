@@ -1,14 +1,6 @@
 -- What is promised of the places of a wage line: apart and small, found by their number, and their parts.
 -- Assumes nothing.
-use mathlib.Core.Path.{_≡_, refl, sym}
-use mathlib.Core.Bool.{Bool, true, _&&_}
-use mathlib.Core.List.{List, [], _∷_}
-use Prim.Native.Nat.{ℕ, suc, _+_, _≤_, _<_}
-use native.Mathlib.Omega.{arith}
-use lib.Dec.{eqb, leb, ltb}
-use lib.ListN.{length, getD}
-use borrow.Author.Tests.{ne-eqb, eqb-true, leb-true, ltb-true}
-use Rattle.classes.proofs.Choices.{both-true}
+use Rattle.refusal.proofs.Basics.{_≡_, refl, sym, arith, ℕ, suc, _+_, _≤_, _<_, length, getD, ne-eqb, eqb-true, leb-true, ltb-true, List, [], _∷_, Bool, true, _&&_, eqb, leb, ltb, both-true}
 use Rattle.wage_places.specs.declared.LineType.{LineType}
 use Rattle.wage_places.specs.declared.LineType.the-variants.{Label, Group, Order, Closing}
 use Rattle.wage_places.specs.declared.Spot.{Spot}

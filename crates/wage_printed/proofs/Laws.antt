@@ -1,12 +1,5 @@
 -- Laws of the day that the first line tells. Assumes nothing.
-use mathlib.Core.Path.{_≡_, _∙_}
-use mathlib.Core.Bool.{true, false}
-use mathlib.Core.List.{List}
-use Prim.Native.Nat.{ℕ}
-use native.Mathlib.Omega.{arith}
-use lib.ListN.{length, getD, take, length-take}
-use lib.Seq.{take-all}
-use borrow.Author.Tests.{eq-eqb, ne-eqb}
+use Rattle.refusal.proofs.Basics.{_≡_, _∙_, arith, ℕ, length, getD, take, length-take, eq-eqb, ne-eqb, List, true, false, take-all}
 use Rattle.classes.specs.declared.Class.the-variants.{Digits}
 use Rattle.text.specs.Bytes.{allOf}
 use Rattle.sums.specs.Sums.{numberIn}

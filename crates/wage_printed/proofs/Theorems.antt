@@ -1,10 +1,6 @@
 -- What is printed of a wage file stands in a room of 108 bytes, and a file read in parts of whole lines gets the whole file's line.
 -- Assumes nothing.
-use mathlib.Core.Path.{_≡_, refl, sym, _∙_}
-use mathlib.Core.List.{List, [], _∷_, _++_, append-assoc}
-use Prim.Native.Nat.{ℕ, _%_, _≤_}
-use native.Mathlib.Omega.{arith}
-use lib.ListN.{length, take, drop}
+use Rattle.refusal.proofs.Basics.{_≡_, refl, sym, _∙_, arith, ℕ, _%_, _≤_, length, take, drop, List, [], _∷_, _++_, append-assoc}
 use Rattle.text.specs.Split.{joined}
 use Rattle.wage_line.specs.Pieces.{pieces}
 use Rattle.condition.specs.declared.Judge.{Judge}

@@ -1,13 +1,6 @@
 -- Laws of written lines: what an accepted answer says of the day, the kind, the orders and the fields, the numbers that a 301 declares, and
 -- lines one behind the other. Assumes nothing.
-use mathlib.Core.Path.{_≡_, refl, _∙_}
-use mathlib.Core.Bool.{Bool, true, false, cond, _||_}
-use mathlib.Core.List.{List, [], _∷_, _++_, map}
-use Prim.Native.Nat.{ℕ, zero, suc, _*_, _/_, _^_, _≤_, _<_}
-use native.Mathlib.Omega.{arith}
-use lib.Dec.{eqb}
-use lib.ListN.{length, length-append, length-map}
-use borrow.Author.Tests.{le-leb}
+use Rattle.refusal.proofs.Basics.{_≡_, refl, _∙_, arith, ℕ, zero, suc, _*_, _/_, _^_, _≤_, _<_, length, length-append, length-map, le-leb, List, [], _∷_, _++_, map, Bool, true, false, cond, _||_, eqb, both-true}
 use Rattle.refusal.specs.Refusal.{none, firstOf}
 use Rattle.refusal.specs.declared.Answer.{Answer}
 use Rattle.refusal.specs.declared.Answer.the-variants.{Accepted, Refused}
@@ -16,7 +9,6 @@ use Rattle.text.specs.Bytes.{allOf}
 use Rattle.text.specs.Split.{joined}
 use Rattle.classes.specs.declared.Class.the-variants.{Digits}
 use Rattle.text.specs.Digits.{digitsText}
-use Rattle.classes.proofs.Choices.{both-true}
 use Rattle.text.proofs.Laws.{passes-all}
 use Rattle.dates.specs.Dates.{isDate}
 use Rattle.sums.specs.Sums.{numberOf, numberIn}

@@ -1,12 +1,6 @@
 -- What is promised of writer and judge together: a written line is right and reads back as the fields that it was written from; lines written in
 -- order are an accepted file; a right line, and a right file, read and written again are the same. Assumes nothing.
-use mathlib.Core.Path.{_≡_, refl, sym, ap, _∙_}
-use mathlib.Core.Bool.{true, _||_}
-use mathlib.Core.List.{List, [], _∷_, map}
-use Prim.Native.Nat.{ℕ, zero, suc, _/_, _%_, _≤_, _<_}
-use native.Mathlib.Omega.{arith}
-use lib.Dec.{eqb}
-use lib.ListN.{length, getD, length-map}
+use Rattle.refusal.proofs.Basics.{_≡_, refl, sym, ap, _∙_, arith, ℕ, zero, suc, _/_, _%_, _≤_, _<_, length, getD, length-map, List, [], _∷_, map, true, _||_, eqb}
 use Rattle.refusal.specs.declared.Answer.the-variants.{Accepted}
 use Rattle.text.specs.Digits.{digitsText}
 use Rattle.text.specs.Split.{joined}

@@ -1,12 +1,5 @@
 -- Laws of what the writer's refusals tell: a field's tells no needed number, so it is not the refusal of the room. Assumes nothing.
-use mathlib.Core.Path.{_≡_, refl}
-use mathlib.Core.Bool.{Bool, true, false, cond}
-use mathlib.Core.List.{List, [], _∷_}
-use Prim.Native.Nat.{ℕ}
-use native.Mathlib.Omega.{arith}
-use lib.Dec.{eqb}
-use lib.ListN.{length, getD, drop}
-use lib.Seq.{sets}
+use Rattle.refusal.proofs.Basics.{_≡_, refl, arith, ℕ, length, getD, drop, List, [], _∷_, Bool, true, false, cond, eqb, sets}
 use Rattle.refusal.specs.Refusal.{none, neededOf}
 use Rattle.verdict.specs.Verdict.{answerAt}
 use Rattle.refusal.specs.declared.Answer.{Answer}

@@ -1,20 +1,12 @@
 -- What the listing asks of each filling is all that the rules ask of it: whether a reference is formed, and where its parts end, depends on
 -- its hyphens alone, so that one filling tells of all.
 -- Assumes nothing.
-use mathlib.Core.Path.{_≡_, refl, sym, _∙_}
-use mathlib.Core.Bool.{Bool, true, false, cond, and-false}
-use mathlib.Core.List.{List, [], _∷_}
-use Prim.Native.Nat.{ℕ, _+_, _/_, _%_, _^_, _≤_, _<_}
-use native.Mathlib.Omega.{arith}
-use lib.Dec.{eqb}
-use lib.ListN.{length, getD, List·getD-eq-default}
-use borrow.Author.Tests.{eq-eqb, le-leb}
+use Rattle.refusal.proofs.Basics.{_≡_, refl, sym, _∙_, arith, ℕ, _+_, _/_, _%_, _^_, _≤_, _<_, length, getD, List·getD-eq-default, eq-eqb, le-leb, List, [], _∷_, Bool, true, false, cond, and-false, eqb, entered}
 use Rattle.classes.specs.Classes.{isDigit}
 use Rattle.text.specs.Bytes.{marks}
 use Rattle.text.specs.declared.Found.{Found}
 use Rattle.text.specs.declared.Found.the-variants.{At, Nothing}
 use Rattle.classes.proofs.Laws.{digit-between}
-use Rattle.classes.proofs.Choices.{entered}
 use Rattle.account.specs.Answers.{isIban}
 use Rattle.models.specs.declared.Model.{Model}
 use Rattle.parts.specs.Mirror.{partsFound}

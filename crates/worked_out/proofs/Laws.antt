@@ -1,10 +1,5 @@
 -- Laws of what a 301 works out: the sum from a place on, and the digits of number and sum. Assumes nothing.
-use mathlib.Core.Path.{_≡_, sym, ap, _∙_}
-use mathlib.Core.List.{List}
-use Prim.Native.Nat.{ℕ, _+_, _≤_, _<_}
-use native.Mathlib.Nat.{add-zero, zero-add}
-use native.Mathlib.Omega.{arith}
-use lib.ListN.{length, take, drop}
+use Rattle.refusal.proofs.Basics.{_≡_, sym, ap, _∙_, arith, ℕ, _+_, _≤_, _<_, length, take, drop, List, add-zero, zero-add}
 use Rattle.sums.specs.Sums.{centsOf, noCents, sumOf, added, numberIn}
 use Rattle.sums.specs.declared.Sum.{Sum}
 use Rattle.sums.proofs.Laws.{added-on}

@@ -1,9 +1,5 @@
 -- What is promised of what a 301 works out: a sum of at most twenty digits. Assumes nothing.
-use mathlib.Core.Path.{_≡_}
-use mathlib.Core.List.{List, [], _∷_}
-use Prim.Native.Nat.{ℕ, _*_, _/_, _%_, _≤_, _<_}
-use native.Mathlib.Omega.{arith}
-use lib.ListN.{length, take, length-take}
+use Rattle.refusal.proofs.Basics.{_≡_, arith, ℕ, _*_, _/_, _%_, _≤_, _<_, length, take, length-take, List, [], _∷_}
 use Rattle.sums.specs.Sums.{numberIn}
 use Rattle.sums.proofs.Theorems.{text-small}
 use Rattle.wage_places.specs.declared.LineType.the-variants.{Order}

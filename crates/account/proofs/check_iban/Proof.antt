@@ -1,9 +1,7 @@
 -- `account::check_iban` meets its contract: each return is the chain's answer by the tests that led there. Assumes nothing.
-use mathlib.Core.Path.{refl, sym, _∙_}
+use Rattle.refusal.proofs.Basics.{refl, sym, _∙_, needs, left, and-second}
 use Rattle.verdict.proofs.Verdicts.{failed, met}
-use Rattle.classes.proofs.Choices.{left, and-second}
 use Rattle.account.proofs.Theorems.{iban-accepted-exactly}
-use borrow.Author.Needs.{needs}
 use Rattle.account.proofs.check_iban.Statement.{statement}
 use Rattle.account.proofs.check_iban.Tie as tie
 

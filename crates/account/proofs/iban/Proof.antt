@@ -1,10 +1,8 @@
 -- `account::iban` meets its contract: of an IBAN nothing is refused; else each return is the chain's answer by the tests that led there.
 -- Assumes nothing.
-use mathlib.Core.Path.{refl, sym, _∙_}
-use borrow.Author.Tests.{ne-eqb, eq-eqb}
+use Rattle.refusal.proofs.Basics.{refl, sym, _∙_, needs, ne-eqb, eq-eqb}
 use Rattle.verdict.proofs.Verdicts.{refused, passed, failed, met}
 use Rattle.account.proofs.Theorems.{iban-accepted-exactly, iban-field-exactly}
-use borrow.Author.Needs.{needs}
 use Rattle.account.proofs.iban.Statement.{statement}
 use Rattle.account.proofs.iban.Tie as tie
 

@@ -1,15 +1,8 @@
 -- `account::iban_passes` meets its contract: the form decides first, then the check digits, then the number, read in runs. Assumes nothing.
-use mathlib.Core.Path.{_≡_, sym, _∙_}
-use mathlib.Core.Bool.{true}
-use Prim.Native.Nat.{_<_}
-use native.Mathlib.Omega.{arith}
-use lib.ListN.{length, take, drop}
-use borrow.Author.Tests.{not-true, not-false}
+use Rattle.refusal.proofs.Basics.{_≡_, sym, _∙_, needs, arith, _<_, length, take, drop, not-true, not-false, true, and-first, and-second}
 use Rattle.text.specs.Digits.{digitsOf, valueOf}
-use Rattle.classes.proofs.Choices.{and-first, and-second}
 use Rattle.account.specs.Account.{checkDigits, ibanFormed}
 use Rattle.account.proofs.Laws.{run-read, formed-length, number-decides, low-fails, high-fails}
-use borrow.Author.Needs.{needs}
 use Rattle.account.proofs.iban_passes.Statement.{statement}
 use Rattle.account.proofs.iban_passes.Tie as tie
 
@@ -48,27 +41,20 @@ returns-4 c =
 
 pub iban-passes-spec : {M : Type 1} → statement M
 iban-passes-spec =
-    tie.close
-    (tie.spec
+    tie.close (tie.spec
     (λ c κs. search needs)
     returns
-    (λ c. search needs)
-    (λ c. search needs)
+    (λ c. search needs) (λ c. search needs)
     (λ c. omega (arith, long c))
     (λ c κs. search needs)
     returns-2
     returns-3
-    (λ c. search needs)
-    (λ c. search needs)
+    (λ c. search needs) (λ c. search needs)
     (λ c. omega (arith, long (c .before .before .before .before)))
-    (λ c κs. search needs)
-    (λ c. search needs)
-    (λ c. search needs)
+    (λ c κs. search needs) (λ c. search needs) (λ c. search needs)
     (λ c. omega (arith, long (c .before .before .before .before .before .before)))
     (λ c κs. search needs)
     (λ c. omega (arith, front (c .before .before)))
     (λ c. omega (arith, front (c .before .before), back c))
-    (λ c. search needs)
-    (λ c. search needs)
-    (λ c. search needs)
+    (λ c. search needs) (λ c. search needs) (λ c. search needs)
     returns-4)

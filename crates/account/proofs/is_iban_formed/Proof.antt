@@ -1,11 +1,8 @@
 -- `account::is_iban_formed` meets its contract: each return is the definition's choice on the tests that led there. Assumes nothing.
-use mathlib.Core.Path.{ap, _∙_}
-use borrow.Author.Tests.{ne-eqb, eq-eqb}
-use Rattle.classes.proofs.Choices.{and-first, and-second}
+use Rattle.refusal.proofs.Basics.{ap, _∙_, needs, ne-eqb, eq-eqb, and-first, and-second}
 use Rattle.text.specs.Bytes.{allOf}
 use Rattle.classes.specs.declared.Class.the-variants.{Digits}
 use Rattle.text.proofs.Laws.{to-the-end}
-use borrow.Author.Needs.{needs}
 use Rattle.account.proofs.is_iban_formed.Statement.{statement}
 use Rattle.account.proofs.is_iban_formed.Tie as tie
 
@@ -28,15 +25,11 @@ returns-4 c =
 
 pub is-iban-formed-spec : {M : Type 1} → statement M
 is-iban-formed-spec =
-    tie.close
-    (tie.spec
+    tie.close (tie.spec
     returns
     (λ c. search needs)
     returns-2
     (λ c. search needs)
     returns-3
-    (λ c. search needs)
-    (λ c. search needs)
-    (λ c. search needs)
-    (λ c κs. search needs)
+    (λ c. search needs) (λ c. search needs) (λ c. search needs) (λ c κs. search needs)
     returns-4)

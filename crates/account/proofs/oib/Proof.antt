@@ -1,13 +1,9 @@
 -- `account::oib` meets its contract: each return is the chain's answer by the tests that led there. Assumes nothing.
-use mathlib.Core.Path.{_≡_, refl, sym, _∙_}
-use Prim.Native.Nat.{ℕ}
-use borrow.Author.Tests.{ne-eqb, eq-eqb}
+use Rattle.refusal.proofs.Basics.{_≡_, refl, sym, _∙_, needs, ℕ, ne-eqb, eq-eqb, taken, left}
 use Rattle.verdict.specs.Verdict.{onlyIf}
 use Rattle.verdict.proofs.Verdicts.{refused, passed, failed, met}
-use Rattle.classes.proofs.Choices.{taken, left}
 use Rattle.account.specs.Account.{oibPasses}
 use Rattle.account.specs.Answers.{oibVerdict}
-use borrow.Author.Needs.{needs}
 use Rattle.account.proofs.oib.Statement.{statement}
 use Rattle.account.proofs.oib.Tie as tie
 

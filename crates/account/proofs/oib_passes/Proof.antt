@@ -1,6 +1,6 @@
 -- `account::oib_passes` meets its contract. Assumes nothing.
 use Rattle.account.specs.Account.{oibPasses}
-use borrow.Author.Needs.{needs}
+use Rattle.refusal.proofs.Basics.{needs}
 use Rattle.account.proofs.oib_passes.Statement.{statement}
 use Rattle.account.proofs.oib_passes.Tie as tie
 

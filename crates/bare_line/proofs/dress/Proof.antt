@@ -1,5 +1,5 @@
 -- `wage_draft::dress` meets its contract. Assumes nothing.
-use borrow.Author.Needs.{needs}
+use Rattle.refusal.proofs.Basics.{needs}
 use Rattle.bare_line.proofs.dress.Statement.{statement}
 use Rattle.bare_line.proofs.dress.Tie as tie
 
@@ -8,11 +8,6 @@ returns c = rw (← c .before .before .before .before .before .before .before .b
 
 pub dress-spec : {M : Type 1} → statement M
 dress-spec =
-    tie.close
-    (tie.spec
-    (λ c κs. search needs)
-    (λ c κs. search needs)
-    (λ c. search needs)
-    (λ c κs. search needs)
-    (λ c. search needs)
+    tie.close (tie.spec
+    (λ c κs. search needs) (λ c κs. search needs) (λ c. search needs) (λ c κs. search needs) (λ c. search needs)
     returns)

@@ -1,5 +1,5 @@
 -- `wage_draft::put_type` meets its contract. Assumes nothing.
-use borrow.Author.Needs.{needs}
+use Rattle.refusal.proofs.Basics.{needs}
 use Rattle.wage_line.specs.Line.{typeText}
 use Rattle.bare_line.proofs.put_type.Statement.{statement}
 use Rattle.bare_line.proofs.put_type.Tie as tie
@@ -22,20 +22,9 @@ returns-4 c = rw (c .before .before .before .before .before .enum-told4 .given .
 
 pub put-type-spec : {M : Type 1} → statement M
 put-type-spec =
-    tie.close
-    (tie.spec
-    (λ c. search needs)
-    (λ c. search needs)
-    (λ c κs. search needs)
-    (λ c. search needs)
-    (λ c. search needs)
-    (λ c κs. search needs)
-    (λ c. search needs)
-    (λ c. search needs)
-    (λ c κs. search needs)
-    (λ c. search needs)
-    (λ c. search needs)
-    (λ c κs. search needs)
+    tie.close (tie.spec
+    (λ c. search needs) (λ c. search needs) (λ c κs. search needs) (λ c. search needs) (λ c. search needs) (λ c κs. search needs)
+    (λ c. search needs) (λ c. search needs) (λ c κs. search needs) (λ c. search needs) (λ c. search needs) (λ c κs. search needs)
     (λ c. search needs)
     returns
     (λ c. search needs)

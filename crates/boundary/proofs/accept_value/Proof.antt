@@ -1,5 +1,5 @@
 -- `boundary::accept_value` meets its contract. Assumes nothing.
-use borrow.Author.Needs.{needs}
+use Rattle.refusal.proofs.Basics.{needs}
 use Rattle.boundary.proofs.accept_value.Statement.{statement}
 use Rattle.boundary.proofs.accept_value.Tie as tie
 

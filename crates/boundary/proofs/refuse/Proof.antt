@@ -1,5 +1,5 @@
 -- `boundary::refuse` meets its contract. Assumes nothing.
-use borrow.Author.Needs.{needs}
+use Rattle.refusal.proofs.Basics.{needs}
 use Rattle.boundary.proofs.Laws.{told-by}
 use Rattle.boundary.proofs.refuse.Statement.{statement}
 use Rattle.boundary.proofs.refuse.Tie as tie

@@ -1,5 +1,5 @@
 -- `boundary::tell` meets its contract. Assumes nothing.
-use borrow.Author.Needs.{needs}
+use Rattle.refusal.proofs.Basics.{needs}
 use Rattle.boundary.specs.Told.{toldOf}
 use Rattle.boundary.proofs.tell.Statement.{statement}
 use Rattle.boundary.proofs.tell.Tie as tie

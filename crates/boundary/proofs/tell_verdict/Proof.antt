@@ -1,5 +1,5 @@
 -- `boundary::tell_verdict` meets its contract. Assumes nothing.
-use borrow.Author.Needs.{needs}
+use Rattle.refusal.proofs.Basics.{needs}
 use Rattle.boundary.proofs.tell_verdict.Statement.{statement}
 use Rattle.boundary.proofs.tell_verdict.Tie as tie
 

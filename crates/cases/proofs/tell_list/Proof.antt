@@ -16,19 +16,9 @@ cast-count c = omega (arith, c .shared-slice-known2 .given (c .before .before .b
 
 pub tell-list-spec : {M : Type 1} → statement M
 tell-list-spec =
-    tie.close
-    (tie.spec
+    tie.close (tie.spec
     Inv-loop
     μ-loop
-    (λ c. search needs)
-    (λ c κs. tt)
-    (λ c. omega arith)
-    (λ c. search needs)
-    (λ c. search needs)
-    (λ c. search needs)
+    (λ c. search needs) (λ c κs. tt) (λ c. omega arith) (λ c. search needs) (λ c. search needs) (λ c. search needs)
     cast-count
-    (λ c κs. tt)
-    (λ c. omega arith)
-    (λ c. omega arith)
-    (λ c. omega arith)
-    (λ c. tt))
+    (λ c κs. tt) (λ c. omega arith) (λ c. omega arith) (λ c. omega arith) (λ c. tt))

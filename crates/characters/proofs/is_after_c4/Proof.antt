@@ -1,7 +1,5 @@
 -- `characters::is_after_c4` meets its contract: each return follows from the tests that led there. Assumes nothing.
-use mathlib.Core.Path.{refl}
-use borrow.Author.Tests.{eq-eqb, ne-eqb}
-use Rattle.classes.proofs.Choices.{or-first, or-second}
+use Rattle.refusal.proofs.Basics.{refl, eq-eqb, ne-eqb, or-first, or-second}
 use Rattle.characters.proofs.is_after_c4.Statement.{statement}
 use Rattle.characters.proofs.is_after_c4.Tie as tie
 

@@ -1,7 +1,5 @@
 -- `characters::is_completed` meets its contract: each return follows from the test that led there. Assumes nothing.
-use borrow.Author.Tests.{le-ltb, lt-ltb}
-use Rattle.classes.proofs.Choices.{and-first, and-second}
-use borrow.Author.Needs.{needs}
+use Rattle.refusal.proofs.Basics.{needs, le-ltb, lt-ltb, and-first, and-second}
 use Rattle.characters.proofs.is_completed.Statement.{statement}
 use Rattle.characters.proofs.is_completed.Tie as tie
 

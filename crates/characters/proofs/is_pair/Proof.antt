@@ -1,6 +1,6 @@
 -- `characters::is_pair` meets its contract: each return follows from the tests that led there. Assumes nothing.
 use Rattle.characters.proofs.Laws.{pair-c4, pair-c5, no-pair}
-use borrow.Author.Needs.{needs}
+use Rattle.refusal.proofs.Basics.{needs}
 use Rattle.characters.proofs.is_pair.Statement.{statement}
 use Rattle.characters.proofs.is_pair.Tie as tie
 

@@ -1,7 +1,5 @@
 -- `characters::is_sign` meets its contract: each return follows from the tests that led there. Assumes nothing.
-use mathlib.Core.Path.{refl}
-use borrow.Author.Tests.{eq-eqb, ne-eqb, lt-leb, le-leb}
-use Rattle.classes.proofs.Choices.{or-first, or-second, and-first, and-second}
+use Rattle.refusal.proofs.Basics.{refl, eq-eqb, ne-eqb, lt-leb, le-leb, or-first, or-second, and-first, and-second}
 use Rattle.characters.proofs.is_sign.Statement.{statement}
 use Rattle.characters.proofs.is_sign.Tie as tie
 

@@ -1,7 +1,5 @@
 -- `characters::is_single` meets its contract: each return follows from the tests that led there. Assumes nothing.
-use mathlib.Core.Path.{sym, _∙_}
-use Rattle.classes.proofs.Choices.{or-first, or-second}
-use borrow.Author.Needs.{needs}
+use Rattle.refusal.proofs.Basics.{sym, _∙_, needs, or-first, or-second}
 use Rattle.characters.proofs.is_single.Statement.{statement}
 use Rattle.characters.proofs.is_single.Tie as tie
 
@@ -27,8 +25,7 @@ returns-4 c =
 
 pub is-single-spec : {M : Type 1} → statement M
 is-single-spec =
-    tie.close
-    (tie.spec
+    tie.close (tie.spec
     (λ c κs. search needs)
     returns
     (λ c κs. search needs)

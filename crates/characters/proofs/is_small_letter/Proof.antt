@@ -1,5 +1,5 @@
 -- `characters::is_small_letter` meets its contract: each return follows from the tests that led there. Assumes nothing.
-use borrow.Author.Tests.{lt-leb, le-leb}
+use Rattle.refusal.proofs.Basics.{lt-leb, le-leb}
 use Rattle.characters.proofs.is_small_letter.Statement.{statement}
 use Rattle.characters.proofs.is_small_letter.Tie as tie
 

@@ -1,10 +1,5 @@
 -- `characters::judge` meets its contract. The loop's invariant: the bytes before `i` are `n` permitted characters. Assumes nothing.
-use Prim.Native.Nat.{_-_}
-use mathlib.Core.Path.{sym, _∙_}
-use native.Mathlib.Omega.{arith}
-use borrow.Author.Needs.{needs}
-use borrow.Author.Tests.{not-true, not-false}
-use lib.ListN.{length}
+use Rattle.refusal.proofs.Basics.{sym, _∙_, needs, arith, _-_, length, not-true, not-false}
 use Rattle.characters.proofs.Laws.{Passed, passed-none, passed-single, passed-pair, passed-wrong, passed-all, wrong-told, long-told, short-accepted}
 use Rattle.characters.proofs.judge.Statement.{statement}
 use Rattle.characters.proofs.judge.Tie as tie
@@ -51,25 +46,15 @@ returns-3 c =
 
 pub judge-spec : {M : Type 1} → statement M
 judge-spec =
-    tie.close
-    (tie.spec
+    tie.close (tie.spec
     Inv-loop
     μ-loop
     loop-holds
-    (λ c. omega arith)
-    (λ c κs. search needs)
-    (λ c. omega arith)
-    (λ c. omega arith)
-    (λ c. omega arith)
+    (λ c. omega arith) (λ c κs. search needs) (λ c. omega arith) (λ c. omega arith) (λ c. omega arith)
     loop-again
-    (λ c. omega arith)
-    (λ c. omega arith)
-    (λ c κs. search needs)
-    (λ c. omega arith)
+    (λ c. omega arith) (λ c. omega arith) (λ c κs. search needs) (λ c. omega arith)
     returns
-    (λ c. omega arith)
-    (λ c. omega arith)
-    (λ c. omega arith)
+    (λ c. omega arith) (λ c. omega arith) (λ c. omega arith)
     loop-again-2
     returns-2
     returns-3)

@@ -1,6 +1,6 @@
 -- `check_digits::carried` meets its contract: twice ten leaves 9 over 11. Assumes nothing.
 use Rattle.check_digits.proofs.Laws.{carried-on, carried-over}
-use borrow.Author.Needs.{needs}
+use Rattle.refusal.proofs.Basics.{needs}
 use Rattle.check_digits.proofs.carried.Statement.{statement}
 use Rattle.check_digits.proofs.carried.Tie as tie
 

@@ -1,9 +1,6 @@
 -- `check_digits::check_digit` meets its contract. The loop's invariant: what is read of the whole is what is read of the rest from here.
 -- Assumes nothing.
-use Prim.Native.Nat.{_≤_, _-_}
-use mathlib.Core.Path.{_≡_, refl, sym, ap, _∙_}
-use native.Mathlib.Omega.{arith}
-use lib.ListN.{length, drop, getD}
+use Rattle.refusal.proofs.Basics.{_≡_, refl, sym, ap, _∙_, arith, _≤_, _-_, length, drop, getD}
 use Rattle.check_digits.specs.Mirror.{Small, runStart, runOf, digitOf}
 use Rattle.check_digits.proofs.Laws.{start-small, read-small, run-on, run-ends, read-check-digit}
 use Rattle.check_digits.proofs.check_digit.Statement.{statement}
@@ -41,16 +38,14 @@ returns c =
 
 pub check-digit-spec : {M : Type 1} → statement M
 check-digit-spec =
-    tie.close
-    (tie.spec
+    tie.close (tie.spec
     Inv-loop
     μ-loop
     (λ c κs. tt)
     loop-holds
     (λ c. omega arith)
     read-requires
-    (λ c. omega arith)
-    (λ c. omega arith)
+    (λ c. omega arith) (λ c. omega arith)
     loop-again
     digit-for-requires
     returns)

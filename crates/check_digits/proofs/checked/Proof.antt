@@ -1,8 +1,5 @@
 -- `check_digits::checked` meets its contract: each return is the definition's choice on the tests that led there. Assumes nothing.
-use mathlib.Core.Path.{refl, sym, _∙_}
-use borrow.Author.Tests.{not-true, not-false}
-use Rattle.classes.proofs.Choices.{taken, left, entered}
-use borrow.Author.Needs.{needs}
+use Rattle.refusal.proofs.Basics.{refl, sym, _∙_, needs, not-true, not-false, taken, left, entered}
 use Rattle.check_digits.proofs.checked.Statement.{statement}
 use Rattle.check_digits.proofs.checked.Tie as tie
 
@@ -30,13 +27,10 @@ returns-4 c =
 
 pub checked-spec : {M : Type 1} → statement M
 checked-spec =
-    tie.close
-    (tie.spec
-    (λ c κs. search needs)
-    (λ c κs. search needs)
+    tie.close (tie.spec
+    (λ c κs. search needs) (λ c κs. search needs)
     returns
-    (λ c κs. search needs)
-    (λ c κs. search needs)
+    (λ c κs. search needs) (λ c κs. search needs)
     returns-2
     (λ c κs. search needs)
     returns-3

@@ -1,16 +1,8 @@
 -- `check_digits::ends_right` meets its contract: the part before the last byte is what its check digit is made of. Assumes nothing.
-use mathlib.Core.Path.{sym, ap}
-use Prim.Native.Nat.{ℕ, _+_, _-_}
-use native.Mathlib.Omega.{arith}
-use lib.Dec.{eqb}
-use lib.ListN.{length, take, getD}
-use lib.Seq.{length-take-le}
-use borrow.Author.Tests.{lt-ltb, le-ltb}
-use Rattle.classes.proofs.Choices.{and-first, and-second}
+use Rattle.refusal.proofs.Basics.{sym, ap, needs, arith, ℕ, _+_, _-_, length, take, getD, lt-ltb, le-ltb, eqb, length-take-le, and-first, and-second}
 use Rattle.text.specs.Digits.{digitsOf}
 use Rattle.check_digits.specs.CheckDigit.{passes}
 use Rattle.check_digits.proofs.Theorems.{check-digit-small}
-use borrow.Author.Needs.{needs}
 use Rattle.check_digits.proofs.ends_right.Statement.{statement}
 use Rattle.check_digits.proofs.ends_right.Tie as tie
 
@@ -35,12 +27,10 @@ returns-2 c =
 
 pub ends-right-spec : {M : Type 1} → statement M
 ends-right-spec =
-    tie.close
-    (tie.spec
+    tie.close (tie.spec
     returns
     (λ c. search needs)
     slice-aggregate-check-digit
-    (λ c κs. search needs)
-    (λ c. search needs)
+    (λ c κs. search needs) (λ c. search needs)
     add-result
     returns-2)

@@ -1,7 +1,6 @@
 -- `check_digits::folded` meets its contract: below the modulus a number is its remainder, and below twice the modulus one subtraction is
 -- enough. Assumes nothing.
-use mathlib.Core.Path.{sym}
-use native.Mathlib.Nat.{mod-eq-of-lt}
+use Rattle.refusal.proofs.Basics.{sym, mod-eq-of-lt}
 use Rattle.check_digits.proofs.Laws.{folds}
 use Rattle.check_digits.proofs.folded.Statement.{statement}
 use Rattle.check_digits.proofs.folded.Tie as tie

@@ -1,6 +1,6 @@
 -- `check_digits::ini_digit` meets its contract: the test is the definition's. Assumes nothing.
 use Rattle.check_digits.proofs.Laws.{ini-small, ini-large}
-use borrow.Author.Needs.{needs}
+use Rattle.refusal.proofs.Basics.{needs}
 use Rattle.check_digits.proofs.ini_digit.Statement.{statement}
 use Rattle.check_digits.proofs.ini_digit.Tie as tie
 

@@ -1,9 +1,5 @@
 -- `check_digits::is_sized` meets its contract: the tests are the definition's. Assumes nothing.
-use mathlib.Core.Path.{refl}
-use native.Mathlib.Omega.{arith}
-use lib.ListN.{length}
-use borrow.Author.Tests.{lt-leb, le-leb}
-use Rattle.classes.proofs.Choices.{and-first, and-second}
+use Rattle.refusal.proofs.Basics.{refl, arith, length, lt-leb, le-leb, and-first, and-second}
 use Rattle.check_digits.proofs.is_sized.Statement.{statement}
 use Rattle.check_digits.proofs.is_sized.Tie as tie
 

@@ -1,9 +1,6 @@
 -- `check_digits::make` meets its contract: each return is the definition's choice on the tests that led there. Assumes nothing.
-use mathlib.Core.Path.{refl, sym, ap, _∙_}
-use borrow.Author.Tests.{not-true, not-false}
-use Rattle.classes.proofs.Choices.{left, entered}
+use Rattle.refusal.proofs.Basics.{refl, sym, ap, _∙_, needs, not-true, not-false, left, entered}
 use Rattle.check_digits.specs.declared.Made.the-variants.{Digit}
-use borrow.Author.Needs.{needs}
 use Rattle.check_digits.proofs.make.Statement.{statement}
 use Rattle.check_digits.proofs.make.Tie as tie
 
@@ -24,13 +21,10 @@ returns-3 c =
 
 pub make-spec : {M : Type 1} → statement M
 make-spec =
-    tie.close
-    (tie.spec
-    (λ c κs. search needs)
-    (λ c κs. search needs)
+    tie.close (tie.spec
+    (λ c κs. search needs) (λ c κs. search needs)
     returns
-    (λ c κs. search needs)
-    (λ c κs. search needs)
+    (λ c κs. search needs) (λ c κs. search needs)
     returns-2
     (λ c κs. search needs)
     returns-3)

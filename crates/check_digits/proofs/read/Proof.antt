@@ -1,8 +1,6 @@
 -- `check_digits::read` meets its contract: the tests say whether the byte is a digit. Assumes nothing.
-use mathlib.Core.Path.{refl}
-use Rattle.classes.proofs.Choices.{left, entered}
+use Rattle.refusal.proofs.Basics.{refl, needs, left, entered}
 use Rattle.classes.proofs.Laws.{no-digit-below, no-digit-above, digit-between}
-use borrow.Author.Needs.{needs}
 use Rattle.check_digits.proofs.read.Statement.{statement}
 use Rattle.check_digits.proofs.read.Tie as tie
 

@@ -1,5 +1,5 @@
 -- `check_digits::step` meets its contract: each arm says which rule it is. Assumes nothing.
-use borrow.Author.Needs.{needs}
+use Rattle.refusal.proofs.Basics.{needs}
 use Rattle.check_digits.proofs.step.Statement.{statement}
 use Rattle.check_digits.proofs.step.Tie as tie
 

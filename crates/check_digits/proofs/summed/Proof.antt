@@ -1,5 +1,5 @@
 -- `check_digits::summed` meets its contract: both sums are below twice eleven. Assumes nothing.
-use borrow.Author.Needs.{needs}
+use Rattle.refusal.proofs.Basics.{needs}
 use Rattle.check_digits.proofs.summed.Statement.{statement}
 use Rattle.check_digits.proofs.summed.Tie as tie
 

@@ -1,11 +1,6 @@
 -- `classes::described` meets its contract: the code's tests joined are the definition's, which names `, - . /` and digits apart.
 -- Assumes nothing.
-use Prim.Native.Nat.{ℕ}
-use mathlib.Core.Path.{_≡_, refl, sym}
-use mathlib.Core.Bool.{Bool, true, false, _&&_, _||_, or-true, or-false, or-assoc}
-use native.Mathlib.Omega.{arith}
-use lib.Dec.{leb, eqb}
-use borrow.Author.Tests.{le-leb, lt-leb, leb-true, leb-false}
+use Rattle.refusal.proofs.Basics.{_≡_, refl, sym, arith, ℕ, le-leb, lt-leb, leb-true, leb-false, Bool, true, false, _&&_, _||_, or-true, or-false, or-assoc, leb, eqb}
 use Rattle.classes.specs.Classes.{isDigit, isPlain}
 use Rattle.classes.proofs.described.Statement.{statement}
 use Rattle.classes.proofs.described.Tie as tie

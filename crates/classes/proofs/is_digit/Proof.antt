@@ -1,5 +1,5 @@
 -- `classes::is_digit` meets its contract: each return follows from the tests that led there. Assumes nothing.
-use borrow.Author.Tests.{lt-leb, le-leb}
+use Rattle.refusal.proofs.Basics.{lt-leb, le-leb}
 use Rattle.classes.proofs.is_digit.Statement.{statement}
 use Rattle.classes.proofs.is_digit.Tie as tie
 

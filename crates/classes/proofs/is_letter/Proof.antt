@@ -1,5 +1,5 @@
 -- `classes::is_letter` meets its contract: each return follows from the tests that led there. Assumes nothing.
-use borrow.Author.Tests.{lt-leb, le-leb}
+use Rattle.refusal.proofs.Basics.{lt-leb, le-leb}
 use Rattle.classes.proofs.is_letter.Statement.{statement}
 use Rattle.classes.proofs.is_letter.Tie as tie
 

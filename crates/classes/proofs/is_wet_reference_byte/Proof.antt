@@ -1,7 +1,5 @@
 -- `classes::is_wet_reference_byte` meets its contract: each return follows from the test that led there. Assumes nothing.
-use mathlib.Core.Path.{sym, refl, _∙_}
-use Rattle.classes.proofs.Choices.{or-first, or-second}
-use borrow.Author.Needs.{needs}
+use Rattle.refusal.proofs.Basics.{sym, refl, _∙_, needs, or-first, or-second}
 use Rattle.classes.proofs.is_wet_reference_byte.Statement.{statement}
 use Rattle.classes.proofs.is_wet_reference_byte.Tie as tie
 

@@ -1,6 +1,6 @@
 -- `codes::place` meets its contract: the table is the list of the codes. Assumes nothing.
 use Rattle.codes.specs.Codes.{codePlace}
-use borrow.Author.Needs.{needs}
+use Rattle.refusal.proofs.Basics.{needs}
 use Rattle.codes.proofs.place.Statement.{statement}
 use Rattle.codes.proofs.place.Tie as tie
 

@@ -1,12 +1,8 @@
 -- `codes::place_in` meets its contract. The loop's invariant: the answer is that of what is left from `i` on. Assumes nothing.
-use Prim.Native.Nat.{_≤_, _-_}
-use mathlib.Core.Path.{_≡_, sym, _∙_}
-use native.Mathlib.Omega.{arith}
-use lib.ListN.{length, drop}
+use Rattle.refusal.proofs.Basics.{_≡_, sym, _∙_, needs, arith, _≤_, _-_, length, drop}
 use Rattle.text.proofs.Laws.{shifted, shifted-zero}
 use Rattle.codes.specs.Codes.{firstIn}
 use Rattle.codes.proofs.Laws.{search-on, search-stops, search-ends}
-use borrow.Author.Needs.{needs}
 use Rattle.codes.proofs.place_in.Statement.{statement}
 use Rattle.codes.proofs.place_in.Tie as tie
 
@@ -39,16 +35,12 @@ returns-2 c =
 
 pub place-in-spec : {M : Type 1} → statement M
 place-in-spec =
-    tie.close
-    (tie.spec
+    tie.close (tie.spec
     Inv-loop
     μ-loop
     loop-holds
-    (λ c. search needs)
-    (λ c. omega arith)
-    (λ c κs. search needs)
+    (λ c. search needs) (λ c. omega arith) (λ c κs. search needs)
     returns
-    (λ c. omega arith)
-    (λ c. omega arith)
+    (λ c. omega arith) (λ c. omega arith)
     loop-again
     returns-2)

@@ -1,5 +1,5 @@
 -- `judge::begin` meets its contract: the definition's choice on the test. Assumes nothing.
-use borrow.Author.Needs.{needs}
+use Rattle.refusal.proofs.Basics.{needs}
 use Rattle.condition.specs.Record.{begun}
 use Rattle.condition.proofs.begin.Statement.{statement}
 use Rattle.condition.proofs.begin.Tie as tie
@@ -14,11 +14,8 @@ returns-2 c = rw (c .refused .ensures, c .before .at-line .ensures, c .before .b
 
 pub begin-spec : {M : Type 1} → statement M
 begin-spec =
-    tie.close
-    (tie.spec
-    (λ c κs. search needs)
-    (λ c κs. search needs)
+    tie.close (tie.spec
+    (λ c κs. search needs) (λ c κs. search needs)
     returns
-    (λ c κs. search needs)
-    (λ c κs. search needs)
+    (λ c κs. search needs) (λ c κs. search needs)
     returns-2)

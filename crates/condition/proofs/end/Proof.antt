@@ -1,8 +1,5 @@
 -- `judge::end` meets its contract: each return is the definition's choice on the tests that led there. Assumes nothing.
-use mathlib.Core.Path.{sym, _∙_}
-use native.Mathlib.Omega.{arith}
-use borrow.Author.Tests.{eq-eqb, ne-eqb}
-use borrow.Author.Needs.{needs}
+use Rattle.refusal.proofs.Basics.{sym, _∙_, needs, arith, eq-eqb, ne-eqb}
 use Rattle.condition.specs.Record.{ended}
 use Rattle.condition.proofs.Laws.{sound-within}
 use Rattle.condition.proofs.end.Statement.{statement}
@@ -29,13 +26,10 @@ returns-4 c = rw (← (c .before .before .before .before .is-refused .ensures), 
 
 pub end-spec : {M : Type 1} → statement M
 end-spec =
-    tie.close
-    (tie.spec
-    (λ c κs. search needs)
-    (λ c κs. search needs)
+    tie.close (tie.spec
+    (λ c κs. search needs) (λ c κs. search needs)
     returns
-    (λ c κs. search needs)
-    (λ c κs. search needs)
+    (λ c κs. search needs) (λ c κs. search needs)
     returns-2
     add-at-line
     (λ c κs. search needs)

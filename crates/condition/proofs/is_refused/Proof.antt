@@ -1,5 +1,5 @@
 -- `judge::is_refused` meets its contract. Assumes nothing.
-use borrow.Author.Needs.{needs}
+use Rattle.refusal.proofs.Basics.{needs}
 use Rattle.condition.proofs.is_refused.Statement.{statement}
 use Rattle.condition.proofs.is_refused.Tie as tie
 

@@ -1,5 +1,5 @@
 -- `judge::is_sound` meets its contract: the tests joined are the definition's. Assumes nothing.
-use borrow.Author.Needs.{needs}
+use Rattle.refusal.proofs.Basics.{needs}
 use Rattle.condition.specs.Record.{isSound}
 use Rattle.condition.proofs.is_sound.Statement.{statement}
 use Rattle.condition.proofs.is_sound.Tie as tie

@@ -1,8 +1,6 @@
 -- `dates::days` meets its contract: each arm says the month, and the last that it is none of the others. Assumes nothing.
-use mathlib.Core.Path.{sym, _∙_}
-use borrow.Author.Tests.{ne-eqb}
+use Rattle.refusal.proofs.Basics.{sym, _∙_, needs, ne-eqb}
 use Rattle.dates.specs.Dates.{daysOf}
-use borrow.Author.Needs.{needs}
 use Rattle.dates.proofs.days.Statement.{statement}
 use Rattle.dates.proofs.days.Tie as tie
 

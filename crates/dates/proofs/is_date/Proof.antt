@@ -1,7 +1,6 @@
 -- `dates::is_date` meets its contract: each return is the definition's on the tests that led there. Assumes nothing.
-use borrow.Author.Tests.{lt-leb, le-leb}
+use Rattle.refusal.proofs.Basics.{needs, lt-leb, le-leb}
 use Rattle.dates.specs.Dates.{isDate}
-use borrow.Author.Needs.{needs}
 use Rattle.dates.proofs.is_date.Statement.{statement}
 use Rattle.dates.proofs.is_date.Tie as tie
 

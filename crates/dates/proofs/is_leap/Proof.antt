@@ -1,5 +1,5 @@
 -- `dates::is_leap` meets its contract: each return follows from the tests that led there. Assumes nothing.
-use borrow.Author.Tests.{ne-eqb, eq-eqb}
+use Rattle.refusal.proofs.Basics.{ne-eqb, eq-eqb}
 use Rattle.dates.proofs.is_leap.Statement.{statement}
 use Rattle.dates.proofs.is_leap.Tie as tie
 

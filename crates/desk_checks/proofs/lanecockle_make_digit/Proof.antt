@@ -1,5 +1,5 @@
 -- `desk_checks::lanecockle_make_digit` meets its contract: rule 0, rule 1, and 5 for another. Assumes nothing.
-use borrow.Author.Needs.{needs}
+use Rattle.refusal.proofs.Basics.{needs}
 use Rattle.desk_checks.proofs.Laws.{by-ini, by-mod, by-none}
 use Rattle.desk_checks.proofs.lanecockle_make_digit.Statement.{statement}
 use Rattle.desk_checks.proofs.lanecockle_make_digit.Tie as tie

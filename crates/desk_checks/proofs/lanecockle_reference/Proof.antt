@@ -1,5 +1,5 @@
 -- `desk_checks::lanecockle_reference` meets its contract: the answer of the call, told. Assumes nothing.
-use borrow.Author.Needs.{needs}
+use Rattle.refusal.proofs.Basics.{needs}
 use Rattle.desk_checks.proofs.lanecockle_reference.Statement.{statement}
 use Rattle.desk_checks.proofs.lanecockle_reference.Tie as tie
 

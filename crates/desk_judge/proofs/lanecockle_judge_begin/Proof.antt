@@ -1,5 +1,5 @@
 -- `desk_judge::lanecockle_judge_begin` meets its contract: the record of the fresh judge. Assumes nothing.
-use borrow.Author.Needs.{needs}
+use Rattle.refusal.proofs.Basics.{needs}
 use Rattle.desk_judge.proofs.lanecockle_judge_begin.Statement.{statement}
 use Rattle.desk_judge.proofs.lanecockle_judge_begin.Tie as tie
 

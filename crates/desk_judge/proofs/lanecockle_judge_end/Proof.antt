@@ -1,5 +1,5 @@
 -- `desk_judge::lanecockle_judge_end` meets its contract: the ending of the judge, told. Assumes nothing.
-use borrow.Author.Needs.{needs}
+use Rattle.refusal.proofs.Basics.{needs}
 use Rattle.desk_judge.proofs.lanecockle_judge_end.Statement.{statement}
 use Rattle.desk_judge.proofs.lanecockle_judge_end.Tie as tie
 

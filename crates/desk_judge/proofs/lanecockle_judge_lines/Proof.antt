@@ -1,5 +1,5 @@
 -- `desk_judge::lanecockle_judge_lines` meets its contract: the record of the judge after the lines. Assumes nothing.
-use borrow.Author.Needs.{needs}
+use Rattle.refusal.proofs.Basics.{needs}
 use Rattle.desk_judge.proofs.lanecockle_judge_lines.Statement.{statement}
 use Rattle.desk_judge.proofs.lanecockle_judge_lines.Tie as tie
 

@@ -1,5 +1,5 @@
 -- `desk_judge::lanecockle_judge_step` meets its contract: the record of the judge after the line. Assumes nothing.
-use borrow.Author.Needs.{needs}
+use Rattle.refusal.proofs.Basics.{needs}
 use Rattle.desk_judge.proofs.lanecockle_judge_step.Statement.{statement}
 use Rattle.desk_judge.proofs.lanecockle_judge_step.Tie as tie
 

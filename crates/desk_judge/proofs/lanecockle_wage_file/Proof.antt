@@ -1,5 +1,5 @@
 -- `desk_judge::lanecockle_wage_file` meets its contract: the ending of the call, told. Assumes nothing.
-use borrow.Author.Needs.{needs}
+use Rattle.refusal.proofs.Basics.{needs}
 use Rattle.desk_judge.proofs.lanecockle_wage_file.Statement.{statement}
 use Rattle.desk_judge.proofs.lanecockle_wage_file.Tie as tie
 

@@ -1,6 +1,5 @@
 -- `desk_judge::place_part` meets its contract. Assumes nothing.
-use mathlib.Core.Path.{sym, _∙_}
-use borrow.Author.Needs.{needs}
+use Rattle.refusal.proofs.Basics.{sym, _∙_, needs}
 use Rattle.desk_judge.specs.Wages.{placePart}
 use Rattle.desk_judge.proofs.place_part.Statement.{statement}
 use Rattle.desk_judge.proofs.place_part.Tie as tie

@@ -1,5 +1,5 @@
 -- `desk_judge::tell_ending` meets its contract. Assumes nothing.
-use borrow.Author.Needs.{needs}
+use Rattle.refusal.proofs.Basics.{needs}
 use Rattle.desk_judge.specs.Wages.{endedOf}
 use Rattle.desk_judge.proofs.tell_ending.Statement.{statement}
 use Rattle.desk_judge.proofs.tell_ending.Tie as tie

@@ -1,7 +1,5 @@
 -- `desk_record::condition_from` meets its contract: each arm says the number. Assumes nothing.
-use mathlib.Core.Path.{ap}
-use borrow.Author.Tests.{ne-eqb}
-use borrow.Author.Needs.{needs}
+use Rattle.refusal.proofs.Basics.{ap, needs, ne-eqb}
 use Rattle.condition.specs.declared.Condition.the-variants.{Refused}
 use Rattle.desk_record.proofs.condition_from.Statement.{statement}
 use Rattle.desk_record.proofs.condition_from.Tie as tie

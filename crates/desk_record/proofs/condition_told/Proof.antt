@@ -1,5 +1,5 @@
 -- `desk_record::condition_told` meets its contract: each return is the definition's choice on the test. Assumes nothing.
-use borrow.Author.Needs.{needs}
+use Rattle.refusal.proofs.Basics.{needs}
 use Rattle.desk_record.proofs.condition_told.Statement.{statement}
 use Rattle.desk_record.proofs.condition_told.Tie as tie
 

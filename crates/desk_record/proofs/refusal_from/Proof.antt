@@ -1,5 +1,5 @@
 -- `desk_record::refusal_from` meets its contract. Assumes nothing.
-use borrow.Author.Needs.{needs}
+use Rattle.refusal.proofs.Basics.{needs}
 use Rattle.desk_record.proofs.refusal_from.Statement.{statement}
 use Rattle.desk_record.proofs.refusal_from.Tie as tie
 

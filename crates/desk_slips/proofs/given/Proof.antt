@@ -1,6 +1,5 @@
 -- `desk_slips::given` meets its contract: a field is the front of the text behind those before it. Assumes nothing.
-use mathlib.Core.Path.{_∙_}
-use borrow.Author.Needs.{needs}
+use Rattle.refusal.proofs.Basics.{_∙_, needs}
 use Rattle.desk_slips.proofs.Laws.{front-behind}
 use Rattle.desk_slips.proofs.given.Statement.{statement}
 use Rattle.desk_slips.proofs.given.Tie as tie

@@ -1,5 +1,5 @@
 -- `desk_slips::lanecockle_slip_cents` meets its contract: the amount of the call, told. Assumes nothing.
-use borrow.Author.Needs.{needs}
+use Rattle.refusal.proofs.Basics.{needs}
 use Rattle.desk_slips.proofs.lanecockle_slip_cents.Statement.{statement}
 use Rattle.desk_slips.proofs.lanecockle_slip_cents.Tie as tie
 

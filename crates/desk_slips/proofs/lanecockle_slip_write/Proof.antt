@@ -1,7 +1,5 @@
 -- `desk_slips::lanecockle_slip_write` meets its contract: the sizes asked, the slip written, and the answer told. Assumes nothing.
-use mathlib.Core.Path.{sym, _∙_}
-use borrow.Author.Needs.{needs}
-use borrow.Author.Tests.{not-true, not-false}
+use Rattle.refusal.proofs.Basics.{sym, _∙_, needs, not-true, not-false}
 use Rattle.desk_slips.proofs.Laws.{slip-told, slip-unsized}
 use Rattle.desk_slips.proofs.lanecockle_slip_write.Statement.{statement}
 use Rattle.desk_slips.proofs.lanecockle_slip_write.Tie as tie

@@ -1,5 +1,5 @@
 -- `desk_slips::write_given` meets its contract: the eleven fields given, written. Assumes nothing.
-use borrow.Author.Needs.{needs}
+use Rattle.refusal.proofs.Basics.{needs}
 use Rattle.desk_slips.proofs.write_given.Statement.{statement}
 use Rattle.desk_slips.proofs.write_given.Tie as tie
 

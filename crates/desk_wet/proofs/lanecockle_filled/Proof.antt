@@ -1,5 +1,5 @@
 -- `desk_wet::lanecockle_filled` meets its contract: what the call answers is told, and what it leaves is left. Assumes nothing.
-use borrow.Author.Needs.{needs}
+use Rattle.refusal.proofs.Basics.{needs}
 use Rattle.refusal.specs.declared.Answer.{Answer}
 use Rattle.filling.specs.Filling.{filledBy}
 use Rattle.boundary.specs.Told.{toldOf}

@@ -1,5 +1,5 @@
 -- `desk_wet::lanecockle_list_reference` meets its contract: what the call answers is told, and what it leaves is left. Assumes nothing.
-use borrow.Author.Needs.{needs}
+use Rattle.refusal.proofs.Basics.{needs}
 use Rattle.fillings.specs.declared.Listed.{Listed}
 use Rattle.fillings.specs.Answers.{leftByListing}
 use Rattle.wet.specs.Wet.{referenceFillings}

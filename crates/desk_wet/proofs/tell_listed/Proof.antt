@@ -1,5 +1,5 @@
 -- `desk_wet::tell_listed` meets its contract. Assumes nothing.
-use borrow.Author.Needs.{needs}
+use Rattle.refusal.proofs.Basics.{needs}
 use Rattle.desk_wet.specs.Listed.{listedOf}
 use Rattle.desk_wet.proofs.tell_listed.Statement.{statement}
 use Rattle.desk_wet.proofs.tell_listed.Tie as tie
@@ -14,11 +14,7 @@ returns-2 c = rw (c .before .before .l2 .given .1) (c .refuse-value .ensures)
 
 pub tell-listed-spec : {M : Type 1} → statement M
 tell-listed-spec =
-    tie.close
-    (tie.spec
-    (λ c. search needs)
-    (λ c κs. search needs)
-    (λ c. search needs)
-    (λ c κs. search needs)
+    tie.close (tie.spec
+    (λ c. search needs) (λ c κs. search needs) (λ c. search needs) (λ c κs. search needs)
     returns
     returns-2)

@@ -1,5 +1,5 @@
 -- `desk_writers::lanecockle_write_group` meets its contract: what the call answers is told, and what it leaves is left. Assumes nothing.
-use borrow.Author.Needs.{needs}
+use Rattle.refusal.proofs.Basics.{needs}
 use Rattle.desk_writers.proofs.Laws.{line-told}
 use Rattle.desk_writers.proofs.lanecockle_write_group.Statement.{statement}
 use Rattle.desk_writers.proofs.lanecockle_write_group.Tie as tie

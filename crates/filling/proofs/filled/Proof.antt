@@ -1,9 +1,5 @@
 -- `filling::filled` meets its contract. The loop's invariant: the bytes from `i` on are written. Assumes nothing.
-use mathlib.Core.Path.{_≡_, refl}
-use Prim.Native.Nat.{_≤_, _-_}
-use native.Mathlib.Omega.{arith}
-use lib.ListN.{length, length-set}
-use borrow.Author.Needs.{needs}
+use Rattle.refusal.proofs.Basics.{_≡_, refl, needs, arith, _≤_, _-_, length, length-set}
 use Rattle.filling.proofs.Laws.{WrittenFrom, from-end, from-mark, from-byte, from-front, short-refused, enough-accepted}
 use Rattle.filling.proofs.filled.Statement.{statement}
 use Rattle.filling.proofs.filled.Tie as tie
@@ -44,23 +40,15 @@ returns-2 c =
 
 pub filled-spec : {M : Type 1} → statement M
 filled-spec =
-    tie.close
-    (tie.spec
+    tie.close (tie.spec
     Inv-loop
     μ-loop
     (λ c κs. search needs)
     returns
     loop-holds
-    (λ c. omega arith)
-    (λ c. omega arith)
-    (λ c. omega arith)
-    (λ c. omega arith)
-    (λ c. omega arith)
-    (λ c. omega arith)
+    (λ c. omega arith) (λ c. omega arith) (λ c. omega arith) (λ c. omega arith) (λ c. omega arith) (λ c. omega arith)
     loop-again
-    (λ c. omega arith)
-    (λ c. omega arith)
-    (λ c. omega arith)
+    (λ c. omega arith) (λ c. omega arith) (λ c. omega arith)
     loop-again-2
     same-length
     returns-2)

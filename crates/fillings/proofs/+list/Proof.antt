@@ -1,11 +1,6 @@
 -- `fillings::list` meets its contract. The measure is the number of marks left. The loop's invariant: the fillings with a digit below `d` at
 -- the first mark are written, and `w` is `t` but for the byte at that mark. Assumes nothing.
-use mathlib.Core.Path.{_≡_, refl, sym, _∙_}
-use Prim.Native.Nat.{ℕ, _+_, _-_, _≤_, _<_}
-use native.Mathlib.Omega.{arith}
-use lib.ListN.{take, set}
-use lib.Seq.{length-take-le, set-set}
-use borrow.Author.Needs.{needs}
+use Rattle.refusal.proofs.Basics.{_≡_, refl, sym, _∙_, needs, arith, ℕ, _+_, _-_, _≤_, _<_, take, set, length-take-le, set-set}
 use borrow.Fn.Kinds.{In}
 use borrow.Fn.PlainCycle.{Measures, is, falls, and}
 use Rattle.text.specs.Stands.{Stands}

@@ -1,7 +1,5 @@
 -- `fillings::accepted` meets its contract: each return is the definition's choice on the tests that led there. Assumes nothing.
-use borrow.Author.Tests.{not-true, not-false}
-use borrow.Author.Needs.{needs}
-use Rattle.classes.proofs.Choices.{left, entered, and-first, and-second}
+use Rattle.refusal.proofs.Basics.{needs, not-true, not-false, left, entered, and-first, and-second}
 use Rattle.fillings.specs.Mirror.{accepts}
 use Rattle.fillings.proofs.accepted.Statement.{statement}
 use Rattle.fillings.proofs.accepted.Tie as tie

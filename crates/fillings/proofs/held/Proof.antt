@@ -1,9 +1,5 @@
 -- `fillings::held` meets its contract. The loop's invariant: the bytes before `i` are copied. Assumes nothing.
-use mathlib.Core.Path.{_≡_, refl, _∙_}
-use Prim.Native.Nat.{_≤_, _-_}
-use native.Mathlib.Omega.{arith}
-use lib.ListN.{length, take, length-set}
-use lib.Seq.{take-length}
+use Rattle.refusal.proofs.Basics.{_≡_, refl, _∙_, arith, _≤_, _-_, length, take, length-set, take-length}
 use Rattle.fillings.proofs.Laws.{copied-more}
 use Rattle.fillings.proofs.held.Statement.{statement}
 use Rattle.fillings.proofs.held.Tie as tie
@@ -32,14 +28,10 @@ returns c =
 
 pub held-spec : {M : Type 1} → statement M
 held-spec =
-    tie.close
-    (tie.spec
+    tie.close (tie.spec
     Inv-loop
     μ-loop
     loop-holds
-    (λ c. omega arith)
-    (λ c. omega arith)
-    (λ c. omega arith)
-    (λ c. omega arith)
+    (λ c. omega arith) (λ c. omega arith) (λ c. omega arith) (λ c. omega arith)
     loop-again
     returns)

@@ -1,9 +1,5 @@
 -- `fillings::leaf` meets its contract: the number is written where the text is accepted and there is room. Assumes nothing.
-use mathlib.Core.Path.{sym, refl, _∙_}
-use native.Mathlib.Omega.{arith}
-use lib.Seq.{set-out}
-use borrow.Author.Tests.{not-true, not-false}
-use borrow.Author.Needs.{needs}
+use Rattle.refusal.proofs.Basics.{sym, refl, _∙_, needs, arith, not-true, not-false, set-out}
 use Rattle.fillings.proofs.Laws.{written-rejected, written-accepted}
 use Rattle.fillings.proofs.leaf.Statement.{statement}
 use Rattle.fillings.proofs.leaf.Tie as tie
@@ -19,15 +15,10 @@ returns-3 c = written-accepted _ _ _ _ _ (sym (c .before .before .accepted .ensu
 
 pub leaf-spec : {M : Type 1} → statement M
 leaf-spec =
-    tie.close
-    (tie.spec
+    tie.close (tie.spec
     (λ c κs. search needs)
     returns
-    (λ c. search needs)
-    (λ c. search needs)
-    (λ c. search needs)
-    (λ c. search needs)
-    (λ c. search needs)
+    (λ c. search needs) (λ c. search needs) (λ c. search needs) (λ c. search needs) (λ c. search needs)
     returns-2
     (λ c. search needs)
     returns-3)

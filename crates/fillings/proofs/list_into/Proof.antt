@@ -1,14 +1,7 @@
 -- `fillings::list_into` meets its contract: 1 and 16 first; then nothing where no filling mends the form, else the count is that of all fillings,
 -- and they are written where there is room: room for ten thousand is room for all. Assumes nothing.
-use mathlib.Core.Path.{_≡_, refl, sym, ap, _∙_}
-use mathlib.Core.List.{List}
-use Prim.Native.Nat.{ℕ, suc, _*_, _^_, _≤_}
-use native.Mathlib.Omega.{arith}
-use lib.ListN.{length, take}
-use borrow.Author.Needs.{needs}
-use borrow.Author.Tests.{not-true, lt-leb, le-leb}
+use Rattle.refusal.proofs.Basics.{_≡_, refl, sym, ap, _∙_, needs, arith, ℕ, suc, _*_, _^_, _≤_, length, take, not-true, lt-leb, le-leb, List, left, entered}
 use Rattle.text.specs.Bytes.{marks}
-use Rattle.classes.proofs.Choices.{left, entered}
 use Rattle.fillings.specs.Mirror.{accepts}
 use Rattle.fillings.specs.Fillings.{fillings}
 use Rattle.fillings.proofs.Laws.{whole-fits, fillings-fit, written-all, room-refused, room-counted, all-listed, none-listed}
@@ -93,12 +86,10 @@ returns-6 c =
 
 pub list-into-spec : {M : Type 1} → statement M
 list-into-spec =
-    tie.close
-    (tie.spec
+    tie.close (tie.spec
     (λ c κs. search needs)
     returns
-    (λ c κs. search needs)
-    (λ c κs. search needs)
+    (λ c κs. search needs) (λ c κs. search needs)
     returns-2
     returns-3
     (λ c κs. search needs)

@@ -1,5 +1,5 @@
 -- `group_writer::draft_group` meets its contract: a 301 is drafted in three runs of fields. Assumes nothing.
-use borrow.Author.Needs.{needs}
+use Rattle.refusal.proofs.Basics.{needs}
 use Rattle.wage_places.specs.declared.LineType.the-variants.{Group}
 use Rattle.bare_line.proofs.Theorems.{bare}
 use Rattle.group_writer.proofs.Laws.{group-first, group-worked, group-last}
@@ -23,21 +23,10 @@ returns-3 c =
 
 pub draft-group-spec : {M : Type 1} → statement M
 draft-group-spec =
-    tie.close
-    (tie.spec
-    (λ c κs. search needs)
-    (λ c κs. search needs)
-    (λ c. search needs)
-    (λ c. search needs)
+    tie.close (tie.spec
+    (λ c κs. search needs) (λ c κs. search needs) (λ c. search needs) (λ c. search needs)
     returns
-    (λ c. search needs)
-    (λ c κs. search needs)
-    (λ c. search needs)
-    (λ c. search needs)
+    (λ c. search needs) (λ c κs. search needs) (λ c. search needs) (λ c. search needs)
     returns-2
-    (λ c. search needs)
-    (λ c κs. search needs)
-    (λ c κs. search needs)
-    (λ c κs. search needs)
-    (λ c. search needs)
+    (λ c. search needs) (λ c κs. search needs) (λ c κs. search needs) (λ c κs. search needs) (λ c. search needs)
     returns-3)

@@ -1,5 +1,5 @@
 -- `group_writer::draft_worked` meets its contract: the digits are two fields, one behind the other. Assumes nothing.
-use borrow.Author.Needs.{needs}
+use Rattle.refusal.proofs.Basics.{needs}
 use Rattle.room.proofs.Digits.{digits-length}
 use Rattle.group_writer.proofs.Laws.{two-fields}
 use Rattle.group_writer.proofs.draft_worked.Statement.{statement}
@@ -10,12 +10,6 @@ returns c = rw (c .before .before .before .before .before .before .before .put-w
 
 pub draft-worked-spec : {M : Type 1} → statement M
 draft-worked-spec =
-    tie.close
-    (tie.spec
-    (λ c. search needs)
-    (λ c κs. search needs)
-    (λ c. search needs)
-    (λ c. search needs)
-    (λ c κs. search needs)
-    (λ c. search needs)
+    tie.close (tie.spec
+    (λ c. search needs) (λ c κs. search needs) (λ c. search needs) (λ c. search needs) (λ c κs. search needs) (λ c. search needs)
     returns)

@@ -1,7 +1,5 @@
 -- `group_writer::write_group` meets its contract: the sizes, the day, the kind, the orders, then the line. Assumes nothing.
-use mathlib.Core.Path.{sym, _∙_}
-use borrow.Author.Tests.{not-true, not-false}
-use borrow.Author.Needs.{needs}
+use Rattle.refusal.proofs.Basics.{sym, _∙_, needs, not-true, not-false}
 use Rattle.wage_orders.proofs.Theorems.{accepted-small}
 use Rattle.line_room.proofs.Laws.{refused-first, accepted-first, day-wrong, day-right, kind-wrong, kind-right}
 use Rattle.wage_writer.proofs.Laws.{sizes-wrong, sizes-right}
@@ -46,19 +44,14 @@ returns-5 c =
 
 pub write-group-spec : {M : Type 1} → statement M
 write-group-spec =
-    tie.close
-    (tie.spec
-    (λ c κs. search needs)
-    (λ c κs. search needs)
+    tie.close (tie.spec
+    (λ c κs. search needs) (λ c κs. search needs)
     returns
-    (λ c κs. search needs)
-    (λ c κs. search needs)
+    (λ c κs. search needs) (λ c κs. search needs)
     returns-2
-    (λ c κs. search needs)
-    (λ c κs. search needs)
+    (λ c κs. search needs) (λ c κs. search needs)
     returns-3
-    (λ c κs. search needs)
-    (λ c. search needs)
+    (λ c κs. search needs) (λ c. search needs)
     returns-4
     (λ c. search needs)
     write-judged-requires

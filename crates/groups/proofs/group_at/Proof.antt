@@ -1,8 +1,5 @@
 -- `groups::group_at` meets its contract: each return is the definition's choice on the tests that led there. Assumes nothing.
-use mathlib.Core.Path.{sym, _∙_}
-use borrow.Author.Needs.{needs}
-use borrow.Author.Tests.{eq-eqb, ne-eqb}
-use Rattle.classes.proofs.Choices.{taken, left, or-first, or-second}
+use Rattle.refusal.proofs.Basics.{sym, _∙_, needs, eq-eqb, ne-eqb, taken, left, or-first, or-second}
 use Rattle.groups.proofs.group_at.Statement.{statement}
 use Rattle.groups.proofs.group_at.Tie as tie
 
@@ -33,18 +30,12 @@ returns-4 c =
 
 pub group-at-spec : {M : Type 1} → statement M
 group-at-spec =
-    tie.close
-    (tie.spec
-    (λ c κs. search needs)
-    (λ c κs. search needs)
+    tie.close (tie.spec
+    (λ c κs. search needs) (λ c κs. search needs)
     returns
     (λ c κs. search needs)
     returns-2
-    (λ c κs. search needs)
-    (λ c. search needs)
-    (λ c. search needs)
-    (λ c κs. search needs)
-    (λ c κs. search needs)
+    (λ c κs. search needs) (λ c. search needs) (λ c. search needs) (λ c κs. search needs) (λ c κs. search needs)
     returns-3
     (λ c κs. search needs)
     returns-4)

@@ -1,11 +1,5 @@
 -- `groups::obeys_at` meets its contract. The loop's invariant: the groups are right where those from `i` on are. Assumes nothing.
-use mathlib.Core.List.{List, map}
-use mathlib.Core.Path.{_≡_, refl, sym, _∙_}
-use Prim.Native.Nat.{ℕ, _≤_, _-_}
-use native.Mathlib.Omega.{arith}
-use lib.ListN.{length, drop, length-map}
-use borrow.Author.Needs.{needs}
-use borrow.Author.Tests.{not-true, not-false}
+use Rattle.refusal.proofs.Basics.{_≡_, refl, sym, _∙_, needs, arith, ℕ, _≤_, _-_, length, drop, length-map, not-true, not-false, List, map}
 use Rattle.models.specs.Models.{noGroup}
 use Rattle.groups.specs.Mirror.{groupsAt, obeysAt}
 use Rattle.groups.proofs.Stretches.{groups-on, groups-stop, groups-end}
@@ -50,16 +44,12 @@ returns-2 c =
 
 pub obeys-at-spec : {M : Type 1} → statement M
 obeys-at-spec =
-    tie.close
-    (tie.spec
+    tie.close (tie.spec
     Inv-loop
     μ-loop
     (λ c. (omega arith, refl))
-    (λ c. omega arith)
-    (λ c. omega arith)
-    (λ c κs. search needs)
+    (λ c. omega arith) (λ c. omega arith) (λ c κs. search needs)
     returns
-    (λ c. omega arith)
-    (λ c. omega arith)
+    (λ c. omega arith) (λ c. omega arith)
     loop-again
     returns-2)

@@ -1,7 +1,5 @@
 -- `groups::start_of` meets its contract: the first part begins at 0, another behind the hyphen that ends the one before. Assumes nothing.
-use native.Mathlib.Omega.{arith}
-use borrow.Author.Needs.{needs}
-use borrow.Author.Tests.{ne-eqb}
+use Rattle.refusal.proofs.Basics.{needs, arith, ne-eqb}
 use Rattle.groups.proofs.start_of.Statement.{statement}
 use Rattle.groups.proofs.start_of.Tie as tie
 

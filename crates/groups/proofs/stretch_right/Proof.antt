@@ -1,8 +1,5 @@
 -- `groups::stretch_right` meets its contract: what does not stand in the text fails. Assumes nothing.
-use mathlib.Core.Path.{refl, sym}
-use borrow.Author.Needs.{needs}
-use borrow.Author.Tests.{lt-leb, le-leb}
-use Rattle.classes.proofs.Choices.{left, entered, and-first, and-second}
+use Rattle.refusal.proofs.Basics.{refl, sym, needs, lt-leb, le-leb, left, entered, and-first, and-second}
 use Rattle.groups.proofs.stretch_right.Statement.{statement}
 use Rattle.groups.proofs.stretch_right.Tie as tie
 
@@ -18,11 +15,8 @@ returns-3 c =
 
 pub stretch-right-spec : {M : Type 1} → statement M
 stretch-right-spec =
-    tie.close
-    (tie.spec
+    tie.close (tie.spec
     returns
     returns-2
-    (λ c. search needs)
-    (λ c. search needs)
-    (λ c κs. search needs)
+    (λ c. search needs) (λ c. search needs) (λ c κs. search needs)
     returns-3)

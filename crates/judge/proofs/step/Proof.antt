@@ -1,10 +1,5 @@
 -- `judge::step` meets its contract: each return is the definition's choice on the tests that led there. Assumes nothing.
-use mathlib.Core.Path.{sym, _∙_}
-use native.Mathlib.Omega.{arith}
-use lib.Dec.{ltb}
-use borrow.Author.Tests.{ltb-true}
-use borrow.Author.Needs.{needs}
-use Rattle.classes.proofs.Choices.{both-true}
+use Rattle.refusal.proofs.Basics.{sym, _∙_, needs, arith, ltb-true, ltb, both-true}
 use Rattle.judge.specs.Judge.{stepped}
 use Rattle.judge.proofs.step.Statement.{statement}
 use Rattle.judge.proofs.step.Tie as tie
@@ -33,20 +28,14 @@ returns-4 c = rw (← (c .before .before .before .before .before .is-refused .en
 
 pub step-spec : {M : Type 1} → statement M
 step-spec =
-    tie.close
-    (tie.spec
+    tie.close (tie.spec
     (λ c κs. search needs)
     returns
-    (λ c κs. search needs)
-    (λ c κs. search needs)
-    (λ c. search needs)
+    (λ c κs. search needs) (λ c κs. search needs) (λ c. search needs)
     type-step-requires
     (λ c. search needs)
     add-in-line
-    (λ c κs. search needs)
-    (λ c κs. search needs)
-    (λ c κs. search needs)
-    (λ c κs. search needs)
+    (λ c κs. search needs) (λ c κs. search needs) (λ c κs. search needs) (λ c κs. search needs)
     returns-2
     returns-3
     returns-4)

@@ -1,7 +1,5 @@
 -- `judge::type_step` meets its contract: 10, 12 and 13 first, then the arm says the answer of the places. Assumes nothing.
-use native.Mathlib.Omega.{arith}
-use borrow.Author.Tests.{eq-eqb, ne-eqb}
-use borrow.Author.Needs.{needs}
+use Rattle.refusal.proofs.Basics.{needs, arith, eq-eqb, ne-eqb}
 use Rattle.condition.proofs.Laws.{sound-within}
 use Rattle.judge.specs.Judge.{typeStep}
 use Rattle.judge.proofs.type_step.Statement.{statement}
@@ -24,19 +22,10 @@ returns-3 c = rw (← (c .before .before .before .before .before .before .before
 
 pub type-step-spec : {M : Type 1} → statement M
 type-step-spec =
-    tie.close
-    (tie.spec
+    tie.close (tie.spec
     add-next
-    (λ c κs. search needs)
-    (λ c κs. search needs)
-    (λ c κs. search needs)
-    (λ c κs. search needs)
+    (λ c κs. search needs) (λ c κs. search needs) (λ c κs. search needs) (λ c κs. search needs)
     returns
-    (λ c κs. search needs)
-    (λ c. search needs)
-    (λ c κs. search needs)
-    (λ c. search needs)
-    (λ c κs. search needs)
-    (λ c κs. search needs)
+    (λ c κs. search needs) (λ c. search needs) (λ c κs. search needs) (λ c. search needs) (λ c κs. search needs) (λ c κs. search needs)
     returns-2
     returns-3)

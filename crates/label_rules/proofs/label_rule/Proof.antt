@@ -1,7 +1,6 @@
 -- `label_rules::label_rule` meets its contract: each arm says the order, and its answer is the definition's for the
 -- field at that order. Assumes nothing.
-use mathlib.Core.Path.{refl}
-use borrow.Author.Needs.{needs}
+use Rattle.refusal.proofs.Basics.{refl, needs}
 use Rattle.wage_places.specs.declared.LineType.the-variants.{Label}
 use Rattle.wage_places.specs.Places.{spots, spotIn, noSpot}
 use Rattle.wage_places.proofs.Laws.{past}
@@ -11,26 +10,11 @@ use Rattle.label_rules.proofs.label_rule.Tie as tie
 pub label-rule-spec : {M : Type 1} → statement M
 unfolding spots spotIn
 label-rule-spec =
-    tie.close
-    (tie.spec
-    (λ c κs. search needs)
-    (λ c κs. search needs)
-    (λ c κs. search needs)
-    (λ c κs. search needs)
-    (λ c κs. search needs)
-    (λ c κs. search needs)
-    (λ c κs. search needs)
-    (λ c κs. search needs)
-    (λ c κs. search needs)
-    (λ c κs. search needs)
-    (λ c κs. search needs)
-    (λ c κs. search needs)
-    (λ c κs. search needs)
-    (λ c κs. search needs)
-    (λ c κs. search needs)
-    (λ c κs. search needs)
-    (λ c κs. search needs)
-    (λ c κs. search needs)
+    tie.close (tie.spec
+    (λ c κs. search needs) (λ c κs. search needs) (λ c κs. search needs) (λ c κs. search needs) (λ c κs. search needs)
+    (λ c κs. search needs) (λ c κs. search needs) (λ c κs. search needs) (λ c κs. search needs) (λ c κs. search needs)
+    (λ c κs. search needs) (λ c κs. search needs) (λ c κs. search needs) (λ c κs. search needs) (λ c κs. search needs)
+    (λ c κs. search needs) (λ c κs. search needs) (λ c κs. search needs)
     (λ c. rw (c .before .before .match .keys1, ← c .before .part-at .ensures) (c .judge-date .ensures))
     (λ c. rw (c .before .before .match .keys2, ← c .before .part-at2 .ensures) (c .judge-among .ensures))
     (λ c. rw (c .before .before .match .keys3, ← c .before .part-at3 .ensures) (c .judge-among2 .ensures))

@@ -1,8 +1,5 @@
 -- `lent_fields::end_of` meets its contract: each return is the definition's choice on the tests that led there. Assumes nothing.
-use mathlib.Core.Path.{refl}
-use borrow.Author.Needs.{needs}
-use borrow.Author.Tests.{lt-ltb, le-ltb}
-use Rattle.classes.proofs.Choices.{taken, left}
+use Rattle.refusal.proofs.Basics.{refl, needs, lt-ltb, le-ltb, taken, left}
 use Rattle.lent_fields.proofs.end_of.Statement.{statement}
 use Rattle.lent_fields.proofs.end_of.Tie as tie
 

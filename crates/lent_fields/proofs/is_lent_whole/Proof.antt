@@ -1,9 +1,5 @@
 -- `lent_fields::is_lent_whole` meets its contract. The loop's invariant: the fields that are left are asked for what is left of the text. Assumes nothing.
-use mathlib.Core.Path.{_≡_, sym, _∙_}
-use Prim.Native.Nat.{_≤_, _-_}
-use native.Mathlib.Omega.{arith}
-use lib.ListN.{length}
-use borrow.Author.Needs.{needs}
+use Rattle.refusal.proofs.Basics.{_≡_, sym, _∙_, needs, arith, _≤_, _-_, length}
 use Rattle.lent_fields.specs.Fields.{lentWhole}
 use Rattle.lent_fields.proofs.Laws.{SizedFrom, sized-last, sized-past, sized-short, sized-on}
 use Rattle.lent_fields.proofs.is_lent_whole.Statement.{statement}
@@ -60,8 +56,7 @@ returns-3 c =
 
 pub is-lent-whole-spec : {M : Type 1} → statement M
 is-lent-whole-spec =
-    tie.close
-    (tie.spec
+    tie.close (tie.spec
     Inv-loop
     μ-loop
     loop-holds

@@ -1,9 +1,5 @@
 -- `wage_draft::size_at` meets its contract. Assumes nothing.
-use mathlib.Core.Path.{sym}
-use Prim.Native.Nat.{_≤_}
-use native.Mathlib.Omega.{arith}
-use lib.ListN.{length, List·getD-eq-default}
-use borrow.Author.Needs.{needs}
+use Rattle.refusal.proofs.Basics.{sym, needs, arith, _≤_, length, List·getD-eq-default}
 use Rattle.lent_fields.proofs.size_at.Statement.{statement}
 use Rattle.lent_fields.proofs.size_at.Tie as tie
 

@@ -1,8 +1,5 @@
 -- `wage_writer::sizes_behind` meets its contract: the part from the fourth on, none where there are fewer. Assumes nothing.
-use mathlib.Core.Path.{sym}
-use native.Mathlib.Omega.{arith}
-use lib.ListN.{drop-of-length-le}
-use borrow.Author.Needs.{needs}
+use Rattle.refusal.proofs.Basics.{sym, needs, arith, drop-of-length-le}
 use Rattle.text.proofs.Laws.{to-the-end}
 use Rattle.lent_fields.proofs.sizes_behind.Statement.{statement}
 use Rattle.lent_fields.proofs.sizes_behind.Tie as tie
@@ -15,11 +12,8 @@ returns-2 c = to-the-end 4 (c .before .before .args .sizes .now)
 
 pub sizes-behind-spec : {M : Type 1} → statement M
 sizes-behind-spec =
-    tie.close
-    (tie.spec
+    tie.close (tie.spec
     (λ c. search needs)
     returns
-    (λ c. search needs)
-    (λ c. search needs)
-    (λ c. search needs)
+    (λ c. search needs) (λ c. search needs) (λ c. search needs)
     returns-2)

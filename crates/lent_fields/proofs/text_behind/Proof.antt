@@ -1,9 +1,5 @@
 -- `lent_fields::text_behind` meets its contract. The loop's invariant: the text behind what is left of the fields is that behind all. Assumes nothing.
-use mathlib.Core.Path.{_≡_, sym, _∙_}
-use Prim.Native.Nat.{_≤_, _-_}
-use native.Mathlib.Omega.{arith}
-use lib.ListN.{length, take}
-use borrow.Author.Needs.{needs}
+use Rattle.refusal.proofs.Basics.{_≡_, sym, _∙_, needs, arith, _≤_, _-_, length, take}
 use Rattle.text.proofs.Laws.{to-the-end}
 use Rattle.lent_fields.specs.Fields.{behind}
 use Rattle.lent_fields.proofs.Laws.{Behind, behind-last, behind-past, behind-on, field-ends}
@@ -76,8 +72,7 @@ returns-2 c =
 
 pub text-behind-spec : {M : Type 1} → statement M
 text-behind-spec =
-    tie.close
-    (tie.spec
+    tie.close (tie.spec
     Inv-loop
     μ-loop
     loop-holds

@@ -1,6 +1,5 @@
 -- `wage_orders::judge_fields` meets its contract. Assumes nothing.
-use mathlib.Core.Path.{sym, _∙_}
-use borrow.Author.Needs.{needs}
+use Rattle.refusal.proofs.Basics.{sym, _∙_, needs}
 use Rattle.lent_order.proofs.judge_fields.Statement.{statement}
 use Rattle.lent_order.proofs.judge_fields.Tie as tie
 

@@ -1,6 +1,5 @@
 -- `wage_orders::judge_order` meets its contract, type by type. Assumes nothing.
-use mathlib.Core.Path.{sym, _∙_}
-use borrow.Author.Needs.{needs}
+use Rattle.refusal.proofs.Basics.{sym, _∙_, needs}
 use Rattle.lent_order.specs.Order.{lentOrderAnswer}
 use Rattle.lent_order.proofs.judge_order.Statement.{statement}
 use Rattle.lent_order.proofs.judge_order.Tie as tie
@@ -27,20 +26,9 @@ returns-5 c = rw (c .in-line .ensures, sym (c .before .before .before .before .r
 
 pub judge-order-spec : {M : Type 1} → statement M
 judge-order-spec =
-    tie.close
-    (tie.spec
-    (λ c κs. search needs)
-    (λ c. search needs)
-    (λ c. search needs)
-    (λ c κs. search needs)
-    (λ c. search needs)
-    (λ c κs. search needs)
-    (λ c. search needs)
-    (λ c κs. search needs)
-    (λ c. search needs)
-    (λ c κs. search needs)
-    (λ c. search needs)
-    (λ c κs. search needs)
+    tie.close (tie.spec
+    (λ c κs. search needs) (λ c. search needs) (λ c. search needs) (λ c κs. search needs) (λ c. search needs) (λ c κs. search needs)
+    (λ c. search needs) (λ c κs. search needs) (λ c. search needs) (λ c κs. search needs) (λ c. search needs) (λ c κs. search needs)
     returns
     returns-2
     returns-3

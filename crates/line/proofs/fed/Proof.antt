@@ -1,8 +1,5 @@
 -- `line::fed` meets its contract. The loop's invariant: what the whole leads to is what the rest from here leads to. Assumes nothing.
-use Prim.Native.Nat.{_≤_, _-_}
-use mathlib.Core.Path.{_≡_, refl, sym, _∙_}
-use native.Mathlib.Omega.{arith}
-use lib.ListN.{length, drop}
+use Rattle.refusal.proofs.Basics.{_≡_, refl, sym, _∙_, arith, _≤_, _-_, length, drop}
 use Rattle.line.specs.Mirror.{feed, keptOf}
 use Rattle.line.proofs.Laws.{feed-on, feed-ended, feed-ends, whole}
 use Rattle.line.proofs.fed.Statement.{statement}
@@ -57,18 +54,14 @@ returns-2 c =
 
 pub fed-spec : {M : Type 1} → statement M
 fed-spec =
-    tie.close
-    (tie.spec
+    tie.close (tie.spec
     Inv-loop
     μ-loop
     loop-holds
     same-length
     same-length-2
     returns
-    (λ c. omega arith)
-    (λ c κs. tt)
-    (λ c. omega arith)
-    (λ c. omega arith)
+    (λ c. omega arith) (λ c κs. tt) (λ c. omega arith) (λ c. omega arith)
     loop-again
     same-length-3
     same-length-4

@@ -1,9 +1,7 @@
 -- `line::took_byte` meets its contract: each return is the definition's choice on the tests that led there. Assumes nothing.
-use mathlib.Core.Path.{_∙_}
-use borrow.Author.Tests.{eq-eqb, ne-eqb}
+use Rattle.refusal.proofs.Basics.{_∙_, needs, eq-eqb, ne-eqb}
 use Rattle.line.specs.Mirror.{keptOf}
 use Rattle.line.proofs.Laws.{took-ended, took-feed, took-behind, took-space, took-ahead}
-use borrow.Author.Needs.{needs}
 use Rattle.line.proofs.took_byte.Statement.{statement}
 use Rattle.line.proofs.took_byte.Tie as tie
 
@@ -38,14 +36,11 @@ returns-5 c =
 
 pub took-byte-spec : {M : Type 1} → statement M
 took-byte-spec =
-    tie.close
-    (tie.spec
+    tie.close (tie.spec
     returns
     returns-2
-    (λ c κs. search needs)
-    (λ c. search needs)
+    (λ c κs. search needs) (λ c. search needs)
     returns-3
     returns-4
-    (λ c κs. search needs)
-    (λ c. search needs)
+    (λ c κs. search needs) (λ c. search needs)
     returns-5)

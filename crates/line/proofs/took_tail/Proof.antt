@@ -1,8 +1,5 @@
 -- `line::took_tail` meets its contract: each return is the definition's choice on the test that led there. Assumes nothing.
-use mathlib.Core.Path.{refl}
-use borrow.Author.Tests.{lt-ltb, le-ltb}
-use Rattle.classes.proofs.Choices.{taken, left}
-use borrow.Author.Needs.{needs}
+use Rattle.refusal.proofs.Basics.{refl, needs, lt-ltb, le-ltb, taken, left}
 use Rattle.line.proofs.took_tail.Statement.{statement}
 use Rattle.line.proofs.took_tail.Tie as tie
 

@@ -1,7 +1,5 @@
 -- `wage_writer::is_kind` meets its contract. Assumes nothing.
-use mathlib.Core.Path.{refl}
-use borrow.Author.Tests.{eq-eqb, ne-eqb}
-use Rattle.classes.proofs.Choices.{or-first, or-second}
+use Rattle.refusal.proofs.Basics.{refl, eq-eqb, ne-eqb, or-first, or-second}
 use Rattle.line_room.proofs.is_kind.Statement.{statement}
 use Rattle.line_room.proofs.is_kind.Tie as tie
 

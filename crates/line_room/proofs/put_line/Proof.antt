@@ -1,6 +1,5 @@
 -- `line_room::put_line` meets its contract: the line is put at the front where there is room for it. Assumes nothing.
-use native.Mathlib.Omega.{arith}
-use borrow.Author.Needs.{needs}
+use Rattle.refusal.proofs.Basics.{needs, arith}
 use Rattle.line_room.proofs.Laws.{room-short, room-enough}
 use Rattle.line_room.proofs.put_line.Statement.{statement}
 use Rattle.line_room.proofs.put_line.Tie as tie

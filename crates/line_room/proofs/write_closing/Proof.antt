@@ -1,7 +1,5 @@
 -- `line_room::write_closing` meets its contract: the day, then the line, which has no fields. Assumes nothing.
-use mathlib.Core.Path.{refl, sym, _∙_}
-use borrow.Author.Tests.{not-true, not-false}
-use borrow.Author.Needs.{needs}
+use Rattle.refusal.proofs.Basics.{refl, sym, _∙_, needs, not-true, not-false}
 use Rattle.wage_places.specs.declared.LineType.the-variants.{Closing}
 use Rattle.bare_line.proofs.Theorems.{bare}
 use Rattle.line_room.specs.LineRoom.{closingAnswer}
@@ -21,13 +19,8 @@ returns-2 c =
 
 pub write-closing-spec : {M : Type 1} → statement M
 write-closing-spec =
-    tie.close
-    (tie.spec
-    (λ c κs. search needs)
-    (λ c κs. search needs)
+    tie.close (tie.spec
+    (λ c κs. search needs) (λ c κs. search needs)
     returns
-    (λ c. search needs)
-    (λ c κs. search needs)
-    (λ c κs. search needs)
-    (λ c. search needs)
+    (λ c. search needs) (λ c κs. search needs) (λ c κs. search needs) (λ c. search needs)
     returns-2)

@@ -1,8 +1,6 @@
 -- `listing::read_line` is safe and ends. The loop's invariant: the two lent slices keep their lengths. The measure is the number of turns left.
 -- Assumes nothing.
-use mathlib.Core.Path.{_≡_, refl, _∙_}
-use native.Mathlib.Omega.{arith}
-use lib.ListN.{length}
+use Rattle.refusal.proofs.Basics.{_≡_, refl, _∙_, arith, length}
 use Rattle.listing.proofs.read_line.Statement.{statement}
 use Rattle.listing.proofs.read_line.Tie as tie
 
@@ -35,8 +33,7 @@ same-length-4 c = c .before .loop .inv .1
 
 pub read-line-spec : {M : Type 1} → statement M
 read-line-spec =
-    tie.close
-    (tie.spec
+    tie.close (tie.spec
     Inv-loop
     μ-loop
     (λ c κs. tt)
@@ -44,9 +41,7 @@ read-line-spec =
     (λ c κs. tt)
     same-length
     same-length-2
-    (λ c. tt)
-    (λ c. omega arith)
-    (λ c. omega arith)
+    (λ c. tt) (λ c. omega arith) (λ c. omega arith)
     loop-again
     same-length-3
     same-length-4

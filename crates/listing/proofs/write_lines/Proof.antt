@@ -1,7 +1,5 @@
 -- `listing::write_lines` is safe and ends. Assumes nothing.
-use Prim.Native.Nat.{_≤_, _-_}
-use native.Mathlib.Omega.{arith}
-use borrow.Author.Needs.{needs}
+use Rattle.refusal.proofs.Basics.{needs, arith, _≤_, _-_}
 use Rattle.listing.proofs.write_lines.Statement.{statement}
 use Rattle.listing.proofs.write_lines.Tie as tie
 
@@ -13,17 +11,8 @@ abbrev μ-loop : tie.MeasureT-loop
 
 pub write-lines-spec : {M : Type 1} → statement M
 write-lines-spec =
-    tie.close
-    (tie.spec
+    tie.close (tie.spec
     Inv-loop
     μ-loop
-    (λ c. omega arith)
-    (λ c. tt)
-    (λ c. search needs)
-    (λ c. omega arith)
-    (λ c κs. tt)
-    (λ c. tt)
-    (λ c. omega arith)
-    (λ c. omega arith)
-    (λ c. omega arith)
-    (λ c. tt))
+    (λ c. omega arith) (λ c. tt) (λ c. search needs) (λ c. omega arith) (λ c κs. tt) (λ c. tt) (λ c. omega arith) (λ c. omega arith)
+    (λ c. omega arith) (λ c. tt))

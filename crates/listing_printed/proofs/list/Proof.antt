@@ -1,7 +1,5 @@
 -- `listing_printed::list` meets its contract: 1 without a line feed, else the listing that the space tells. Assumes nothing.
-use mathlib.Core.Path.{refl}
-use borrow.Author.Needs.{needs}
-use borrow.Author.Tests.{not-true, not-false}
+use Rattle.refusal.proofs.Basics.{refl, needs, not-true, not-false}
 use Rattle.listing_printed.specs.Mirror.{keptListing, keptFillings}
 use Rattle.listing_printed.proofs.list.Statement.{statement}
 use Rattle.listing_printed.proofs.list.Tie as tie
@@ -26,16 +24,10 @@ returns-3 c =
 
 pub list-spec : {M : Type 1} → statement M
 list-spec =
-    tie.close
-    (tie.spec
+    tie.close (tie.spec
     (λ c κs. search needs)
     returns
-    (λ c κs. search needs)
-    (λ c κs. search needs)
-    (λ c κs. search needs)
-    (λ c. search needs)
+    (λ c κs. search needs) (λ c κs. search needs) (λ c κs. search needs) (λ c. search needs)
     returns-2
-    (λ c κs. search needs)
-    (λ c κs. search needs)
-    (λ c. search needs)
+    (λ c κs. search needs) (λ c κs. search needs) (λ c. search needs)
     returns-3)

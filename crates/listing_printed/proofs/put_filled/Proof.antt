@@ -1,7 +1,6 @@
 -- `listing_printed::put_filled` meets its contract: the filled text stands at the front of the room, and the line feed is put behind it.
 -- Assumes nothing.
-use mathlib.Core.Path.{sym, _∙_}
-use borrow.Author.Needs.{needs}
+use Rattle.refusal.proofs.Basics.{sym, _∙_, needs}
 use Rattle.listing_printed.proofs.Laws.{line-put, no-line-put}
 use Rattle.listing_printed.proofs.put_filled.Statement.{statement}
 use Rattle.listing_printed.proofs.put_filled.Tie as tie
@@ -20,14 +19,8 @@ returns-2 c =
 
 pub put-filled-spec : {M : Type 1} → statement M
 put-filled-spec =
-    tie.close
-    (tie.spec
-    (λ c κs. search needs)
-    (λ c. search needs)
-    (λ c. search needs)
-    (λ c κs. search needs)
-    (λ c. search needs)
-    (λ c. search needs)
+    tie.close (tie.spec
+    (λ c κs. search needs) (λ c. search needs) (λ c. search needs) (λ c κs. search needs) (λ c. search needs) (λ c. search needs)
     returns
     (λ c. search needs)
     returns-2)

@@ -1,5 +1,5 @@
 -- `listing_printed::put_first` meets its contract: each arm puts its texts one behind the other. Assumes nothing.
-use borrow.Author.Needs.{needs}
+use Rattle.refusal.proofs.Basics.{needs}
 use Rattle.printed.proofs.Laws.{puts-then}
 use Rattle.listing_printed.specs.Listing.{firstLine}
 use Rattle.listing_printed.proofs.put_first.Statement.{statement}
@@ -19,20 +19,9 @@ returns-2 c =
 
 pub put-first-spec : {M : Type 1} → statement M
 put-first-spec =
-    tie.close
-    (tie.spec
-    (λ c. search needs)
-    (λ c κs. search needs)
-    (λ c. search needs)
-    (λ c κs. search needs)
-    (λ c. search needs)
-    (λ c κs. search needs)
-    (λ c. search needs)
-    (λ c. search needs)
-    (λ c κs. search needs)
-    (λ c. search needs)
-    (λ c κs. search needs)
-    (λ c. search needs)
+    tie.close (tie.spec
+    (λ c. search needs) (λ c κs. search needs) (λ c. search needs) (λ c κs. search needs) (λ c. search needs) (λ c κs. search needs)
+    (λ c. search needs) (λ c. search needs) (λ c κs. search needs) (λ c. search needs) (λ c κs. search needs) (λ c. search needs)
     returns
     (λ c. search needs)
     returns-2)

@@ -1,6 +1,5 @@
 -- `listing_printed::text` meets its contract: the side that the space tells. Assumes nothing.
-use borrow.Author.Needs.{needs}
-use Rattle.classes.proofs.Choices.{left, entered}
+use Rattle.refusal.proofs.Basics.{needs, left, entered}
 use Rattle.listing_printed.specs.Mirror.{keptText}
 use Rattle.listing_printed.proofs.text.Statement.{statement}
 use Rattle.listing_printed.proofs.text.Tie as tie

@@ -1,9 +1,7 @@
 -- `model_text::judge` meets its contract: each return is the definition's choice on the model's number and whether it is handled.
 -- Assumes nothing.
-use mathlib.Core.Path.{refl, sym, ap, _∙_}
+use Rattle.refusal.proofs.Basics.{refl, sym, ap, _∙_, needs, taken, left}
 use Rattle.models.specs.declared.Model.{Model}
-use Rattle.classes.proofs.Choices.{taken, left}
-use borrow.Author.Needs.{needs}
 use Rattle.model_text.proofs.judge.Statement.{statement}
 use Rattle.model_text.proofs.judge.Tie as tie
 
@@ -22,11 +20,8 @@ returns-3 c = rw (sym (c .before .before .number .ensures) ∙ c .enum-told .giv
 
 pub judge-spec : {M : Type 1} → statement M
 judge-spec =
-    tie.close
-    (tie.spec
-    (λ c κs. search needs)
-    (λ c. search needs)
-    (λ c κs. search needs)
+    tie.close (tie.spec
+    (λ c κs. search needs) (λ c. search needs) (λ c κs. search needs)
     returns
     (λ c. search needs)
     returns-2

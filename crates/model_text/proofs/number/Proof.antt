@@ -1,8 +1,5 @@
 -- `model_text::number` meets its contract: each return is the definition's choice on the tests that led there. Assumes nothing.
-use mathlib.Core.Path.{refl, sym}
-use borrow.Author.Tests.{ne-eqb, eq-eqb}
-use Rattle.classes.proofs.Choices.{left, entered, and-first, and-second}
-use borrow.Author.Needs.{needs}
+use Rattle.refusal.proofs.Basics.{refl, sym, needs, ne-eqb, eq-eqb, left, entered, and-first, and-second}
 use Rattle.model_text.proofs.number.Statement.{statement}
 use Rattle.model_text.proofs.number.Tie as tie
 
@@ -28,14 +25,11 @@ returns-4 c =
 
 pub number-spec : {M : Type 1} → statement M
 number-spec =
-    tie.close
-    (tie.spec
+    tie.close (tie.spec
     returns
     (λ c. search needs)
     returns-2
     (λ c. search needs)
     returns-3
-    (λ c. search needs)
-    (λ c. search needs)
-    (λ c κs. search needs)
+    (λ c. search needs) (λ c. search needs) (λ c κs. search needs)
     returns-4)

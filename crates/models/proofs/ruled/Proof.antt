@@ -1,5 +1,5 @@
 -- `models::ruled` meets its contract. Assumes nothing.
-use borrow.Author.Needs.{needs}
+use Rattle.refusal.proofs.Basics.{needs}
 use Rattle.models.proofs.ruled.Statement.{statement}
 use Rattle.models.proofs.ruled.Tie as tie
 

@@ -1,8 +1,7 @@
 -- `models::special` meets its contract: each arm says the number, and its model is the definition's at that number.
 -- Assumes nothing.
-use borrow.Author.Tests.{ne-eqb}
+use Rattle.refusal.proofs.Basics.{needs, ne-eqb}
 use Rattle.models.specs.Models.{specialOf}
-use borrow.Author.Needs.{needs}
 use Rattle.models.proofs.special.Statement.{statement}
 use Rattle.models.proofs.special.Tie as tie
 
@@ -35,18 +34,9 @@ returns-6 c =
 
 pub special-spec : {M : Type 1} → statement M
 special-spec =
-    tie.close
-    (tie.spec
-    (λ c κs. search needs)
-    (λ c κs. search needs)
-    (λ c κs. search needs)
-    (λ c κs. search needs)
-    (λ c κs. search needs)
-    (λ c κs. search needs)
-    (λ c κs. search needs)
-    (λ c κs. search needs)
-    (λ c κs. search needs)
-    (λ c κs. search needs)
+    tie.close (tie.spec
+    (λ c κs. search needs) (λ c κs. search needs) (λ c κs. search needs) (λ c κs. search needs) (λ c κs. search needs)
+    (λ c κs. search needs) (λ c κs. search needs) (λ c κs. search needs) (λ c κs. search needs) (λ c κs. search needs)
     returns
     returns-2
     returns-3

@@ -1,6 +1,6 @@
 -- `order_contents::first_byte` meets its contract. Assumes nothing.
 use Rattle.order_contents.proofs.Laws.{first-of-none}
-use borrow.Author.Needs.{needs}
+use Rattle.refusal.proofs.Basics.{needs}
 use Rattle.order_contents.proofs.first_byte.Statement.{statement}
 use Rattle.order_contents.proofs.first_byte.Tie as tie
 

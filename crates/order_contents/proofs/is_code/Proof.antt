@@ -1,6 +1,5 @@
 -- `order_contents::is_code` meets its contract. Assumes nothing.
-use mathlib.Core.Path.{sym, _∙_}
-use borrow.Author.Needs.{needs}
+use Rattle.refusal.proofs.Basics.{sym, _∙_, needs}
 use Rattle.order_contents.proofs.is_code.Statement.{statement}
 use Rattle.order_contents.proofs.is_code.Tie as tie
 

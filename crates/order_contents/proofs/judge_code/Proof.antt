@@ -1,6 +1,6 @@
 -- `order_contents::judge_code` meets its contract. Assumes nothing.
 use Rattle.order_contents.specs.Contents.{codeVerdict}
-use borrow.Author.Needs.{needs}
+use Rattle.refusal.proofs.Basics.{needs}
 use Rattle.order_contents.proofs.judge_code.Statement.{statement}
 use Rattle.order_contents.proofs.judge_code.Tie as tie
 

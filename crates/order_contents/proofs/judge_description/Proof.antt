@@ -1,13 +1,10 @@
 -- `order_contents::judge_description` meets its contract: a text that is not described has a byte for 3. Assumes nothing.
-use mathlib.Core.Path.{sym, _∙_}
-use mathlib.Core.Bool.{false≢true}
-use borrow.Author.Tests.{not-true, not-false}
+use Rattle.refusal.proofs.Basics.{sym, _∙_, needs, not-true, not-false, false≢true}
 use Rattle.verdict.proofs.Verdicts.{refused, passed}
 use Rattle.classes.specs.declared.Class.the-variants.{Description}
 use Rattle.text.proofs.Laws.{all-passes, passes-all}
 use Rattle.wage_contents.specs.Contents.{tested}
 use Rattle.order_contents.specs.Contents.{descriptionVerdict}
-use borrow.Author.Needs.{needs}
 use Rattle.order_contents.proofs.judge_description.Statement.{statement}
 use Rattle.order_contents.proofs.judge_description.Tie as tie
 

@@ -1,6 +1,6 @@
 -- `order_contents::judge_purpose` meets its contract. Assumes nothing.
 use Rattle.order_contents.specs.Contents.{purposePlaceVerdict}
-use borrow.Author.Needs.{needs}
+use Rattle.refusal.proofs.Basics.{needs}
 use Rattle.order_contents.proofs.judge_purpose.Statement.{statement}
 use Rattle.order_contents.proofs.judge_purpose.Tie as tie
 

@@ -1,6 +1,6 @@
 -- `order_contents::judge_reference` meets its contract. Assumes nothing.
 use Rattle.order_contents.specs.Contents.{referenceHeld}
-use borrow.Author.Needs.{needs}
+use Rattle.refusal.proofs.Basics.{needs}
 use Rattle.order_contents.proofs.judge_reference.Statement.{statement}
 use Rattle.order_contents.proofs.judge_reference.Tie as tie
 
@@ -18,7 +18,6 @@ returns-3 c = rw (c .before .before .held .given .1, ← c .before .before .befo
 
 pub judge-reference-spec : {M : Type 1} → statement M
 judge-reference-spec =
-    tie.close
-    (tie.spec
+    tie.close (tie.spec
     (λ c κs. search needs) (λ c. search needs) (λ c κs. search needs) (λ c. search needs) (λ c. search needs) (λ c κs. search needs) returns
     returns-2 returns-3)

@@ -1,6 +1,6 @@
 -- `order_contents::judge_sign` meets its contract. Assumes nothing.
 use Rattle.order_contents.specs.Contents.{signVerdict}
-use borrow.Author.Needs.{needs}
+use Rattle.refusal.proofs.Basics.{needs}
 use Rattle.order_contents.proofs.judge_sign.Statement.{statement}
 use Rattle.order_contents.proofs.judge_sign.Tie as tie
 

@@ -1,7 +1,6 @@
 -- `order_contents::model_in` meets its contract. Assumes nothing.
-use mathlib.Core.Path.{sym, _∙_}
+use Rattle.refusal.proofs.Basics.{sym, _∙_, needs}
 use Rattle.order_contents.specs.Contents.{heldIn}
-use borrow.Author.Needs.{needs}
 use Rattle.order_contents.proofs.model_in.Statement.{statement}
 use Rattle.order_contents.proofs.model_in.Tie as tie
 

@@ -1,14 +1,7 @@
-use mathlib.Core.Path.{_≡_, refl, sym, ap, _∙_}
-use Prim.Native.Nat.{ℕ, _+_, _-_, _≤_, _<_}
-use native.Mathlib.Omega.{arith}
-use native.Mathlib.Nat.{add-zero}
-use lib.ListN.{length, take, drop, length-drop}
-use borrow.Author.Needs.{needs}
-use borrow.Author.Tests.{lt-ltb, le-ltb, le-leb, lt-leb}
+use Rattle.refusal.proofs.Basics.{_≡_, refl, sym, ap, _∙_, needs, arith, ℕ, _+_, _-_, _≤_, _<_, length, take, drop, length-drop, lt-ltb, le-ltb, le-leb, lt-leb, add-zero, left, entered, and-first, and-second}
 use borrow.Fn.Kinds.{In}
 use borrow.Fn.PlainCycle.{Measures, is, falls, and}
 use Rattle.text.specs.Split.{split}
-use Rattle.classes.proofs.Choices.{left, entered, and-first, and-second}
 use Rattle.text.proofs.Laws.{to-the-end}
 use Rattle.classes.proofs.is_digit.Reads as is-digit-reads
 use Rattle.parts.specs.Mirror.{digitRead}

@@ -1,11 +1,5 @@
 -- `parts::count_fits` meets its contract: each return is the definition's choice on the tests that led there. Assumes nothing.
-use mathlib.Core.Path.{ap}
-use mathlib.Core.Bool.{not}
-use Prim.Native.Nat.{ℕ}
-use lib.Dec.{eqb}
-use borrow.Author.Needs.{needs}
-use borrow.Author.Tests.{eq-eqb, ne-eqb}
-use Rattle.classes.proofs.Choices.{and-first, and-second, or-first, or-second}
+use Rattle.refusal.proofs.Basics.{ap, needs, ℕ, eq-eqb, ne-eqb, not, eqb, and-first, and-second, or-first, or-second}
 use Rattle.parts.proofs.count_fits.Statement.{statement}
 use Rattle.parts.proofs.count_fits.Tie as tie
 

@@ -1,10 +1,6 @@
 -- `parts::end_of` meets its contract: ten bits for each end; a power of 1024 above the sixth is beyond every number. Assumes nothing.
-use mathlib.Core.Path.{_≡_, refl, sym, ap, _∙_}
-use Prim.Native.Nat.{ℕ, zero, suc, _*_, _^_, _≤_}
-use native.Mathlib.Omega.{arith}
-use native.Mathlib.Nat.{pow-le-pow-right, pow-suc, mul-suc, div-eq-of-lt}
+use Rattle.refusal.proofs.Basics.{_≡_, refl, sym, ap, _∙_, needs, arith, ℕ, zero, suc, _*_, _^_, _≤_, pow-le-pow-right, pow-suc, mul-suc, div-eq-of-lt}
 use lib.Pow.{pow-add}
-use borrow.Author.Needs.{needs}
 use Rattle.parts.proofs.end_of.Statement.{statement}
 use Rattle.parts.proofs.end_of.Tie as tie
 

@@ -1,12 +1,6 @@
 -- `parts::parts` meets its contract: of no byte the definition's choice on the fewest parts, nothing in a text that is too long, and else
 -- what the readers read, where there are as many parts as the model asks. Assumes nothing.
-use mathlib.Core.Path.{_≡_, refl, sym, _∙_}
-use Prim.Native.Nat.{_≤_}
-use native.Mathlib.Omega.{arith}
-use lib.ListN.{length}
-use borrow.Author.Needs.{needs}
-use borrow.Author.Tests.{eq-eqb, ne-eqb}
-use Rattle.classes.proofs.Choices.{taken, left}
+use Rattle.refusal.proofs.Basics.{_≡_, refl, sym, _∙_, needs, arith, _≤_, length, eq-eqb, ne-eqb, taken, left}
 use Rattle.parts.proofs.Pieces.{Bytes}
 use Rattle.parts.proofs.Laws.{found-empty, found-read, found-far}
 use Rattle.parts.proofs.parts.Statement.{statement}
@@ -57,16 +51,13 @@ returns-6 c =
 
 pub parts-spec : {M : Type 1} → statement M
 parts-spec =
-    tie.close
-    (tie.spec
+    tie.close (tie.spec
     returns
     returns-2
     returns-3
     (λ c. search needs)
     part-requires
     returns-4
-    (λ c κs. search needs)
-    (λ c κs. search needs)
-    (λ c κs. search needs)
+    (λ c κs. search needs) (λ c κs. search needs) (λ c κs. search needs)
     returns-5
     returns-6)

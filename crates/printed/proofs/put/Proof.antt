@@ -1,9 +1,5 @@
 -- `printed::put` meets its contract. Assumes nothing.
-use mathlib.Core.Path.{sym, ap, _∙_}
-use lib.ListN.{length}
-use lib.Seq.{length-sets}
-use native.Mathlib.Omega.{arith}
-use borrow.Author.Needs.{needs}
+use Rattle.refusal.proofs.Basics.{sym, ap, _∙_, needs, arith, length, length-sets}
 use Rattle.room.proofs.Laws.{sets-past}
 use Rattle.printed.proofs.Laws.{ends-short, ends-whole}
 use Rattle.printed.proofs.put.Statement.{statement}
@@ -28,13 +24,9 @@ returns-3 c =
 
 pub put-spec : {M : Type 1} → statement M
 put-spec =
-    tie.close
-    (tie.spec
+    tie.close (tie.spec
     returns
-    (λ c. search needs)
-    (λ c κs. search needs)
-    (λ c. search needs)
+    (λ c. search needs) (λ c κs. search needs) (λ c. search needs)
     returns-2
-    (λ c. search needs)
-    (λ c. search needs)
+    (λ c. search needs) (λ c. search needs)
     returns-3)

@@ -1,10 +1,5 @@
 -- `printed::put_number` meets its contract. Assumes nothing.
-use mathlib.Core.Path.{sym, ap, _∙_}
-use Prim.Native.Nat.{ℕ, _+_}
-use native.Mathlib.Omega.{arith}
-use borrow.Author.Needs.{needs}
-use lib.ListN.{length}
-use lib.Seq.{length-sets}
+use Rattle.refusal.proofs.Basics.{sym, ap, _∙_, needs, arith, ℕ, _+_, length, length-sets}
 use Rattle.room.proofs.Laws.{sets-past}
 use Rattle.printed.specs.Printed.{decimal}
 use Rattle.printed.proofs.Laws.{ends-short, ends-whole, decimal-length, put-width}
@@ -33,14 +28,9 @@ returns-3 c =
 
 pub put-number-spec : {M : Type 1} → statement M
 put-number-spec =
-    tie.close
-    (tie.spec
+    tie.close (tie.spec
     returns
-    (λ c. search needs)
-    (λ c κs. search needs)
-    (λ c κs. search needs)
-    (λ c. search needs)
+    (λ c. search needs) (λ c κs. search needs) (λ c κs. search needs) (λ c. search needs)
     returns-2
-    (λ c. search needs)
-    (λ c. search needs)
+    (λ c. search needs) (λ c. search needs)
     returns-3)

@@ -1,7 +1,5 @@
 -- `printed::width` meets its contract. The loop's invariant: the digits counted and those of what is left are all. Assumes nothing.
-use mathlib.Core.Path.{_≡_, _∙_}
-use Prim.Native.Nat.{_+_, _-_, _^_, _≤_, _<_}
-use native.Mathlib.Omega.{arith}
+use Rattle.refusal.proofs.Basics.{_≡_, _∙_, arith, _+_, _-_, _^_, _≤_, _<_}
 use Rattle.printed.specs.Printed.{widthIn}
 use Rattle.printed.proofs.Laws.{width-one, width-more}
 use Rattle.printed.proofs.width.Statement.{statement}

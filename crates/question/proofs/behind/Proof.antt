@@ -1,9 +1,5 @@
 -- `question::behind` meets its contract. The loop's invariant: what stands behind the bars left, from `i` on, is what stands behind all. Assumes nothing.
-use mathlib.Core.Path.{_≡_, refl, sym, _∙_}
-use Prim.Native.Nat.{_≤_, _-_}
-use native.Mathlib.Omega.{arith}
-use borrow.Author.Needs.{needs}
-use lib.ListN.{length, drop}
+use Rattle.refusal.proofs.Basics.{_≡_, refl, sym, _∙_, needs, arith, _≤_, _-_, length, drop}
 use Rattle.question.proofs.Laws.{behind-here, behind-bar, behind-other, behind-end}
 use Rattle.question.specs.Question.{behindBars}
 use Rattle.question.proofs.behind.Statement.{statement}
@@ -44,22 +40,15 @@ returns-2 c =
 
 pub behind-spec : {M : Type 1} → statement M
 behind-spec =
-    tie.close
-    (tie.spec
+    tie.close (tie.spec
     Inv-loop
     μ-loop
     loop-holds
-    (λ c. omega arith)
-    (λ c. search needs)
-    (λ c. search needs)
+    (λ c. omega arith) (λ c. search needs) (λ c. search needs)
     returns
-    (λ c. omega arith)
-    (λ c. omega arith)
-    (λ c. omega arith)
-    (λ c. omega arith)
+    (λ c. omega arith) (λ c. omega arith) (λ c. omega arith) (λ c. omega arith)
     loop-again
-    (λ c. omega arith)
-    (λ c. omega arith)
+    (λ c. omega arith) (λ c. omega arith)
     loop-again-2
     (λ c. search needs)
     returns-2)

@@ -1,7 +1,6 @@
 -- `question::field` meets its contract: the front, up to the next bar, of what stands behind. Assumes nothing.
-use mathlib.Core.Path.{_∙_}
+use Rattle.refusal.proofs.Basics.{_∙_, needs}
 use Rattle.question.proofs.Laws.{field-front}
-use borrow.Author.Needs.{needs}
 use Rattle.question.proofs.field.Statement.{statement}
 use Rattle.question.proofs.field.Tie as tie
 

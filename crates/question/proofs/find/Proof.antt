@@ -1,9 +1,5 @@
 -- `question::find` meets its contract. The loop's invariant: the bytes passed and those before `c` from `i` on make up the whole. Assumes nothing.
-use mathlib.Core.Path.{_≡_, sym, _∙_}
-use Prim.Native.Nat.{_≤_, _+_, _-_}
-use native.Mathlib.Omega.{arith}
-use native.Mathlib.Nat.{zero-add}
-use lib.ListN.{length, drop}
+use Rattle.refusal.proofs.Basics.{_≡_, sym, _∙_, arith, _≤_, _+_, _-_, length, drop, zero-add}
 use Rattle.question.proofs.Laws.{find-stops, find-on, find-ends}
 use Rattle.question.specs.Question.{pieceAt}
 use Rattle.question.proofs.find.Statement.{statement}
@@ -38,14 +34,12 @@ returns-2 c =
 
 pub find-spec : {M : Type 1} → statement M
 find-spec =
-    tie.close
-    (tie.spec
+    tie.close (tie.spec
     Inv-loop
     μ-loop
     loop-holds
     (λ c. omega arith)
     returns
-    (λ c. omega arith)
-    (λ c. omega arith)
+    (λ c. omega arith) (λ c. omega arith)
     loop-again
     returns-2)

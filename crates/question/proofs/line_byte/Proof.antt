@@ -1,7 +1,5 @@
 -- `question::line_byte` meets its contract: each return is the definition's choice. Assumes nothing.
-use mathlib.Core.Path.{refl}
-use borrow.Author.Tests.{eq-eqb, ne-eqb}
-use Rattle.classes.proofs.Choices.{taken, left}
+use Rattle.refusal.proofs.Basics.{refl, eq-eqb, ne-eqb, taken, left}
 use Rattle.question.proofs.line_byte.Statement.{statement}
 use Rattle.question.proofs.line_byte.Tie as tie
 

@@ -1,11 +1,8 @@
 -- `question::longer` meets its contract: each return is the capped number. Assumes nothing.
-use mathlib.Core.Path.{sym, _∙_}
-use native.Mathlib.Omega.{arith}
-use borrow.Author.Tests.{not-true, not-false}
+use Rattle.refusal.proofs.Basics.{sym, _∙_, needs, arith, not-true, not-false}
 use Rattle.classes.proofs.Laws.{digit-bounds}
 use Rattle.text.proofs.Values.{value-skips, value-takes}
 use Rattle.question.proofs.Laws.{capped-fits, capped-more}
-use borrow.Author.Needs.{needs}
 use Rattle.question.proofs.longer.Statement.{statement}
 use Rattle.question.proofs.longer.Tie as tie
 
@@ -31,14 +28,11 @@ returns-3 c =
 
 pub longer-spec : {M : Type 1} → statement M
 longer-spec =
-    tie.close
-    (tie.spec
+    tie.close (tie.spec
     (λ c κs. search needs)
     returns
     sub-d
-    (λ c. search needs)
-    (λ c. search needs)
+    (λ c. search needs) (λ c. search needs)
     returns-2
-    (λ c. search needs)
-    (λ c. search needs)
+    (λ c. search needs) (λ c. search needs)
     returns-3)

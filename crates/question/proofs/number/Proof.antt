@@ -1,9 +1,5 @@
 -- `question::number` meets its contract. The loop's invariant: the number read and the digits from `i` on write the whole. Assumes nothing.
-use mathlib.Core.Path.{_≡_, refl, sym, ap, _∙_}
-use Prim.Native.Nat.{_≤_, _-_}
-use native.Mathlib.Omega.{arith}
-use borrow.Author.Needs.{needs}
-use lib.ListN.{length, drop}
+use Rattle.refusal.proofs.Basics.{_≡_, refl, sym, ap, _∙_, needs, arith, _≤_, _-_, length, drop}
 use Rattle.text.specs.Digits.{digitsOf, valueFrom}
 use Rattle.text.proofs.Values.{value-on, value-ends}
 use Rattle.question.proofs.Laws.{capped-fits, capped-on}
@@ -34,14 +30,10 @@ returns c =
 
 pub number-spec : {M : Type 1} → statement M
 number-spec =
-    tie.close
-    (tie.spec
+    tie.close (tie.spec
     Inv-loop
     μ-loop
     loop-holds
-    (λ c. omega arith)
-    (λ c κs. search needs)
-    (λ c. omega arith)
-    (λ c. omega arith)
+    (λ c. omega arith) (λ c κs. search needs) (λ c. omega arith) (λ c. omega arith)
     loop-again
     returns)

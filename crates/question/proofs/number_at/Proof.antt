@@ -1,6 +1,5 @@
 -- `question::number_at` meets its contract. Assumes nothing.
-use mathlib.Core.Path.{_∙_}
-use borrow.Author.Needs.{needs}
+use Rattle.refusal.proofs.Basics.{_∙_, needs}
 use Rattle.question.proofs.number_at.Statement.{statement}
 use Rattle.question.proofs.number_at.Tie as tie
 

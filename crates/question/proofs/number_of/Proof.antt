@@ -1,11 +1,6 @@
 -- `question::number_of` meets its contract. The loop's invariant: the verbs passed and the place among those from `k` on make up the whole. Assumes nothing.
-use mathlib.Core.Path.{_≡_, sym, _∙_}
-use Prim.Native.Nat.{_≤_, _+_, _-_}
-use native.Mathlib.Omega.{arith}
-use native.Mathlib.Nat.{zero-add}
-use lib.ListN.{length, drop}
+use Rattle.refusal.proofs.Basics.{_≡_, sym, _∙_, needs, arith, _≤_, _+_, _-_, length, drop, zero-add}
 use Rattle.text.specs.Split.{split}
-use borrow.Author.Needs.{needs}
 use Rattle.text.proofs.Pieces.{pieces-counted}
 use Rattle.question.proofs.Laws.{count-within, place-here, place-on, place-none}
 use Rattle.question.specs.Question.{placeAmong}
@@ -48,15 +43,13 @@ returns-2 c =
 
 pub number-of-spec : {M : Type 1} → statement M
 number-of-spec =
-    tie.close
-    (tie.spec
+    tie.close (tie.spec
     Inv-loop
     μ-loop
     (λ c κs. search needs)
     add-n
     loop-holds
-    (λ c κs. search needs)
-    (λ c κs. search needs)
+    (λ c κs. search needs) (λ c κs. search needs)
     returns
     add-k
     (λ c. omega arith)

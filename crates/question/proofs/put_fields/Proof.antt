@@ -1,9 +1,5 @@
 -- `question::put_fields` meets its contract. The loop's invariant: the fields of what is left make up the whole. Assumes nothing.
-use mathlib.Core.Path.{_≡_, refl}
-use Prim.Native.Nat.{_≤_, _-_}
-use native.Mathlib.Omega.{arith}
-use lib.ListN.{length, drop, length-set}
-use lib.Seq.{sets}
+use Rattle.refusal.proofs.Basics.{_≡_, refl, arith, _≤_, _-_, length, drop, length-set, sets}
 use Rattle.text.specs.Split.{split, joined}
 use Rattle.question.proofs.Laws.{written-full, joined-bar, byte-more, byte-last}
 use Rattle.question.proofs.put_fields.Statement.{statement}
@@ -50,22 +46,15 @@ returns-2 c =
 
 pub put-fields-spec : {M : Type 1} → statement M
 put-fields-spec =
-    tie.close
-    (tie.spec
+    tie.close (tie.spec
     Inv-loop
     μ-loop
     loop-holds
-    (λ c. omega arith)
-    (λ c. omega arith)
-    (λ c. omega arith)
+    (λ c. omega arith) (λ c. omega arith) (λ c. omega arith)
     loop-again
     same-length
     returns
-    (λ c. omega arith)
-    (λ c. omega arith)
-    (λ c. omega arith)
-    (λ c. omega arith)
-    (λ c. omega arith)
+    (λ c. omega arith) (λ c. omega arith) (λ c. omega arith) (λ c. omega arith) (λ c. omega arith)
     loop-again-2
     same-length-2
     returns-2)

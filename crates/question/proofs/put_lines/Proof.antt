@@ -1,10 +1,5 @@
 -- `question::put_lines` meets its contract. The loop's invariant: what is left of the text makes up the whole. Assumes nothing.
-use mathlib.Core.Path.{_≡_, refl}
-use Prim.Native.Nat.{_≤_, _-_}
-use native.Mathlib.Omega.{arith}
-use borrow.Author.Needs.{needs}
-use lib.ListN.{length, drop, length-set}
-use lib.Seq.{sets}
+use Rattle.refusal.proofs.Basics.{_≡_, refl, needs, arith, _≤_, _-_, length, drop, length-set, sets}
 use Rattle.question.proofs.Laws.{written-full, line-more, line-last}
 use Rattle.question.specs.Question.{lined}
 use Rattle.question.proofs.put_lines.Statement.{statement}
@@ -45,18 +40,13 @@ returns-2 c =
 
 pub put-lines-spec : {M : Type 1} → statement M
 put-lines-spec =
-    tie.close
-    (tie.spec
+    tie.close (tie.spec
     Inv-loop
     μ-loop
     loop-holds
     same-length
     returns
-    (λ c. omega arith)
-    (λ c κs. search needs)
-    (λ c. omega arith)
-    (λ c. omega arith)
-    (λ c. omega arith)
+    (λ c. omega arith) (λ c κs. search needs) (λ c. omega arith) (λ c. omega arith) (λ c. omega arith)
     loop-again
     same-length-2
     returns-2)

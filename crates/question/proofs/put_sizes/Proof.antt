@@ -1,11 +1,6 @@
 -- `question::put_sizes` meets its contract. The loop's invariant: the sizes of the fields from `at` on make up the whole. Assumes nothing.
-use mathlib.Core.Path.{_≡_, refl}
-use Prim.Native.Nat.{_≤_, _-_}
-use native.Mathlib.Omega.{arith}
-use lib.ListN.{length, drop, length-set}
+use Rattle.refusal.proofs.Basics.{_≡_, refl, needs, arith, _≤_, _-_, length, drop, length-set, sets}
 use Rattle.text.specs.Split.{split}
-use borrow.Author.Needs.{needs}
-use lib.Seq.{sets}
 use Rattle.question.proofs.Laws.{written-full, size-more, size-last}
 use Rattle.question.specs.Question.{lengthsOf}
 use Rattle.question.proofs.put_sizes.Statement.{statement}
@@ -46,24 +41,15 @@ returns-2 c =
 
 pub put-sizes-spec : {M : Type 1} → statement M
 put-sizes-spec =
-    tie.close
-    (tie.spec
+    tie.close (tie.spec
     Inv-loop
     μ-loop
     loop-holds
-    (λ c. omega arith)
-    (λ c. search needs)
-    (λ c. search needs)
-    (λ c κs. search needs)
-    (λ c. search needs)
-    (λ c. omega arith)
+    (λ c. omega arith) (λ c. search needs) (λ c. search needs) (λ c κs. search needs) (λ c. search needs) (λ c. omega arith)
     (λ c. omega arith)
     same-length
     returns
-    (λ c. omega arith)
-    (λ c. omega arith)
-    (λ c. omega arith)
-    (λ c. omega arith)
+    (λ c. omega arith) (λ c. omega arith) (λ c. omega arith) (λ c. omega arith)
     loop-again
     same-length-2
     returns-2)

@@ -1,6 +1,5 @@
 -- `question::size_of` meets its contract: what is no bar is a field's. Assumes nothing.
-use native.Mathlib.Omega.{arith}
-use borrow.Author.Needs.{needs}
+use Rattle.refusal.proofs.Basics.{needs, arith}
 use Rattle.question.proofs.Laws.{joined-counted, count-within}
 use Rattle.question.proofs.size_of.Statement.{statement}
 use Rattle.question.proofs.size_of.Tie as tie

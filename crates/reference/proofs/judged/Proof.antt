@@ -1,11 +1,8 @@
 -- `reference::judged` meets its contract: 7 where the model is not handled; what is found has no byte for 3, and is judged by its groups;
 -- what is not fails by 3, 4 or 8.
 -- Assumes nothing.
-use mathlib.Core.Path.{refl, sym, _∙_}
-use borrow.Author.Needs.{needs}
-use borrow.Author.Tests.{lt-leb, le-leb, not-true, not-false}
+use Rattle.refusal.proofs.Basics.{refl, sym, _∙_, needs, lt-leb, le-leb, not-true, not-false, taken, left}
 use Rattle.verdict.proofs.Verdicts.{refused, passed, failed, met}
-use Rattle.classes.proofs.Choices.{taken, left}
 use Rattle.parts.proofs.Laws.{found-none}
 use Rattle.reference.proofs.Laws.{found-bare, found-long, found-judged, unformed-judged}
 use Rattle.reference.proofs.judged.Statement.{statement}
@@ -60,17 +57,14 @@ returns-8 c =
 
 pub judged-spec : {M : Type 1} → statement M
 judged-spec =
-    tie.close
-    (tie.spec
+    tie.close (tie.spec
     returns
-    (λ c κs. search needs)
-    (λ c. search needs)
+    (λ c κs. search needs) (λ c. search needs)
     returns-2
     returns-3
     (λ c κs. search needs)
     returns-4
-    (λ c. search needs)
-    (λ c κs. search needs)
+    (λ c. search needs) (λ c κs. search needs)
     returns-5
     returns-6
     returns-7

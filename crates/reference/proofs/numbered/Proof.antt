@@ -1,5 +1,5 @@
 -- `reference::numbered` meets its contract: the rules are those of the model's number. Assumes nothing.
-use borrow.Author.Needs.{needs}
+use Rattle.refusal.proofs.Basics.{needs}
 use Rattle.reference.proofs.numbered.Statement.{statement}
 use Rattle.reference.proofs.numbered.Tie as tie
 

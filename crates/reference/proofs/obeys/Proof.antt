@@ -1,10 +1,5 @@
 -- `reference::obeys` meets its contract: what is found is judged by its groups, and what is not does not obey. Assumes nothing.
-use mathlib.Core.Path.{_≡_, sym, _∙_}
-use Prim.Native.Nat.{_≤_}
-use native.Mathlib.Omega.{arith}
-use lib.ListN.{length}
-use borrow.Author.Needs.{needs}
-use Rattle.classes.proofs.Choices.{and-first}
+use Rattle.refusal.proofs.Basics.{_≡_, sym, _∙_, needs, arith, _≤_, length, and-first}
 use Rattle.parts.proofs.Pieces.{Bytes, formed-short}
 use Rattle.parts.proofs.Laws.{found-none, found-formed}
 use Rattle.reference.proofs.Laws.{found-obeys}
@@ -33,11 +28,7 @@ returns-2 c =
 
 pub obeys-spec : {M : Type 1} → statement M
 obeys-spec =
-    tie.close
-    (tie.spec
-    (λ c κs. search needs)
-    (λ c. search needs)
-    (λ c κs. search needs)
-    (λ c. search needs)
+    tie.close (tie.spec
+    (λ c κs. search needs) (λ c. search needs) (λ c κs. search needs) (λ c. search needs)
     returns
     returns-2)

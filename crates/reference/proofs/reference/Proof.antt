@@ -1,6 +1,5 @@
 -- `reference::reference` meets its contract: the definition's choice on the model's number. Assumes nothing.
-use mathlib.Core.Path.{sym, _∙_}
-use borrow.Author.Needs.{needs}
+use Rattle.refusal.proofs.Basics.{sym, _∙_, needs}
 use Rattle.reference.proofs.reference.Statement.{statement}
 use Rattle.reference.proofs.reference.Tie as tie
 
@@ -12,11 +11,7 @@ returns-2 c = rw (sym (c .before .before .number .ensures) ∙ c .enum-told .giv
 
 pub reference-spec : {M : Type 1} → statement M
 reference-spec =
-    tie.close
-    (tie.spec
-    (λ c κs. search needs)
-    (λ c. search needs)
-    (λ c κs. search needs)
-    (λ c. search needs)
+    tie.close (tie.spec
+    (λ c κs. search needs) (λ c. search needs) (λ c κs. search needs) (λ c. search needs)
     returns
     returns-2)

@@ -1,5 +1,5 @@
 -- `refusal::in_line` meets its contract: its place is the refusal's own, but for the line. Assumes nothing.
-use borrow.Author.Needs.{needs}
+use Rattle.refusal.proofs.Basics.{needs}
 use Rattle.refusal.proofs.in_line.Statement.{statement}
 use Rattle.refusal.proofs.in_line.Tie as tie
 

@@ -1,5 +1,5 @@
 -- `refusal::made` meets its contract: each arm says the number. Assumes nothing.
-use borrow.Author.Tests.{ne-eqb}
+use Rattle.refusal.proofs.Basics.{ne-eqb}
 use Rattle.refusal.proofs.made.Statement.{statement}
 use Rattle.refusal.proofs.made.Tie as tie
 
@@ -59,8 +59,7 @@ returns-17 c =
 
 pub made-spec : {M : Type 1} → statement M
 made-spec =
-    tie.close
-    (tie.spec
+    tie.close (tie.spec
     returns
     returns-2
     returns-3

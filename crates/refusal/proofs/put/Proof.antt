@@ -1,5 +1,5 @@
 -- `refusal::put` meets its contract: the refusal of the same numbers. Assumes nothing.
-use borrow.Author.Needs.{needs}
+use Rattle.refusal.proofs.Basics.{needs}
 use Rattle.refusal.proofs.put.Statement.{statement}
 use Rattle.refusal.proofs.put.Tie as tie
 

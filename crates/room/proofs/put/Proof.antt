@@ -1,9 +1,5 @@
 -- `room::put` meets its contract. The loop's invariant: what is left of the text makes up the whole. Assumes nothing.
-use Prim.Native.Nat.{_≤_, _-_}
-use mathlib.Core.Path.{_≡_, refl}
-use native.Mathlib.Omega.{arith}
-use lib.ListN.{length, drop, length-set}
-use lib.Seq.{sets}
+use Rattle.refusal.proofs.Basics.{_≡_, refl, arith, _≤_, _-_, length, drop, length-set, sets}
 use Rattle.room.proofs.Laws.{copied-more, copied-all, copied-full}
 use Rattle.room.proofs.put.Statement.{statement}
 use Rattle.room.proofs.put.Tie as tie
@@ -43,18 +39,13 @@ returns-2 c =
 
 pub put-spec : {M : Type 1} → statement M
 put-spec =
-    tie.close
-    (tie.spec
+    tie.close (tie.spec
     Inv-loop
     μ-loop
     loop-holds
     same-length
     returns
-    (λ c. omega arith)
-    (λ c. omega arith)
-    (λ c. omega arith)
-    (λ c. omega arith)
-    (λ c. omega arith)
+    (λ c. omega arith) (λ c. omega arith) (λ c. omega arith) (λ c. omega arith) (λ c. omega arith)
     loop-again
     same-length-2
     returns-2)

@@ -1,10 +1,5 @@
 -- `room::put_digits` meets its contract. The loop's invariant: the digits left make up the whole. Assumes nothing.
-use Prim.Native.Nat.{_+_, _-_, _%_}
-use mathlib.Core.Path.{_≡_, refl, sym, ap, _∙_}
-use mathlib.Core.Logic.{⊎-elim}
-use native.Mathlib.Omega.{arith}
-use lib.ListN.{length, set, length-set}
-use lib.Seq.{sets, set-out}
+use Rattle.refusal.proofs.Basics.{_≡_, refl, sym, ap, _∙_, arith, _+_, _-_, _%_, length, set, length-set, sets, set-out, ⊎-elim}
 use Rattle.text.specs.Digits.{digitsText}
 use Rattle.room.proofs.Laws.{sets-past, digit-more, digits-all}
 use Rattle.room.proofs.put_digits.Statement.{statement}
@@ -41,19 +36,13 @@ returns-2 c =
 
 pub put-digits-spec : {M : Type 1} → statement M
 put-digits-spec =
-    tie.close
-    (tie.spec
+    tie.close (tie.spec
     Inv-loop
     μ-loop
     returns
     (λ c. omega arith)
     loop-holds
-    (λ c. omega arith)
-    (λ c. omega arith)
-    (λ c. omega arith)
-    (λ c. omega arith)
-    (λ c. omega arith)
-    (λ c. omega arith)
+    (λ c. omega arith) (λ c. omega arith) (λ c. omega arith) (λ c. omega arith) (λ c. omega arith) (λ c. omega arith)
     loop-again
     same-length
     returns-2)

@@ -1,5 +1,5 @@
 -- `slip::ends_right` meets its contract: each return is the definition's test that led there. Assumes nothing.
-use borrow.Author.Needs.{needs}
+use Rattle.refusal.proofs.Basics.{needs}
 use Rattle.slip.proofs.Laws.{other-number, none-last, one-last}
 use Rattle.slip.proofs.ends_right.Statement.{statement}
 use Rattle.slip.proofs.ends_right.Tie as tie

@@ -1,10 +1,6 @@
 -- `slip::judge_fields` meets its contract. The loop's invariant: the answer is that of the pieces from `at` on, from field `n` on, after
 -- the field that stands from `before` to `end`. Assumes nothing.
-use mathlib.Core.Path.{sym, _∙_}
-use Prim.Native.Nat.{_+_, _-_}
-use native.Mathlib.Omega.{arith}
-use lib.ListN.{length, drop, length-take, length-drop}
-use borrow.Author.Needs.{needs}
+use Rattle.refusal.proofs.Basics.{sym, _∙_, needs, arith, _+_, _-_, length, drop, length-take, length-drop}
 use Rattle.slip.proofs.Laws.{Reached, reached-first, reached-ends, reached-next, reached-refusal, reached-last}
 use Rattle.slip.proofs.judge_fields.Statement.{statement}
 use Rattle.slip.proofs.judge_fields.Tie as tie
@@ -86,22 +82,13 @@ returns-2 c =
 
 pub judge-fields-spec : {M : Type 1} → statement M
 judge-fields-spec =
-    tie.close
-    (tie.spec
+    tie.close (tie.spec
     Inv-loop
     μ-loop
     loop-holds
-    (λ c. search needs)
-    (λ c. search needs)
-    (λ c. search needs)
-    (λ c κs. search needs)
-    (λ c. search needs)
+    (λ c. search needs) (λ c. search needs) (λ c. search needs) (λ c κs. search needs) (λ c. search needs)
     add-stop
-    (λ c. search needs)
-    (λ c. search needs)
-    (λ c. search needs)
-    (λ c. search needs)
-    (λ c. search needs)
+    (λ c. search needs) (λ c. search needs) (λ c. search needs) (λ c. search needs) (λ c. search needs)
     part-judge-one-end-2
     judge-one-requires
     enum-told

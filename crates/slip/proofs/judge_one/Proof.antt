@@ -1,7 +1,5 @@
 -- `slip::judge_one` meets its contract: a 3's byte lies within the field, so that its place in the slip fits. Assumes nothing.
-use native.Mathlib.Omega.{arith}
-use lib.ListN.{length}
-use borrow.Author.Needs.{needs}
+use Rattle.refusal.proofs.Basics.{needs, arith, length}
 use Rattle.verdict.proofs.Verdicts.{byte-within}
 use Rattle.slip_fields.proofs.Theorems.{field-within}
 use Rattle.slip.proofs.judge_one.Statement.{statement}

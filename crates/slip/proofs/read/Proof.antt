@@ -1,7 +1,5 @@
 -- `slip::read` meets its contract: each return is the definition's choice on the tests that led there. Assumes nothing.
-use mathlib.Core.Path.{sym, _∙_}
-use borrow.Author.Tests.{not-true, not-false}
-use borrow.Author.Needs.{needs}
+use Rattle.refusal.proofs.Basics.{sym, _∙_, needs, not-true, not-false}
 use Rattle.slip.proofs.Laws.{too-long, ends-wrong, fields-judged}
 use Rattle.slip.proofs.read.Statement.{statement}
 use Rattle.slip.proofs.read.Tie as tie
@@ -17,12 +15,10 @@ returns-3 c = fields-judged (c .before .before .before .before .before .args .s 
 
 pub read-spec : {M : Type 1} → statement M
 read-spec =
-    tie.close
-    (tie.spec
+    tie.close (tie.spec
     (λ c κs. search needs)
     returns
-    (λ c κs. search needs)
-    (λ c κs. search needs)
+    (λ c κs. search needs) (λ c κs. search needs)
     returns-2
     (λ c κs. search needs)
     returns-3)

@@ -1,8 +1,7 @@
 -- `slip_fields::judge_field` meets its contract: each arm says the number, and its answer is the definition's at that number.
 -- Assumes nothing.
-use borrow.Author.Tests.{ne-eqb}
+use Rattle.refusal.proofs.Basics.{needs, ne-eqb}
 use Rattle.slip_fields.specs.Fields.{fieldVerdict}
-use borrow.Author.Needs.{needs}
 use Rattle.slip_fields.proofs.judge_field.Statement.{statement}
 use Rattle.slip_fields.proofs.judge_field.Tie as tie
 
@@ -43,19 +42,9 @@ returns-8 c =
 
 pub judge-field-spec : {M : Type 1} → statement M
 judge-field-spec =
-    tie.close
-    (tie.spec
-    (λ c. search needs)
-    (λ c κs. search needs)
-    (λ c. search needs)
-    (λ c κs. search needs)
-    (λ c κs. search needs)
-    (λ c κs. search needs)
-    (λ c κs. search needs)
-    (λ c κs. search needs)
-    (λ c κs. search needs)
-    (λ c κs. search needs)
-    (λ c κs. search needs)
+    tie.close (tie.spec
+    (λ c. search needs) (λ c κs. search needs) (λ c. search needs) (λ c κs. search needs) (λ c κs. search needs) (λ c κs. search needs)
+    (λ c κs. search needs) (λ c κs. search needs) (λ c κs. search needs) (λ c κs. search needs) (λ c κs. search needs)
     returns
     returns-2
     returns-3

@@ -1,9 +1,6 @@
 -- `slip_fields::judge_sized` meets its contract: each return is the chain's answer on the tests that led there. Assumes nothing.
-use mathlib.Core.Path.{refl, sym, _∙_}
-use borrow.Author.Tests.{ne-eqb, eq-eqb}
+use Rattle.refusal.proofs.Basics.{refl, sym, _∙_, needs, ne-eqb, eq-eqb, taken, left, or-first, or-second}
 use Rattle.verdict.proofs.Verdicts.{refused, passed}
-use Rattle.classes.proofs.Choices.{taken, left, or-first, or-second}
-use borrow.Author.Needs.{needs}
 use Rattle.slip_fields.proofs.judge_sized.Statement.{statement}
 use Rattle.slip_fields.proofs.judge_sized.Tie as tie
 

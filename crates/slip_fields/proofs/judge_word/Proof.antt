@@ -1,7 +1,5 @@
 -- `slip_fields::judge_word` meets its contract: each return is the definition's choice on the test that led there. Assumes nothing.
-use mathlib.Core.Path.{refl, sym, _∙_}
-use Rattle.classes.proofs.Choices.{taken, left}
-use borrow.Author.Needs.{needs}
+use Rattle.refusal.proofs.Basics.{refl, sym, _∙_, needs, taken, left}
 use Rattle.slip_fields.proofs.judge_word.Statement.{statement}
 use Rattle.slip_fields.proofs.judge_word.Tie as tie
 

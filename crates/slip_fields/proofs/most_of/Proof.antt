@@ -1,5 +1,5 @@
 -- `slip_fields::most_of` meets its contract: each arm says the number, and the answer is the definition's at that number. Assumes nothing.
-use borrow.Author.Tests.{ne-eqb}
+use Rattle.refusal.proofs.Basics.{ne-eqb}
 use Rattle.slip_fields.proofs.most_of.Statement.{statement}
 use Rattle.slip_fields.proofs.most_of.Tie as tie
 

@@ -1,6 +1,5 @@
 -- `slip_writer::judge_four` meets its contract: the first refusal stands. Assumes nothing.
-use mathlib.Core.List.{[], _∷_}
-use borrow.Author.Needs.{needs}
+use Rattle.refusal.proofs.Basics.{needs, [], _∷_}
 use Rattle.slip_given.specs.Given.{three}
 use Rattle.slip_given.proofs.Laws.{refused-first, accepted-next}
 use Rattle.slip_given.proofs.judge_four.Statement.{statement}
@@ -18,12 +17,8 @@ returns-2 c =
 
 pub judge-four-spec : {M : Type 1} → statement M
 judge-four-spec =
-    tie.close
-    (tie.spec
-    (λ c κs. search needs)
-    (λ c. search needs)
+    tie.close (tie.spec
+    (λ c κs. search needs) (λ c. search needs)
     returns
-    (λ c. search needs)
-    (λ c. search needs)
-    (λ c κs. search needs)
+    (λ c. search needs) (λ c. search needs) (λ c κs. search needs)
     returns-2)

@@ -1,6 +1,5 @@
 -- `slip_writer::judge_given` meets its contract: the first refusal stands. Assumes nothing.
-use mathlib.Core.List.{[], _++_}
-use borrow.Author.Needs.{needs}
+use Rattle.refusal.proofs.Basics.{needs, [], _++_}
 use Rattle.slip_given.specs.Given.{three, four}
 use Rattle.slip_given.proofs.Laws.{refused-first, accepted-next}
 use Rattle.slip_given.proofs.judge_given.Statement.{statement}
@@ -25,16 +24,10 @@ returns-3 c =
 
 pub judge-given-spec : {M : Type 1} → statement M
 judge-given-spec =
-    tie.close
-    (tie.spec
-    (λ c. search needs)
-    (λ c κs. search needs)
-    (λ c. search needs)
+    tie.close (tie.spec
+    (λ c. search needs) (λ c κs. search needs) (λ c. search needs)
     returns
-    (λ c. search needs)
-    (λ c κs. search needs)
-    (λ c. search needs)
+    (λ c. search needs) (λ c κs. search needs) (λ c. search needs)
     returns-2
-    (λ c. search needs)
-    (λ c κs. search needs)
+    (λ c. search needs) (λ c κs. search needs)
     returns-3)

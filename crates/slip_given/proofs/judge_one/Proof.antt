@@ -1,6 +1,5 @@
 -- `slip_writer::judge_one` meets its contract: a 3 keeps its byte. Assumes nothing.
-use mathlib.Core.Path.{_∙_}
-use borrow.Author.Needs.{needs}
+use Rattle.refusal.proofs.Basics.{_∙_, needs}
 use Rattle.slip_given.proofs.Laws.{one-given}
 use Rattle.slip_given.proofs.judge_one.Statement.{statement}
 use Rattle.slip_given.proofs.judge_one.Tie as tie

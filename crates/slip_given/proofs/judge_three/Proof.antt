@@ -1,9 +1,5 @@
 -- `slip_writer::judge_three` meets its contract: the first refusal stands. Assumes nothing.
-use mathlib.Core.List.{[], _∷_}
-use mathlib.Core.Path.{_≡_}
-use Prim.Native.Nat.{_+_}
-use native.Mathlib.Omega.{arith}
-use borrow.Author.Needs.{needs}
+use Rattle.refusal.proofs.Basics.{_≡_, needs, arith, _+_, [], _∷_}
 use Rattle.slip_given.proofs.Laws.{refused-first, accepted-next}
 use Rattle.slip_given.proofs.judge_three.Statement.{statement}
 use Rattle.slip_given.proofs.judge_three.Tie as tie
@@ -28,17 +24,10 @@ returns-3 c =
 
 pub judge-three-spec : {M : Type 1} → statement M
 judge-three-spec =
-    tie.close
-    (tie.spec
-    (λ c κs. search needs)
-    (λ c. search needs)
+    tie.close (tie.spec
+    (λ c κs. search needs) (λ c. search needs)
     returns
-    (λ c. search needs)
-    (λ c. search needs)
-    (λ c κs. search needs)
-    (λ c. search needs)
+    (λ c. search needs) (λ c. search needs) (λ c κs. search needs) (λ c. search needs)
     returns-2
-    (λ c. search needs)
-    (λ c. search needs)
-    (λ c κs. search needs)
+    (λ c. search needs) (λ c. search needs) (λ c κs. search needs)
     returns-3)

@@ -1,8 +1,5 @@
 -- `slip::bytes` meets its contract. Assumes nothing.
-use mathlib.Core.Path.{_≡_}
-use Prim.Native.Nat.{_+_, _-_}
-use native.Mathlib.Omega.{arith}
-use borrow.Author.Needs.{needs}
+use Rattle.refusal.proofs.Basics.{_≡_, needs, arith, _+_, _-_}
 use Rattle.slip_handed.proofs.bytes.Statement.{statement}
 use Rattle.slip_handed.proofs.bytes.Tie as tie
 

@@ -1,10 +1,5 @@
 -- `slip::cents` meets its contract: an accepted slip's third field has fifteen digits. Assumes nothing.
-use mathlib.Core.Path.{_≡_, sym, ap, _∙_}
-use mathlib.Core.List.{List}
-use Prim.Native.Nat.{ℕ}
-use native.Mathlib.Omega.{arith}
-use lib.ListN.{take}
-use borrow.Author.Needs.{needs}
+use Rattle.refusal.proofs.Basics.{_≡_, sym, ap, _∙_, needs, arith, ℕ, take, List}
 use Rattle.text.specs.Split.{split}
 use Rattle.sums.specs.Sums.{numberOf}
 use Rattle.sums.proofs.Theorems.{number-of-all}

@@ -1,6 +1,5 @@
 -- `slip::field` meets its contract: the bytes of the field's part. Assumes nothing.
-use mathlib.Core.Path.{_∙_}
-use borrow.Author.Needs.{needs}
+use Rattle.refusal.proofs.Basics.{_∙_, needs}
 use Rattle.slip_handed.proofs.Laws.{field-stands}
 use Rattle.slip_handed.proofs.field.Statement.{statement}
 use Rattle.slip_handed.proofs.field.Tie as tie

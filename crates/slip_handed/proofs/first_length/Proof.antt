@@ -1,8 +1,5 @@
 -- `slip::first_length` meets its contract: the scan divides the text. Assumes nothing.
-use mathlib.Core.Path.{sym, _∙_}
-use native.Mathlib.Omega.{arith}
-use lib.Seq.{length-take-le}
-use borrow.Author.Needs.{needs}
+use Rattle.refusal.proofs.Basics.{sym, _∙_, needs, arith, length-take-le}
 use Rattle.slip.specs.Slip.{pieceOf}
 use Rattle.slip.proofs.Laws.{split-at, split-whole}
 use Rattle.slip_handed.proofs.first_length.Statement.{statement}

@@ -1,5 +1,5 @@
 -- `slip::is_accepted` meets its contract. Assumes nothing.
-use borrow.Author.Needs.{needs}
+use Rattle.refusal.proofs.Basics.{needs}
 use Rattle.slip_handed.proofs.is_accepted.Statement.{statement}
 use Rattle.slip_handed.proofs.is_accepted.Tie as tie
 

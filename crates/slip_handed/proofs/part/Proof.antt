@@ -1,7 +1,5 @@
 -- `slip::part` meets its contract: each return is the definition's choice on the tests that led there. Assumes nothing.
-use mathlib.Core.Path.{sym, _∙_}
-use borrow.Author.Tests.{not-true, not-false, lt-leb, le-leb}
-use borrow.Author.Needs.{needs}
+use Rattle.refusal.proofs.Basics.{sym, _∙_, needs, not-true, not-false, lt-leb, le-leb}
 use Rattle.slip_handed.proofs.Laws.{not-handed, handed}
 use Rattle.slip_handed.proofs.part.Statement.{statement}
 use Rattle.slip_handed.proofs.part.Tie as tie

@@ -1,10 +1,6 @@
 -- `slip::piece` meets its contract. The loop's invariant: the piece is the one that is left to count, of what is left from `at` on.
 -- Assumes nothing.
-use mathlib.Core.Path.{_≡_, sym, _∙_}
-use Prim.Native.Nat.{_≤_}
-use native.Mathlib.Omega.{arith}
-use lib.ListN.{length, drop}
-use borrow.Author.Needs.{needs}
+use Rattle.refusal.proofs.Basics.{_≡_, sym, _∙_, needs, arith, _≤_, length, drop}
 use Rattle.text.specs.Split.{split}
 use Rattle.slip.proofs.Laws.{next-piece}
 use Rattle.slip_handed.specs.Handed.{piecePart}
@@ -46,25 +42,16 @@ returns-2 c =
 
 pub piece-spec : {M : Type 1} → statement M
 piece-spec =
-    tie.close
-    (tie.spec
+    tie.close (tie.spec
     Inv-loop
     μ-loop
     loop-holds
-    (λ c. search needs)
-    (λ c. search needs)
-    (λ c. search needs)
-    (λ c κs. search needs)
-    (λ c. search needs)
-    (λ c. search needs)
+    (λ c. search needs) (λ c. search needs) (λ c. search needs) (λ c κs. search needs) (λ c. search needs) (λ c. search needs)
     add-at
     add-at-2
     (λ c. search needs)
     loop-again
     (λ c. search needs)
     returns
-    (λ c. search needs)
-    (λ c. search needs)
-    (λ c. search needs)
-    (λ c κs. search needs)
+    (λ c. search needs) (λ c. search needs) (λ c. search needs) (λ c κs. search needs)
     returns-2)

@@ -1,6 +1,5 @@
 -- `slip_printed::print` meets its contract. Assumes nothing.
-use mathlib.Core.Path.{sym, _∙_}
-use borrow.Author.Needs.{needs}
+use Rattle.refusal.proofs.Basics.{sym, _∙_, needs}
 use Rattle.slip_printed.specs.SlipPrinted.{slipPrinted}
 use Rattle.slip_printed.proofs.Laws.{cents-known, refusal-known}
 use Rattle.slip_printed.proofs.print.Statement.{statement}
@@ -21,14 +20,10 @@ returns-2 c = rw (refusal-known (c .before .before .before .before .before .befo
 
 pub print-spec : {M : Type 1} → statement M
 print-spec =
-    tie.close
-    (tie.spec
-    (λ c κs. search needs)
-    (λ c. search needs)
+    tie.close (tie.spec
+    (λ c κs. search needs) (λ c. search needs)
     put-accepted-requires
-    (λ c. search needs)
-    (λ c κs. search needs)
-    (λ c. search needs)
+    (λ c. search needs) (λ c κs. search needs) (λ c. search needs)
     returns
     (λ c. search needs)
     returns-2)

@@ -1,5 +1,5 @@
 -- `slip_printed::put_accepted` meets its contract. Assumes nothing.
-use borrow.Author.Needs.{needs}
+use Rattle.refusal.proofs.Basics.{needs}
 use Rattle.printed.proofs.Laws.{puts-then, puts-within, puts-length}
 use Rattle.slip_printed.proofs.Laws.{amount-line}
 use Rattle.slip_printed.proofs.put_accepted.Statement.{statement}
@@ -16,11 +16,8 @@ returns c =
 
 pub put-accepted-spec : {M : Type 1} → statement M
 put-accepted-spec =
-    tie.close
-    (tie.spec
-    (λ c. search needs)
-    (λ c κs. search needs)
-    (λ c κs. search needs)
+    tie.close (tie.spec
+    (λ c. search needs) (λ c κs. search needs) (λ c κs. search needs)
     put-fields-requires
     (λ c. search needs)
     returns)

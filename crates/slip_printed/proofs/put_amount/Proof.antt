@@ -1,5 +1,5 @@
 -- `slip_printed::put_amount` meets its contract. Assumes nothing.
-use borrow.Author.Needs.{needs}
+use Rattle.refusal.proofs.Basics.{needs}
 use Rattle.slip_printed.proofs.Laws.{fifteen}
 use Rattle.slip_printed.proofs.put_amount.Statement.{statement}
 use Rattle.slip_printed.proofs.put_amount.Tie as tie
@@ -9,11 +9,6 @@ returns c = rw (← (fifteen (c .before .before .before .before .before .before 
 
 pub put-amount-spec : {M : Type 1} → statement M
 put-amount-spec =
-    tie.close
-    (tie.spec
-    (λ c. search needs)
-    (λ c κs. search needs)
-    (λ c. search needs)
-    (λ c κs. search needs)
-    (λ c. search needs)
+    tie.close (tie.spec
+    (λ c. search needs) (λ c κs. search needs) (λ c. search needs) (λ c κs. search needs) (λ c. search needs)
     returns)

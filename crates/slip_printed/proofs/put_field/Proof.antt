@@ -1,5 +1,5 @@
 -- `slip_printed::put_field` meets its contract. Assumes nothing.
-use borrow.Author.Needs.{needs}
+use Rattle.refusal.proofs.Basics.{needs}
 use Rattle.printed.proofs.Laws.{puts-then}
 use Rattle.slip_printed.specs.SlipPrinted.{fieldLine}
 use Rattle.slip_printed.proofs.put_field.Statement.{statement}
@@ -13,13 +13,7 @@ returns c =
 
 pub put-field-spec : {M : Type 1} → statement M
 put-field-spec =
-    tie.close
-    (tie.spec
-    (λ c κs. search needs)
-    (λ c. search needs)
-    (λ c κs. search needs)
-    (λ c κs. search needs)
-    (λ c. search needs)
-    (λ c κs. search needs)
+    tie.close (tie.spec
+    (λ c κs. search needs) (λ c. search needs) (λ c κs. search needs) (λ c κs. search needs) (λ c. search needs) (λ c κs. search needs)
     (λ c. search needs)
     returns)

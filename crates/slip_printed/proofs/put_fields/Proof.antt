@@ -1,10 +1,5 @@
 -- `slip_printed::put_fields` meets its contract. The loop's invariant: what puts the lines that are left, puts all. Assumes nothing.
-use mathlib.Core.Path.{_≡_, refl, _∙_}
-use mathlib.Core.List.{List}
-use Prim.Native.Nat.{ℕ, _-_, _≤_}
-use native.Mathlib.Omega.{arith}
-use borrow.Author.Needs.{needs}
-use lib.ListN.{length}
+use Rattle.refusal.proofs.Basics.{_≡_, refl, _∙_, needs, arith, ℕ, _-_, _≤_, length, List}
 use Rattle.printed.specs.Printed.{Puts}
 use Rattle.printed.proofs.Laws.{puts-then, puts-none, puts-within, puts-length}
 use Rattle.slip_printed.specs.SlipPrinted.{fieldLines}
@@ -45,15 +40,11 @@ returns c =
 
 pub put-fields-spec : {M : Type 1} → statement M
 put-fields-spec =
-    tie.close
-    (tie.spec
+    tie.close (tie.spec
     Inv-loop
     μ-loop
     loop-holds
-    (λ c κs. search needs)
-    (λ c κs. search needs)
-    (λ c. omega arith)
-    (λ c. omega arith)
+    (λ c κs. search needs) (λ c κs. search needs) (λ c. omega arith) (λ c. omega arith)
     loop-again
     (λ c. c .before .loop .inv .0)
     returns)

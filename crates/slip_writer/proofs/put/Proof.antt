@@ -1,7 +1,5 @@
 -- `slip_writer::put` meets its contract. Assumes nothing.
-use mathlib.Core.Path.{refl}
-use native.Mathlib.Omega.{arith}
-use borrow.Author.Needs.{needs}
+use Rattle.refusal.proofs.Basics.{refl, needs, arith}
 use Rattle.slip_writer.proofs.put.Statement.{statement}
 use Rattle.slip_writer.proofs.put.Tie as tie
 

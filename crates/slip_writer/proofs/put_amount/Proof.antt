@@ -1,6 +1,5 @@
 -- `slip_writer::put_amount` meets its contract. Assumes nothing.
-use native.Mathlib.Omega.{arith}
-use borrow.Author.Needs.{needs}
+use Rattle.refusal.proofs.Basics.{needs, arith}
 use Rattle.room.proofs.Digits.{digits-length}
 use Rattle.slip_writer.proofs.put_amount.Statement.{statement}
 use Rattle.slip_writer.proofs.put_amount.Tie as tie

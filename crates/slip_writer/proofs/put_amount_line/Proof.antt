@@ -1,6 +1,5 @@
 -- `slip_writer::put_amount_line` meets its contract. Assumes nothing.
-use native.Mathlib.Omega.{arith}
-use borrow.Author.Needs.{needs}
+use Rattle.refusal.proofs.Basics.{needs, arith}
 use Rattle.text.specs.Digits.{digitsText}
 use Rattle.room.proofs.Digits.{digits-length}
 use Rattle.slip_writer.proofs.Laws.{line-length, line-stands, room-feed}

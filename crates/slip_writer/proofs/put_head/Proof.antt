@@ -1,6 +1,5 @@
 -- `slip_writer::put_head` meets its contract: one line behind another. Assumes nothing.
-use mathlib.Core.List.{[], _∷_}
-use borrow.Author.Needs.{needs}
+use Rattle.refusal.proofs.Basics.{needs, [], _∷_}
 use Rattle.text.specs.Bytes.{eur}
 use Rattle.text.specs.Digits.{digitsText}
 use Rattle.slip_fields.specs.Fields.{hrvhub30}
@@ -30,8 +29,7 @@ returns c =
 
 pub put-head-spec : {M : Type 1} → statement M
 put-head-spec =
-    tie.close
-    (tie.spec
+    tie.close (tie.spec
     (λ c. search needs)
     put-line-requires
     (λ c. search needs)

@@ -1,6 +1,5 @@
 -- `slip_writer::put_line` meets its contract. Assumes nothing.
-use native.Mathlib.Omega.{arith}
-use borrow.Author.Needs.{needs}
+use Rattle.refusal.proofs.Basics.{needs, arith}
 use Rattle.slip_writer.proofs.Laws.{line-length, line-stands, room-feed}
 use Rattle.slip_writer.proofs.put_line.Statement.{statement}
 use Rattle.slip_writer.proofs.put_line.Tie as tie

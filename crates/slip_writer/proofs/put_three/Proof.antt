@@ -1,6 +1,5 @@
 -- `slip_writer::put_three` meets its contract: one line behind another. Assumes nothing.
-use mathlib.Core.List.{[], _∷_}
-use borrow.Author.Needs.{needs}
+use Rattle.refusal.proofs.Basics.{needs, [], _∷_}
 use Rattle.slip_writer.proofs.Laws.{room-first, room-next, lines-stand}
 use Rattle.slip_writer.proofs.put_three.Statement.{statement}
 use Rattle.slip_writer.proofs.put_three.Tie as tie

@@ -1,6 +1,5 @@
 -- `slip_writer::size_four` meets its contract. Assumes nothing.
-use native.Mathlib.Omega.{arith}
-use borrow.Author.Needs.{needs}
+use Rattle.refusal.proofs.Basics.{needs, arith}
 use Rattle.slip_given.specs.Given.{three}
 use Rattle.slip_writer.proofs.Laws.{lines-length}
 use Rattle.slip_writer.proofs.size_four.Statement.{statement}

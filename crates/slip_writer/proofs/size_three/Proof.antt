@@ -1,6 +1,5 @@
 -- `slip_writer::size_three` meets its contract. Assumes nothing.
-use native.Mathlib.Omega.{arith}
-use borrow.Author.Needs.{needs}
+use Rattle.refusal.proofs.Basics.{needs, arith}
 use Rattle.slip_writer.proofs.Laws.{three-length}
 use Rattle.slip_writer.proofs.size_three.Statement.{statement}
 use Rattle.slip_writer.proofs.size_three.Tie as tie

@@ -1,5 +1,5 @@
 -- `slip_writer::write` meets its contract: the amount, the fields in their order, then the room. Assumes nothing.
-use borrow.Author.Needs.{needs}
+use Rattle.refusal.proofs.Basics.{needs}
 use Rattle.slip_given.specs.Given.{eleven}
 use Rattle.slip_writer.proofs.Laws.{amount-refused, field-refused, fields-accepted}
 use Rattle.slip_writer.proofs.Sizes.{accepted-small}
@@ -26,11 +26,9 @@ returns-3 c =
 
 pub write-spec : {M : Type 1} → statement M
 write-spec =
-    tie.close
-    (tie.spec
+    tie.close (tie.spec
     returns
-    (λ c κs. search needs)
-    (λ c. search needs)
+    (λ c κs. search needs) (λ c. search needs)
     returns-2
     (λ c. search needs)
     write-accepted-requires

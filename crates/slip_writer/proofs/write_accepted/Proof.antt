@@ -1,10 +1,5 @@
 -- `slip_writer::write_accepted` meets its contract: the slip is its head and its fields in three parts. Assumes nothing.
-use mathlib.Core.Path.{_≡_, refl}
-use mathlib.Core.List.{List, _++_}
-use Prim.Native.Nat.{ℕ, _+_, _≤_}
-use native.Mathlib.Omega.{arith}
-use lib.ListN.{length}
-use borrow.Author.Needs.{needs}
+use Rattle.refusal.proofs.Basics.{_≡_, refl, needs, arith, ℕ, _+_, _≤_, length, List, _++_}
 use Rattle.text.proofs.Stands.{front-stands}
 use Rattle.slip_given.specs.Given.{three, four}
 use Rattle.slip_writer.specs.Writer.{joinLines, slipText}
@@ -90,8 +85,7 @@ returns-2 c =
 
 pub write-accepted-spec : {M : Type 1} → statement M
 write-accepted-spec =
-    tie.close
-    (tie.spec
+    tie.close (tie.spec
     size-four-requires
     add-front
     size-three-requires

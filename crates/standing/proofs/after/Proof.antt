@@ -1,7 +1,5 @@
 -- `standing::after` meets its contract: the definition's choice on whether the record is sound. Assumes nothing.
-use mathlib.Core.Path.{refl, sym, _∙_}
-use borrow.Author.Needs.{needs}
-use Rattle.classes.proofs.Choices.{left, entered}
+use Rattle.refusal.proofs.Basics.{refl, sym, _∙_, needs, left, entered}
 use Rattle.standing.proofs.after.Statement.{statement}
 use Rattle.standing.proofs.after.Tie as tie
 

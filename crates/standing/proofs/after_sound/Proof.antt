@@ -1,6 +1,5 @@
 -- `standing::after_sound` meets its contract: the arm says the type, and a sound record has small counts. Assumes nothing.
-use native.Mathlib.Omega.{arith}
-use borrow.Author.Needs.{needs}
+use Rattle.refusal.proofs.Basics.{needs, arith}
 use Rattle.condition.proofs.Laws.{sound-within}
 use Rattle.standing.proofs.after_sound.Statement.{statement}
 use Rattle.standing.proofs.after_sound.Tie as tie
@@ -31,22 +30,14 @@ returns-4 c = rw (c .before .enum-told4 .given .1, c .made4 .ensures)
 
 pub after-sound-spec : {M : Type 1} → statement M
 after-sound-spec =
-    tie.close
-    (tie.spec
+    tie.close (tie.spec
     add-lines
-    (λ c. search needs)
-    (λ c κs. search needs)
-    (λ c κs. search needs)
-    (λ c. search needs)
+    (λ c. search needs) (λ c κs. search needs) (λ c κs. search needs) (λ c. search needs)
     add-groups
-    (λ c κs. search needs)
-    (λ c κs. search needs)
-    (λ c. search needs)
+    (λ c κs. search needs) (λ c κs. search needs) (λ c. search needs)
     add-orders
     with-order-requires
-    (λ c κs. search needs)
-    (λ c. search needs)
-    (λ c κs. search needs)
+    (λ c κs. search needs) (λ c. search needs) (λ c κs. search needs)
     returns
     returns-2
     returns-3

@@ -1,6 +1,5 @@
 -- `judge::judge_standing` meets its contract: each return is the definition's choice on the tests that led there. Assumes nothing.
-use borrow.Author.Tests.{eq-eqb, ne-eqb, lt-ltb, le-ltb}
-use borrow.Author.Needs.{needs}
+use Rattle.refusal.proofs.Basics.{needs, eq-eqb, ne-eqb, lt-ltb, le-ltb}
 use Rattle.standing.specs.Standing.{standVerdict}
 use Rattle.standing.proofs.judge_standing.Statement.{statement}
 use Rattle.standing.proofs.judge_standing.Tie as tie
@@ -39,18 +38,15 @@ returns-8 c = rw (c .before .enum-told4 .given .1) (c .judge-whole2 .ensures)
 
 pub judge-standing-spec : {M : Type 1} → statement M
 judge-standing-spec =
-    tie.close
-    (tie.spec
+    tie.close (tie.spec
     (λ c. search needs)
     returns
     (λ c. search needs)
     returns-2
-    (λ c κs. search needs)
-    (λ c. search needs)
+    (λ c κs. search needs) (λ c. search needs)
     returns-3
     returns-4
-    (λ c. search needs)
-    (λ c κs. search needs)
+    (λ c. search needs) (λ c κs. search needs)
     returns-5
     returns-6
     returns-7

@@ -1,6 +1,5 @@
 -- `judge::judge_whole` meets its contract: each return is the definition's choice on the tests that led there. Assumes nothing.
-use borrow.Author.Tests.{eq-eqb, ne-eqb}
-use borrow.Author.Needs.{needs}
+use Rattle.refusal.proofs.Basics.{needs, eq-eqb, ne-eqb}
 use Rattle.standing.proofs.judge_whole.Statement.{statement}
 use Rattle.standing.proofs.judge_whole.Tie as tie
 

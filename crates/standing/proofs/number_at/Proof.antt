@@ -1,5 +1,5 @@
 -- `judge::number_at` meets its contract: the number of the part where the field stands. Assumes nothing.
-use borrow.Author.Needs.{needs}
+use Rattle.refusal.proofs.Basics.{needs}
 use Rattle.standing.proofs.number_at.Statement.{statement}
 use Rattle.standing.proofs.number_at.Tie as tie
 

@@ -1,5 +1,5 @@
 -- `judge::with_order` meets its contract: one order more, and its amount added. Assumes nothing.
-use borrow.Author.Needs.{needs}
+use Rattle.refusal.proofs.Basics.{needs}
 use Rattle.standing.proofs.with_order.Statement.{statement}
 use Rattle.standing.proofs.with_order.Tie as tie
 

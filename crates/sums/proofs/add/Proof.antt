@@ -1,8 +1,7 @@
 -- `sums::add` meets its contract: the high parts, with what the low ones carry, and the low part are kept. Assumes nothing.
-use mathlib.Core.Path.{ap, _∙_}
+use Rattle.refusal.proofs.Basics.{ap, _∙_, needs}
 use Rattle.sums.specs.Sums.{sumOf}
 use Rattle.sums.proofs.Laws.{carried-more, low-small}
-use borrow.Author.Needs.{needs}
 use Rattle.sums.proofs.add.Statement.{statement}
 use Rattle.sums.proofs.add.Tie as tie
 
@@ -11,10 +10,7 @@ returns c = let a = c .before .args in c .kept .ensures ∙ ap (sumOf (a .most))
 
 pub add-spec : {M : Type 1} → statement M
 add-spec =
-    tie.close
-    (tie.spec
-    (λ c. search needs)
-    (λ c. search needs)
-    (λ c. search needs)
+    tie.close (tie.spec
+    (λ c. search needs) (λ c. search needs) (λ c. search needs)
     (λ c κs. low-small _)
     returns)

@@ -1,11 +1,7 @@
 -- `sums::fits` meets its contract: what the low part carries is below what the high part leaves of the limit. Assumes nothing.
-use Prim.Native.Nat.{_-_, _*_, _/_}
-use mathlib.Core.Path.{sym}
-use native.Mathlib.Omega.{arith}
-use borrow.Author.Tests.{le-ltb}
+use Rattle.refusal.proofs.Basics.{sym, needs, arith, _-_, _*_, _/_, le-ltb}
 use Rattle.sums.specs.Sums.{limb, centsOf}
 use Rattle.sums.proofs.Laws.{same-less}
-use borrow.Author.Needs.{needs}
 use Rattle.sums.proofs.fits.Statement.{statement}
 use Rattle.sums.proofs.fits.Tie as tie
 

@@ -1,8 +1,5 @@
 -- `sums::is_above` meets its contract: what the other number has more is so often 10^18. Assumes nothing.
-use Prim.Native.Nat.{_+_, _-_, _*_, _/_}
-use mathlib.Core.Path.{sym}
-use native.Mathlib.Omega.{arith}
-use borrow.Author.Tests.{ne-eqb}
+use Rattle.refusal.proofs.Basics.{sym, arith, _+_, _-_, _*_, _/_, ne-eqb}
 use Rattle.sums.specs.Sums.{limb}
 use Rattle.sums.proofs.Laws.{same-equal}
 use Rattle.sums.proofs.is_above.Statement.{statement}

@@ -1,10 +1,7 @@
 -- `sums::is_same` meets its contract: the low part of one is above the other's by as much as its high part is below. Assumes nothing.
-use Prim.Native.Nat.{_+_, _-_, _*_}
-use mathlib.Core.Path.{_∙_}
-use native.Mathlib.Omega.{arith}
+use Rattle.refusal.proofs.Basics.{_∙_, needs, arith, _+_, _-_, _*_}
 use Rattle.sums.specs.Sums.{limb, centsOf}
 use Rattle.sums.proofs.Laws.{same-equal}
-use borrow.Author.Needs.{needs}
 use Rattle.sums.proofs.is_same.Statement.{statement}
 use Rattle.sums.proofs.is_same.Tie as tie
 

@@ -1,10 +1,7 @@
 -- `sums::kept` meets its contract: the limit is reached where the high parts reach it. Assumes nothing.
-use Prim.Native.Nat.{_+_, _*_}
-use mathlib.Core.Path.{refl}
-use native.Mathlib.Omega.{arith}
+use Rattle.refusal.proofs.Basics.{refl, needs, arith, _+_, _*_}
 use Rattle.sums.specs.Sums.{limb}
 use Rattle.sums.proofs.Laws.{sum-large, sum-of-parts}
-use borrow.Author.Needs.{needs}
 use Rattle.sums.proofs.kept.Statement.{statement}
 use Rattle.sums.proofs.kept.Tie as tie
 

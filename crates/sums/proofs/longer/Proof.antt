@@ -1,7 +1,7 @@
 -- `sums::longer` meets its contract: the tests say whether the byte is a digit. Assumes nothing.
 use Rattle.classes.proofs.Laws.{no-digit-below, no-digit-above, digit-between}
 use Rattle.text.proofs.Values.{value-skips, value-takes}
-use borrow.Author.Needs.{needs}
+use Rattle.refusal.proofs.Basics.{needs}
 use Rattle.sums.proofs.longer.Statement.{statement}
 use Rattle.sums.proofs.longer.Tie as tie
 

@@ -1,13 +1,8 @@
 -- `sums::number` meets its contract. The loop's invariant: the number of the first eighteen bytes is that of `v` and the rest from here. Assumes nothing.
-use Prim.Native.Nat.{_≤_, _<_, _-_, _^_}
-use mathlib.Core.Path.{_≡_, refl, sym, _∙_}
-use native.Mathlib.Omega.{arith}
-use lib.ListN.{length, take, drop, getD, length-take}
-use lib.Seq.{getD-take}
+use Rattle.refusal.proofs.Basics.{_≡_, refl, sym, _∙_, needs, arith, _≤_, _<_, _-_, _^_, length, take, drop, getD, length-take, getD-take}
 use Rattle.text.specs.Digits.{digitsOf, valueFrom}
 use Rattle.sums.specs.Sums.{numberIn}
 use Rattle.text.proofs.Values.{value-grows, value-small, value-on, value-ends}
-use borrow.Author.Needs.{needs}
 use Rattle.sums.proofs.number.Statement.{statement}
 use Rattle.sums.proofs.number.Tie as tie
 
@@ -49,15 +44,13 @@ returns-2 c =
 
 pub number-spec : {M : Type 1} → statement M
 number-spec =
-    tie.close
-    (tie.spec
+    tie.close (tie.spec
     Inv-loop
     μ-loop
     loop-holds
     returns
     (λ c. search needs)
     longer-requires
-    (λ c. search needs)
-    (λ c. search needs)
+    (λ c. search needs) (λ c. search needs)
     loop-again
     returns-2)

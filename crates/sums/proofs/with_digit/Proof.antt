@@ -1,15 +1,10 @@
 -- `sums::with_digit` meets its contract: the tests say whether the byte is a digit, and whether ten times the high part may be below the limit. Assumes nothing.
-use mathlib.Core.Path.{ap, _∙_}
-use mathlib.Core.List.{[], _∷_}
-use Prim.Native.Nat.{_-_}
-use native.Mathlib.Omega.{arith}
-use native.Mathlib.Nat.{add-zero}
+use Rattle.refusal.proofs.Basics.{ap, _∙_, needs, arith, _-_, [], _∷_, add-zero}
 use Rattle.text.specs.Digits.{digitsOf, valueFrom}
 use Rattle.classes.proofs.Laws.{no-digit-below, no-digit-above, digit-between}
 use Rattle.text.proofs.Values.{value-skips, value-takes}
 use Rattle.sums.specs.Sums.{centsOf, sumOf}
 use Rattle.sums.proofs.Laws.{sum-large, carried-digit, low-small}
-use borrow.Author.Needs.{needs}
 use Rattle.sums.proofs.with_digit.Statement.{statement}
 use Rattle.sums.proofs.with_digit.Tie as tie
 
@@ -38,18 +33,12 @@ returns-4 c =
 
 pub with-digit-spec : {M : Type 1} → statement M
 with-digit-spec =
-    tie.close
-    (tie.spec
+    tie.close (tie.spec
     (λ c κs. search needs)
     returns
     (λ c κs. search needs)
     returns-2
     returns-3
-    (λ c. search needs)
-    (λ c. search needs)
-    (λ c. search needs)
-    (λ c. search needs)
-    (λ c. search needs)
-    (λ c. search needs)
+    (λ c. search needs) (λ c. search needs) (λ c. search needs) (λ c. search needs) (λ c. search needs) (λ c. search needs)
     (λ c κs. low-small _)
     returns-4)

@@ -1,16 +1,10 @@
 -- `sums::written` meets its contract. The loop's invariant: the sum is that of the digits up to here. Assumes nothing.
-use Prim.Native.Nat.{ℕ, _≤_, _-_}
-use mathlib.Core.Path.{_≡_, sym, ap, _∙_}
-use mathlib.Core.List.{List, [], _∷_}
-use native.Mathlib.Omega.{arith}
-use lib.ListN.{length, take, getD}
-use lib.Seq.{take-all}
+use Rattle.refusal.proofs.Basics.{_≡_, sym, ap, _∙_, needs, arith, ℕ, _≤_, _-_, length, take, getD, List, [], _∷_, take-all}
 use Rattle.text.specs.Digits.{digitsOf, valueFrom}
 use Rattle.sums.specs.declared.Sum.{Sum}
 use Rattle.sums.specs.Sums.{centsOf, sumOf, numberOf}
 use Rattle.text.proofs.Values.{value-to}
 use Rattle.sums.proofs.Laws.{no-cents, written-on}
-use borrow.Author.Needs.{needs}
 use Rattle.sums.proofs.written.Statement.{statement}
 use Rattle.sums.proofs.written.Tie as tie
 
@@ -45,15 +39,11 @@ returns c =
 
 pub written-spec : {M : Type 1} → statement M
 written-spec =
-    tie.close
-    (tie.spec
+    tie.close (tie.spec
     Inv-loop
     μ-loop
     (λ c κs. search needs)
     loop-holds
-    (λ c. search needs)
-    (λ c κs. search needs)
-    (λ c. search needs)
-    (λ c. search needs)
+    (λ c. search needs) (λ c κs. search needs) (λ c. search needs) (λ c. search needs)
     loop-again
     returns)

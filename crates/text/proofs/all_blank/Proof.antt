@@ -1,7 +1,7 @@
 -- `text::all_blank` meets its contract: a blank alone lies between 32 and 32. Assumes nothing.
 use Rattle.classes.specs.declared.Class.the-variants.{Blanks}
 use Rattle.text.proofs.Laws.{alone-between}
-use borrow.Author.Needs.{needs}
+use Rattle.refusal.proofs.Basics.{needs}
 use Rattle.text.proofs.all_blank.Statement.{statement}
 use Rattle.text.proofs.all_blank.Tie as tie
 

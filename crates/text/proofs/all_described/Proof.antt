@@ -1,10 +1,6 @@
 -- `text::all_described` meets its contract. The loop's invariant: the answer is the test so far and that of what is left from `i` on.
 -- Assumes nothing.
-use Prim.Native.Nat.{_≤_, _-_}
-use mathlib.Core.Path.{_≡_, refl, sym, _∙_}
-use mathlib.Core.Bool.{_&&_}
-use native.Mathlib.Omega.{arith}
-use lib.ListN.{length, drop}
+use Rattle.refusal.proofs.Basics.{_≡_, refl, sym, _∙_, arith, _≤_, _-_, length, drop, _&&_}
 use Rattle.text.specs.Bytes.{allOf}
 use Rattle.classes.specs.declared.Class.the-variants.{Description}
 use Rattle.text.proofs.Laws.{tested-on, tested-all}
@@ -32,14 +28,10 @@ returns c =
 
 pub all-described-spec : {M : Type 1} → statement M
 all-described-spec =
-    tie.close
-    (tie.spec
+    tie.close (tie.spec
     Inv-loop
     μ-loop
     loop-holds
-    (λ c. omega arith)
-    (λ c κs. tt)
-    (λ c. omega arith)
-    (λ c. omega arith)
+    (λ c. omega arith) (λ c κs. tt) (λ c. omega arith) (λ c. omega arith)
     loop-again
     returns)

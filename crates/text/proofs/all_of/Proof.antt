@@ -1,9 +1,8 @@
 -- `text::all_of` meets its contract: a class that permits the bytes between two by `all_within`; of another, every byte is permitted where
 -- nothing was found. Assumes nothing.
-use mathlib.Core.Path.{refl, sym, ap, _∙_}
+use Rattle.refusal.proofs.Basics.{refl, sym, ap, _∙_, needs}
 use Rattle.classes.specs.declared.Class.the-variants.{Digits, Letters, Zeros}
 use Rattle.text.proofs.Laws.{isNothing, all-of-nothing, alone-between}
-use borrow.Author.Needs.{needs}
 use Rattle.text.proofs.all_of.Statement.{statement}
 use Rattle.text.proofs.all_of.Tie as tie
 
@@ -29,22 +28,15 @@ returns-6 c = ap isNothing (sym (c .enum-told6 .given .1) ∙ c .before .before 
 
 pub all-of-spec : {M : Type 1} → statement M
 all-of-spec =
-    tie.close
-    (tie.spec
-    (λ c. search needs)
-    (λ c κs. search needs)
+    tie.close (tie.spec
+    (λ c. search needs) (λ c κs. search needs)
     returns
-    (λ c. search needs)
-    (λ c κs. search needs)
+    (λ c. search needs) (λ c κs. search needs)
     returns-2
-    (λ c. search needs)
-    (λ c κs. search needs)
+    (λ c. search needs) (λ c κs. search needs)
     returns-3
-    (λ c. search needs)
-    (λ c κs. search needs)
+    (λ c. search needs) (λ c κs. search needs)
     returns-4
-    (λ c κs. search needs)
-    (λ c. search needs)
-    (λ c. search needs)
+    (λ c κs. search needs) (λ c. search needs) (λ c. search needs)
     returns-5
     returns-6)

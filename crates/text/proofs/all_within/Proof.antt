@@ -1,12 +1,6 @@
 -- `text::all_within` meets its contract. The loop's invariant: for a class that permits just the bytes between the two, the answer is the
 -- test so far and that of what is left from `i` on. Assumes nothing.
-use Prim.Native.Nat.{ℕ, _≤_, _-_}
-use mathlib.Core.Path.{_≡_, refl, sym, _∙_}
-use mathlib.Core.Bool.{_&&_}
-use native.Mathlib.Omega.{arith}
-use lib.Dec.{leb}
-use borrow.Author.Tests.{lt-leb, le-leb}
-use lib.ListN.{length, drop, getD}
+use Rattle.refusal.proofs.Basics.{_≡_, refl, sym, _∙_, arith, ℕ, _≤_, _-_, length, drop, getD, lt-leb, le-leb, _&&_, leb}
 use Rattle.classes.specs.Classes.{permits}
 use Rattle.text.specs.Bytes.{allOf}
 use Rattle.classes.specs.declared.Class.{Class}
@@ -49,8 +43,7 @@ returns-4 c =
 
 pub all-within-spec : {M : Type 1} → statement M
 all-within-spec =
-    tie.close
-    (tie.spec
+    tie.close (tie.spec
     Inv-loop
     μ-loop
     returns
@@ -59,8 +52,6 @@ all-within-spec =
     (λ c. omega arith)
     returns-3
     loop-holds
-    (λ c. omega arith)
-    (λ c. omega arith)
-    (λ c. omega arith)
+    (λ c. omega arith) (λ c. omega arith) (λ c. omega arith)
     loop-again
     returns-4)

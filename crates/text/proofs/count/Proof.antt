@@ -1,9 +1,5 @@
 -- `text::count` meets its contract. The loop's invariant: the bytes `c` passed and those left from `i` on make up the whole. Assumes nothing.
-use Prim.Native.Nat.{_≤_, _+_, _-_}
-use mathlib.Core.Path.{_≡_, sym, _∙_}
-use native.Mathlib.Omega.{arith}
-use native.Mathlib.Nat.{zero-add}
-use lib.ListN.{length, drop}
+use Rattle.refusal.proofs.Basics.{_≡_, sym, _∙_, arith, _≤_, _+_, _-_, length, drop, zero-add}
 use Rattle.text.specs.Bytes.{countOf}
 use Rattle.text.proofs.Laws.{count-more, count-same, count-end}
 use Rattle.text.proofs.count.Statement.{statement}
@@ -37,17 +33,12 @@ returns c =
 
 pub count-spec : {M : Type 1} → statement M
 count-spec =
-    tie.close
-    (tie.spec
+    tie.close (tie.spec
     Inv-loop
     μ-loop
     loop-holds
-    (λ c. omega arith)
-    (λ c. omega arith)
-    (λ c. omega arith)
-    (λ c. omega arith)
+    (λ c. omega arith) (λ c. omega arith) (λ c. omega arith) (λ c. omega arith)
     loop-again
-    (λ c. omega arith)
-    (λ c. omega arith)
+    (λ c. omega arith) (λ c. omega arith)
     loop-again-2
     returns)

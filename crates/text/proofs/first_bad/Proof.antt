@@ -1,6 +1,5 @@
 -- `text::first_bad` meets its contract: where every byte is a digit none is found. Assumes nothing.
-use mathlib.Core.Path.{refl, sym, _∙_}
-use borrow.Author.Needs.{needs}
+use Rattle.refusal.proofs.Basics.{refl, sym, _∙_, needs}
 use Rattle.classes.specs.declared.Class.the-variants.{Digits}
 use Rattle.text.proofs.Laws.{none-bad}
 use Rattle.text.proofs.first_bad.Statement.{statement}

@@ -1,9 +1,5 @@
 -- `text::first_wrong` meets its contract. The loop's invariant: the answer is that of what is left from `i` on. Assumes nothing.
-use Prim.Native.Nat.{_≤_, _-_}
-use mathlib.Core.Path.{_≡_, sym, _∙_}
-use native.Mathlib.Omega.{arith}
-use borrow.Author.Tests.{not-true, not-false}
-use lib.ListN.{length, drop}
+use Rattle.refusal.proofs.Basics.{_≡_, sym, _∙_, arith, _≤_, _-_, length, drop, not-true, not-false}
 use Rattle.text.specs.Bytes.{firstBad}
 use Rattle.text.proofs.Laws.{shifted, shifted-zero, scan-on, scan-stops, scan-ends}
 use Rattle.text.proofs.first_wrong.Statement.{statement}
@@ -38,15 +34,12 @@ returns-2 c =
 
 pub first-wrong-spec : {M : Type 1} → statement M
 first-wrong-spec =
-    tie.close
-    (tie.spec
+    tie.close (tie.spec
     Inv-loop
     μ-loop
     loop-holds
-    (λ c. omega arith)
-    (λ c κs. tt)
+    (λ c. omega arith) (λ c κs. tt)
     returns
-    (λ c. omega arith)
-    (λ c. omega arith)
+    (λ c. omega arith) (λ c. omega arith)
     loop-again
     returns-2)

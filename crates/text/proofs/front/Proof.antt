@@ -1,9 +1,5 @@
 -- `text::front` meets its contract: all of the text, or its part. Assumes nothing.
-use Prim.Native.Nat.{_-_}
-use mathlib.Core.Path.{_≡_, sym}
-use native.Mathlib.Omega.{arith}
-use lib.Seq.{take-all}
-use borrow.Author.Needs.{needs}
+use Rattle.refusal.proofs.Basics.{_≡_, sym, needs, arith, _-_, take-all}
 use Rattle.text.proofs.front.Statement.{statement}
 use Rattle.text.proofs.front.Tie as tie
 

@@ -1,8 +1,5 @@
 -- `text::is_same` meets its contract. The loop's invariant: the answer is that of what is left of both from `i` on. Assumes nothing.
-use Prim.Native.Nat.{_≤_, _-_}
-use mathlib.Core.Path.{_≡_, refl, sym, _∙_}
-use native.Mathlib.Omega.{arith}
-use lib.ListN.{length, drop}
+use Rattle.refusal.proofs.Basics.{_≡_, refl, sym, _∙_, arith, _≤_, _-_, length, drop}
 use Rattle.text.specs.Bytes.{same}
 use Rattle.text.proofs.Same.{same-lengths, same-on, same-stops, same-ends}
 use Rattle.text.proofs.is_same.Statement.{statement}
@@ -40,16 +37,13 @@ returns-3 c =
 
 pub is-same-spec : {M : Type 1} → statement M
 is-same-spec =
-    tie.close
-    (tie.spec
+    tie.close (tie.spec
     Inv-loop
     μ-loop
     returns
     loop-holds
-    (λ c. omega arith)
-    (λ c. omega arith)
+    (λ c. omega arith) (λ c. omega arith)
     returns-2
-    (λ c. omega arith)
-    (λ c. omega arith)
+    (λ c. omega arith) (λ c. omega arith)
     loop-again
     returns-3)

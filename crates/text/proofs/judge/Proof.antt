@@ -1,7 +1,5 @@
 -- `text::judge` meets its contract: what the scan found. Assumes nothing.
-use mathlib.Core.Path.{sym, _∙_}
-use native.Mathlib.Omega.{arith}
-use borrow.Author.Needs.{needs}
+use Rattle.refusal.proofs.Basics.{sym, _∙_, needs, arith}
 use Rattle.text.specs.Bytes.{bytesVerdict}
 use Rattle.text.proofs.Laws.{found-below}
 use Rattle.text.proofs.judge.Statement.{statement}

@@ -1,10 +1,6 @@
 -- `text::trim` meets its contract. The loop's invariant: the text without its last blanks is that of its first `n` bytes.
 -- Assumes nothing.
-use Prim.Native.Nat.{ℕ, _≤_}
-use mathlib.Core.Path.{_≡_, refl, sym, ap, _∙_}
-use native.Mathlib.Omega.{arith}
-use lib.ListN.{length, take}
-use lib.Seq.{take-length, length-take-le}
+use Rattle.refusal.proofs.Basics.{_≡_, refl, sym, ap, _∙_, arith, ℕ, _≤_, length, take, take-length, length-take-le}
 use Rattle.text.specs.Bytes.{trimmed}
 use Rattle.text.proofs.Blanks.{trimmed-back, trimmed-ends, trimmed-nothing}
 use Rattle.text.proofs.trim.Statement.{statement}
@@ -43,13 +39,11 @@ returns-2 c =
 
 pub trim-spec : {M : Type 1} → statement M
 trim-spec =
-    tie.close
-    (tie.spec
+    tie.close (tie.spec
     Inv-loop
     μ-loop
     loop-holds
-    (λ c. omega arith)
-    (λ c. omega arith)
+    (λ c. omega arith) (λ c. omega arith)
     slice-aggregate-result
     returns
     (λ c. omega arith)

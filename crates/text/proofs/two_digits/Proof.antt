@@ -1,9 +1,6 @@
 -- `text::two_digits` meets its contract: each return is the definition's choice on the tests that led there. Assumes nothing.
-use mathlib.Core.Path.{refl, sym, _∙_}
-use borrow.Author.Tests.{not-true, not-false}
-use Rattle.classes.proofs.Choices.{left, taken, and-first, and-second}
+use Rattle.refusal.proofs.Basics.{refl, sym, _∙_, needs, not-true, not-false, left, taken, and-first, and-second}
 use Rattle.classes.proofs.Laws.{digit-bounds}
-use borrow.Author.Needs.{needs}
 use Rattle.text.proofs.two_digits.Statement.{statement}
 use Rattle.text.proofs.two_digits.Tie as tie
 
@@ -31,16 +28,13 @@ returns-3 c =
 
 pub two-digits-spec : {M : Type 1} → statement M
 two-digits-spec =
-    tie.close
-    (tie.spec
+    tie.close (tie.spec
     (λ c κs. search needs)
     returns
     (λ c κs. search needs)
     returns-2
     sub-t5
-    (λ c. search needs)
-    (λ c. search needs)
+    (λ c. search needs) (λ c. search needs)
     sub-t8
-    (λ c. search needs)
-    (λ c. search needs)
+    (λ c. search needs) (λ c. search needs)
     returns-3)

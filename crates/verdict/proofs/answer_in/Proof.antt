@@ -1,5 +1,5 @@
 -- `verdict::answer_in` meets its contract. Assumes nothing.
-use borrow.Author.Needs.{needs}
+use Rattle.refusal.proofs.Basics.{needs}
 use Rattle.verdict.proofs.answer_in.Statement.{statement}
 use Rattle.verdict.proofs.answer_in.Tie as tie
 

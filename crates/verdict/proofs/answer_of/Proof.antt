@@ -1,6 +1,5 @@
 -- `verdict::answer_of` meets its contract: its test is the definition's. Assumes nothing.
-use borrow.Author.Tests.{ne-eqb}
-use borrow.Author.Needs.{needs}
+use Rattle.refusal.proofs.Basics.{needs, ne-eqb}
 use Rattle.verdict.proofs.answer_of.Statement.{statement}
 use Rattle.verdict.proofs.answer_of.Tie as tie
 

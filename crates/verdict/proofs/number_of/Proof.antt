@@ -1,5 +1,5 @@
 -- `verdict::number_of` meets its contract: its test is the definition's. Assumes nothing.
-use borrow.Author.Tests.{le-leb, lt-leb}
+use Rattle.refusal.proofs.Basics.{le-leb, lt-leb}
 use Rattle.verdict.proofs.number_of.Statement.{statement}
 use Rattle.verdict.proofs.number_of.Tie as tie
 

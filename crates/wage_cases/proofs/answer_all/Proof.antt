@@ -42,25 +42,17 @@ loop-again c =
 
 pub answer-all-spec : {M : Type 1} → statement M
 answer-all-spec =
-    tie.close
-    (tie.spec
+    tie.close (tie.spec
     Inv-loop
     μ-loop
     (λ c κs. tt)
     (λ c. (omega arith, refl, refl))
-    (λ c. omega arith)
-    (λ c. omega arith)
-    (λ c. omega arith)
-    (λ c κs. tt)
+    (λ c. omega arith) (λ c. omega arith) (λ c. omega arith) (λ c κs. tt)
     add-end
     add-at
-    (λ c. omega arith)
-    (λ c. omega arith)
+    (λ c. omega arith) (λ c. omega arith)
     part-question-end
-    (λ c κs. tt)
-    (λ c κs. tt)
+    (λ c κs. tt) (λ c κs. tt)
     loop-less
     loop-again
-    (λ c. search needs)
-    (λ c. search needs)
-    (λ c. tt))
+    (λ c. search needs) (λ c. search needs) (λ c. tt))

@@ -1,10 +1,6 @@
 -- `wage_contents::behind` meets its contract. Assumes nothing.
-use mathlib.Core.Path.{sym}
-use Prim.Native.Nat.{_≤_}
-use native.Mathlib.Omega.{arith}
-use lib.ListN.{length, drop-of-length-le}
+use Rattle.refusal.proofs.Basics.{sym, needs, arith, _≤_, length, drop-of-length-le}
 use Rattle.text.proofs.Laws.{to-the-end}
-use borrow.Author.Needs.{needs}
 use Rattle.wage_contents.proofs.behind.Statement.{statement}
 use Rattle.wage_contents.proofs.behind.Tie as tie
 

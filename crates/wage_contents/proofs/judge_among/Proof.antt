@@ -1,6 +1,6 @@
 -- `wage_contents::judge_among` meets its contract. Assumes nothing.
 use Rattle.wage_contents.specs.Contents.{amongVerdict}
-use borrow.Author.Needs.{needs}
+use Rattle.refusal.proofs.Basics.{needs}
 use Rattle.wage_contents.proofs.judge_among.Statement.{statement}
 use Rattle.wage_contents.proofs.judge_among.Tie as tie
 

@@ -1,6 +1,6 @@
 -- `wage_contents::judge_currency` meets its contract. Assumes nothing.
 use Rattle.wage_contents.specs.Contents.{currencyVerdict}
-use borrow.Author.Needs.{needs}
+use Rattle.refusal.proofs.Basics.{needs}
 use Rattle.wage_contents.proofs.judge_currency.Statement.{statement}
 use Rattle.wage_contents.proofs.judge_currency.Tie as tie
 

@@ -1,6 +1,6 @@
 -- `wage_contents::judge_date` meets its contract. Assumes nothing.
 use Rattle.wage_contents.specs.Contents.{dateVerdict}
-use borrow.Author.Needs.{needs}
+use Rattle.refusal.proofs.Basics.{needs}
 use Rattle.wage_contents.proofs.judge_date.Statement.{statement}
 use Rattle.wage_contents.proofs.judge_date.Tie as tie
 

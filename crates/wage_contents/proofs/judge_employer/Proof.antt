@@ -1,6 +1,6 @@
 -- `wage_contents::judge_employer` meets its contract. Assumes nothing.
 use Rattle.wage_contents.specs.Contents.{employerVerdict}
-use borrow.Author.Needs.{needs}
+use Rattle.refusal.proofs.Basics.{needs}
 use Rattle.wage_contents.proofs.judge_employer.Statement.{statement}
 use Rattle.wage_contents.proofs.judge_employer.Tie as tie
 

@@ -1,10 +1,8 @@
 -- `wage_contents::judge_iban` meets its contract: an IBAN with blanks behind it is right, else one rule after the other. Assumes nothing.
-use mathlib.Core.Path.{refl, sym, _∙_}
+use Rattle.refusal.proofs.Basics.{refl, sym, _∙_, needs, taken, left}
 use Rattle.verdict.proofs.Verdicts.{refused, passed, failed, met}
-use Rattle.classes.proofs.Choices.{taken, left}
 use Rattle.wage_contents.specs.Contents.{ibanPlaceVerdict}
 use Rattle.wage_contents.proofs.Laws.{account-right}
-use borrow.Author.Needs.{needs}
 use Rattle.wage_contents.proofs.judge_iban.Statement.{statement}
 use Rattle.wage_contents.proofs.judge_iban.Tie as tie
 
@@ -33,7 +31,6 @@ returns-5 c =
 
 pub judge-iban-spec : {M : Type 1} → statement M
 judge-iban-spec =
-    tie.close
-    (tie.spec
+    tie.close (tie.spec
     (λ c κs. search needs) (λ c κs. search needs) (λ c κs. search needs) (λ c κs. search needs) returns (λ c κs. search needs) returns-2
     (λ c κs. search needs) returns-3 (λ c κs. search needs) (λ c κs. search needs) returns-4 returns-5)

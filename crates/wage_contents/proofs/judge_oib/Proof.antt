@@ -1,11 +1,9 @@
 -- `wage_contents::judge_oib` meets its contract: zeros are digits. Assumes nothing.
-use mathlib.Core.Path.{sym, _∙_}
-use borrow.Author.Tests.{eqb-true}
+use Rattle.refusal.proofs.Basics.{sym, _∙_, needs, eqb-true}
 use Rattle.verdict.proofs.Verdicts.{passed}
 use Rattle.classes.specs.declared.Class.the-variants.{Digits, Zeros}
 use Rattle.text.proofs.Laws.{all-wider, all-passes}
 use Rattle.wage_contents.specs.Contents.{tested, oibPlaceVerdict}
-use borrow.Author.Needs.{needs}
 use Rattle.wage_contents.proofs.judge_oib.Statement.{statement}
 use Rattle.wage_contents.proofs.judge_oib.Tie as tie
 

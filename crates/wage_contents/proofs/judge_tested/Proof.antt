@@ -1,8 +1,7 @@
 -- `wage_contents::judge_tested` meets its contract. Assumes nothing.
-use mathlib.Core.Path.{refl}
+use Rattle.refusal.proofs.Basics.{refl, needs}
 use Rattle.verdict.proofs.Verdicts.{refused, passed}
 use Rattle.wage_contents.specs.Contents.{tested}
-use borrow.Author.Needs.{needs}
 use Rattle.wage_contents.proofs.judge_tested.Statement.{statement}
 use Rattle.wage_contents.proofs.judge_tested.Tie as tie
 

@@ -1,6 +1,5 @@
 -- `wage_draft::draft_aside` meets its contract: the line is copied, drafted there, and put back if it is right. Assumes nothing.
-use mathlib.Core.Path.{sym, _∙_}
-use borrow.Author.Needs.{needs}
+use Rattle.refusal.proofs.Basics.{sym, _∙_, needs}
 use Rattle.wage_draft.proofs.Laws.{put-whole, scratch-refused, scratch-accepted}
 use Rattle.wage_draft.proofs.draft_aside.Statement.{statement}
 use Rattle.wage_draft.proofs.draft_aside.Tie as tie
@@ -20,16 +19,8 @@ returns-2 c =
 
 pub draft-aside-spec : {M : Type 1} → statement M
 draft-aside-spec =
-    tie.close
-    (tie.spec
-    (λ c κs. search needs)
-    (λ c κs. search needs)
-    (λ c. search needs)
-    (λ c. search needs)
-    (λ c. search needs)
+    tie.close (tie.spec
+    (λ c κs. search needs) (λ c κs. search needs) (λ c. search needs) (λ c. search needs) (λ c. search needs)
     returns
-    (λ c. search needs)
-    (λ c κs. search needs)
-    (λ c. search needs)
-    (λ c. search needs)
+    (λ c. search needs) (λ c κs. search needs) (λ c. search needs) (λ c. search needs)
     returns-2)

@@ -1,9 +1,5 @@
 -- `wage_draft::draft_in` meets its contract. The loop's invariant: what is left to be drafted is the whole draft. Assumes nothing.
-use mathlib.Core.Path.{_≡_, refl, _∙_}
-use Prim.Native.Nat.{_≤_, _-_}
-use native.Mathlib.Omega.{arith}
-use lib.ListN.{length, take, drop}
-use borrow.Author.Needs.{needs}
+use Rattle.refusal.proofs.Basics.{_≡_, refl, _∙_, needs, arith, _≤_, _-_, length, take, drop}
 use Rattle.wage_places.specs.Places.{spots}
 use Rattle.lent_fields.specs.Fields.{fieldsOf}
 use Rattle.wage_draft.specs.Draft.{drafted}
@@ -103,8 +99,7 @@ returns-3 c =
 
 pub draft-in-spec : {M : Type 1} → statement M
 draft-in-spec =
-    tie.close
-    (tie.spec
+    tie.close (tie.spec
     Inv-places
     μ-places
     count-requires

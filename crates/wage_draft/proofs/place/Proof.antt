@@ -1,6 +1,5 @@
 -- `wage_draft::place` meets its contract: a field of another length is not put, else it is judged where it stands. Assumes nothing.
-use native.Mathlib.Omega.{arith}
-use borrow.Author.Needs.{needs}
+use Rattle.refusal.proofs.Basics.{needs, arith}
 use Rattle.wage_draft.proofs.Laws.{placed-wrong, placed-right}
 use Rattle.wage_draft.proofs.place.Statement.{statement}
 use Rattle.wage_draft.proofs.place.Tie as tie

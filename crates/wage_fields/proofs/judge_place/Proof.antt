@@ -1,7 +1,5 @@
 -- `wage_fields::judge_place` meets its contract: a range of one place. Assumes nothing.
-use mathlib.Core.Path.{_∙_}
-use native.Mathlib.Omega.{arith}
-use borrow.Author.Needs.{needs}
+use Rattle.refusal.proofs.Basics.{_∙_, needs, arith}
 use Rattle.wage_fields.proofs.Laws.{few, range-one, range-past}
 use Rattle.wage_fields.proofs.judge_place.Statement.{statement}
 use Rattle.wage_fields.proofs.judge_place.Tie as tie

@@ -1,7 +1,5 @@
 -- `wage_fields::judge_range` meets its contract. The loop's invariant: the answer is that of the places from `k` on. Assumes nothing.
-use mathlib.Core.Path.{_≡_, refl, sym, _∙_}
-use Prim.Native.Nat.{_-_}
-use native.Mathlib.Omega.{arith}
+use Rattle.refusal.proofs.Basics.{_≡_, refl, sym, _∙_, arith, _-_}
 use Rattle.wage_fields.proofs.Laws.{fits, Rest, range-end, range-size, range-on, range-stop}
 use Rattle.wage_fields.proofs.judge_range.Statement.{statement}
 use Rattle.wage_fields.proofs.judge_range.Tie as tie
@@ -42,18 +40,14 @@ returns-3 c =
 
 pub judge-range-spec : {M : Type 1} → statement M
 judge-range-spec =
-    tie.close
-    (tie.spec
+    tie.close (tie.spec
     Inv-places
     μ-places
     (λ c κs. tt)
     returns
-    (λ c. refl)
-    (λ c κs. tt)
-    (λ c κs. tt)
+    (λ c. refl) (λ c κs. tt) (λ c κs. tt)
     told-requires
-    (λ c. omega arith)
-    (λ c. omega arith)
+    (λ c. omega arith) (λ c. omega arith)
     places-again
     returns-2
     returns-3)

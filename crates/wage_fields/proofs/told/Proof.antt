@@ -1,5 +1,5 @@
 -- `wage_fields::told` meets its contract. Assumes nothing.
-use borrow.Author.Needs.{needs}
+use Rattle.refusal.proofs.Basics.{needs}
 use Rattle.wage_fields.proofs.told.Statement.{statement}
 use Rattle.wage_fields.proofs.told.Tie as tie
 

@@ -1,8 +1,5 @@
 -- `wage_file::lines` meets its contract. The loop's invariant: the record is the one that the lines from `at` on lead to from `j`. Assumes nothing.
-use Prim.Native.Nat.{_≤_, _-_}
-use mathlib.Core.Path.{_≡_, refl, sym, _∙_}
-use native.Mathlib.Omega.{arith}
-use lib.ListN.{length, drop}
+use Rattle.refusal.proofs.Basics.{_≡_, refl, sym, _∙_, arith, _≤_, _-_, length, drop}
 use Rattle.wage_line.specs.Pieces.{pieces}
 use Rattle.wage_line.proofs.PieceLaws.{piece-advances}
 use Rattle.judge.specs.Judge.{steps}
@@ -61,8 +58,7 @@ returns-2 c =
 
 pub lines-spec : {M : Type 1} → statement M
 lines-spec =
-    tie.close
-    (tie.spec
+    tie.close (tie.spec
     Inv-lines
     μ-lines
     lines-holds

@@ -7,8 +7,7 @@ use Rattle.wage_line.proofs.type_from.Tie as tie
 pub type-from-spec : {M : Type 1} → statement M
 unfolding typeFrom
 type-from-spec =
-    tie.close
-    (tie.spec
+    tie.close (tie.spec
     (λ c κs. tt) (λ c. search choices)
     (λ c κs. tt) (λ c κs. tt) (λ c. search choices depth 7)
     (λ c κs. tt) (λ c. search choices depth 7)

@@ -1,5 +1,5 @@
 -- `wage_line::wrong_type` meets its contract: its answer is the definition. Assumes nothing.
-use mathlib.Core.Path.{refl}
+use Rattle.refusal.proofs.Basics.{refl}
 use Rattle.wage_line.proofs.wrong_type.Statement.{statement}
 use Rattle.wage_line.proofs.wrong_type.Tie as tie
 

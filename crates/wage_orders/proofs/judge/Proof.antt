@@ -1,8 +1,5 @@
 -- `wage_orders::judge` meets its contract. Assumes nothing.
-use mathlib.Core.Path.{refl}
-use borrow.Author.Tests.{le-leb, lt-leb, eq-eqb, ne-eqb}
-use borrow.Author.Needs.{needs}
-use Rattle.classes.proofs.Choices.{taken, left, entered}
+use Rattle.refusal.proofs.Basics.{refl, needs, le-leb, lt-leb, eq-eqb, ne-eqb, taken, left, entered}
 use Rattle.wage_orders.specs.Orders.{groupOrders}
 use Rattle.wage_orders.proofs.judge.Statement.{statement}
 use Rattle.wage_orders.proofs.judge.Tie as tie
@@ -25,8 +22,7 @@ returns-4 c = entered _ _ _ _ (eq-eqb _ _ (c .before .before .before .if1 .left)
 
 pub judge-spec : {M : Type 1} → statement M
 judge-spec =
-    tie.close
-    (tie.spec
+    tie.close (tie.spec
     (λ c κs. search needs)
     returns
     (λ c κs. search needs)

@@ -1,10 +1,6 @@
 -- `wage_orders::judge_lines` meets its contract. The loop's invariant: the answer is that of the lines from `at` on, the line there being `n`.
 -- Assumes nothing.
-use mathlib.Core.Path.{_≡_, refl, sym, _∙_}
-use Prim.Native.Nat.{_+_, _-_, _≤_}
-use native.Mathlib.Omega.{arith}
-use lib.ListN.{length, drop}
-use borrow.Author.Needs.{needs}
+use Rattle.refusal.proofs.Basics.{_≡_, refl, sym, _∙_, needs, arith, _+_, _-_, _≤_, length, drop}
 use Rattle.wage_line.specs.Pieces.{pieces}
 use Rattle.wage_line.proofs.PieceLaws.{piece-advances}
 use Rattle.wage_orders.specs.Orders.{ordersFrom}
@@ -69,8 +65,7 @@ returns-2 c =
 
 pub judge-lines-spec : {M : Type 1} → statement M
 judge-lines-spec =
-    tie.close
-    (tie.spec
+    tie.close (tie.spec
     Inv-lines
     μ-lines
     lines-holds

@@ -1,8 +1,5 @@
 -- `wage_places::find` meets its contract. The loop's invariant: the place is the one among what is left from `k` on. Assumes nothing.
-use Prim.Native.Nat.{_≤_, _-_}
-use mathlib.Core.Path.{_≡_, refl, sym, _∙_}
-use native.Mathlib.Omega.{arith}
-use lib.ListN.{drop}
+use Rattle.refusal.proofs.Basics.{_≡_, refl, sym, _∙_, arith, _≤_, _-_, drop}
 use Rattle.wage_places.specs.Places.{spots, spotIn}
 use Rattle.wage_places.proofs.Laws.{find-on, find-stops, find-ends}
 use Rattle.wage_places.proofs.find.Statement.{statement}
@@ -40,8 +37,7 @@ find-spec =
     (λ c. (omega arith, refl))
     (λ c κs. tt)
     returns
-    (λ c. omega arith)
-    (λ c. omega arith)
+    (λ c. omega arith) (λ c. omega arith)
     loop-again
     (λ c κs. tt)
     returns-2)

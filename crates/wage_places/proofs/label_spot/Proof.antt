@@ -5,8 +5,7 @@ use Rattle.wage_places.proofs.label_spot.Tie as tie
 
 pub label-spot-spec : {M : Type 1} → statement M
 label-spot-spec =
-    tie.close
-    (tie.spec
+    tie.close (tie.spec
     (λ c κs. tt) (λ c κs. tt) (λ c κs. tt) (λ c κs. tt) (λ c κs. tt) (λ c κs. tt) (λ c κs. tt) (λ c κs. tt) (λ c κs. tt)
     (λ c. search arms) (λ c. search arms) (λ c. search arms) (λ c. search arms) (λ c. search arms) (λ c. search arms) (λ c. search arms)
     (λ c. search arms) (λ c. search arms))

@@ -1,5 +1,5 @@
 -- `wage_places::part_at` meets its contract. Assumes nothing.
-use borrow.Author.Needs.{needs}
+use Rattle.refusal.proofs.Basics.{needs}
 use Rattle.wage_places.proofs.part_at.Statement.{statement}
 use Rattle.wage_places.proofs.part_at.Tie as tie
 

@@ -1,8 +1,5 @@
 -- `wage_printed::day` meets its contract. Assumes nothing.
-use mathlib.Core.Path.{sym, _∙_}
-use native.Mathlib.Omega.{arith}
-use borrow.Author.Needs.{needs}
-use borrow.Author.Tests.{not-true, not-false}
+use Rattle.refusal.proofs.Basics.{sym, _∙_, needs, arith, not-true, not-false}
 use Rattle.wage_printed.proofs.Laws.{no-nine, no-feed, no-digits, day-digits}
 use Rattle.wage_printed.proofs.day.Statement.{statement}
 use Rattle.wage_printed.proofs.day.Tie as tie
@@ -15,18 +12,11 @@ returns-4 c = day-digits (c .before .before .before .before .before .before .bef
 
 pub day-spec : {M : Type 1} → statement M
 day-spec =
-    tie.close
-    (tie.spec
+    tie.close (tie.spec
     (λ c. no-nine (c .before .before .args .s .now) (c .if1 .taken))
     (λ c. search needs)
     (λ c. no-feed (c .before .before .before .before .args .s .now) (omega arith) (c .if2 .taken))
-    (λ c. search needs)
-    (λ c. search needs)
-    (λ c. search needs)
-    (λ c κs. search needs)
+    (λ c. search needs) (λ c. search needs) (λ c. search needs) (λ c κs. search needs)
     returns-3
-    (λ c. search needs)
-    (λ c. search needs)
-    (λ c. search needs)
-    (λ c κs. search needs)
+    (λ c. search needs) (λ c. search needs) (λ c. search needs) (λ c κs. search needs)
     returns-4)

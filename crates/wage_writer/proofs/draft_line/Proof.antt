@@ -1,5 +1,5 @@
 -- `wage_writer::draft_line` meets its contract: the blanks are dressed, and all places drafted. Assumes nothing.
-use borrow.Author.Needs.{needs}
+use Rattle.refusal.proofs.Basics.{needs}
 use Rattle.bare_line.proofs.Theorems.{bare}
 use Rattle.wage_writer.proofs.Laws.{all-places}
 use Rattle.wage_writer.proofs.draft_line.Statement.{statement}

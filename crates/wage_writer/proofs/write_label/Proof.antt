@@ -1,7 +1,5 @@
 -- `wage_writer::write_label` meets its contract: the sizes, the day, then the line. Assumes nothing.
-use mathlib.Core.Path.{sym, _∙_}
-use borrow.Author.Tests.{not-true, not-false}
-use borrow.Author.Needs.{needs}
+use Rattle.refusal.proofs.Basics.{sym, _∙_, needs, not-true, not-false}
 use Rattle.line_room.proofs.Laws.{day-wrong, day-right}
 use Rattle.wage_writer.proofs.Laws.{sizes-wrong, sizes-right}
 use Rattle.wage_writer.specs.Writer.{labelAnswer}
@@ -26,14 +24,10 @@ returns-3 c =
 
 pub write-label-spec : {M : Type 1} → statement M
 write-label-spec =
-    tie.close
-    (tie.spec
-    (λ c κs. search needs)
-    (λ c κs. search needs)
+    tie.close (tie.spec
+    (λ c κs. search needs) (λ c κs. search needs)
     returns
-    (λ c κs. search needs)
-    (λ c κs. search needs)
+    (λ c κs. search needs) (λ c κs. search needs)
     returns-2
-    (λ c κs. search needs)
-    (λ c. search needs)
+    (λ c κs. search needs) (λ c. search needs)
     returns-3)

@@ -1,5 +1,5 @@
 -- `wage_writer::write_line` meets its contract: a refused draft leaves the room as it was, and another's line is put. Assumes nothing.
-use borrow.Author.Needs.{needs}
+use Rattle.refusal.proofs.Basics.{needs}
 use Rattle.wage_writer.proofs.Laws.{draft-refused, draft-written}
 use Rattle.wage_writer.proofs.write_line.Statement.{statement}
 use Rattle.wage_writer.proofs.write_line.Tie as tie
@@ -12,13 +12,8 @@ returns-2 c = draft-written _ _ _ (c .before .before .before .before .before .be
 
 pub write-line-spec : {M : Type 1} → statement M
 write-line-spec =
-    tie.close
-    (tie.spec
-    (λ c. search needs)
-    (λ c κs. search needs)
-    (λ c. search needs)
+    tie.close (tie.spec
+    (λ c. search needs) (λ c κs. search needs) (λ c. search needs)
     returns
-    (λ c. search needs)
-    (λ c κs. search needs)
-    (λ c. search needs)
+    (λ c. search needs) (λ c κs. search needs) (λ c. search needs)
     returns-2)

@@ -1,8 +1,6 @@
 -- `wagefile::read_lines` is safe and ends. The loop's invariant: the lent buffer keeps its length. The measure is the number of turns left.
 -- Assumes nothing.
-use mathlib.Core.Path.{_≡_, refl, _∙_}
-use native.Mathlib.Omega.{arith}
-use lib.ListN.{length}
+use Rattle.refusal.proofs.Basics.{_≡_, refl, _∙_, arith, length}
 use Rattle.wagefile.proofs.read_lines.Statement.{statement}
 use Rattle.wagefile.proofs.read_lines.Tie as tie
 
@@ -23,16 +21,12 @@ same-length-2 c = c .before .loop .inv
 
 pub read-lines-spec : {M : Type 1} → statement M
 read-lines-spec =
-    tie.close
-    (tie.spec
+    tie.close (tie.spec
     Inv-loop
     μ-loop
-    (λ c. refl)
-    (λ c κs. tt)
+    (λ c. refl) (λ c κs. tt)
     same-length
-    (λ c. tt)
-    (λ c. omega arith)
-    (λ c. omega arith)
+    (λ c. tt) (λ c. omega arith) (λ c. omega arith)
     loop-again
     same-length-2
     (λ c. tt))

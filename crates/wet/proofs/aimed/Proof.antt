@@ -1,8 +1,5 @@
 -- `wet::aimed` meets its contract: the filled text stands at the front of the array. Assumes nothing.
-use mathlib.Core.Path.{sym, _∙_}
-use native.Mathlib.Omega.{arith}
-use lib.Seq.{length-take-le}
-use borrow.Author.Needs.{needs}
+use Rattle.refusal.proofs.Basics.{sym, _∙_, needs, arith, length-take-le}
 use Rattle.filling.proofs.Laws.{filled-front}
 use Rattle.wet.proofs.aimed.Statement.{statement}
 use Rattle.wet.proofs.aimed.Tie as tie
@@ -24,14 +21,9 @@ returns-2 c =
 
 pub aimed-spec : {M : Type 1} → statement M
 aimed-spec =
-    tie.close
-    (tie.spec
-    (λ c. search needs)
-    (λ c κs. search needs)
-    (λ c. search needs)
+    tie.close (tie.spec
+    (λ c. search needs) (λ c κs. search needs) (λ c. search needs)
     slice-aggregate-parts
-    (λ c κs. search needs)
-    (λ c. search needs)
-    (λ c. search needs)
+    (λ c κs. search needs) (λ c. search needs) (λ c. search needs)
     returns
     returns-2)

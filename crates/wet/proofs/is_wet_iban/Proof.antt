@@ -1,10 +1,7 @@
 -- `wet::is_wet_iban` meets its contract: each return is the definition's choice on the tests that led there. Assumes nothing.
-use mathlib.Core.Path.{ap, _∙_}
-use borrow.Author.Tests.{ne-eqb, eq-eqb}
-use borrow.Author.Needs.{needs}
+use Rattle.refusal.proofs.Basics.{ap, _∙_, needs, ne-eqb, eq-eqb, and-first, and-second}
 use Rattle.text.specs.Bytes.{allOf}
 use Rattle.classes.specs.declared.Class.the-variants.{WetAccount}
-use Rattle.classes.proofs.Choices.{and-first, and-second}
 use Rattle.text.proofs.Laws.{to-the-end}
 use Rattle.wet.proofs.Accepts.{short-is-not-wet}
 use Rattle.wet.proofs.is_wet_iban.Statement.{statement}
@@ -26,15 +23,11 @@ returns-4 c =
 
 pub is-wet-iban-spec : {M : Type 1} → statement M
 is-wet-iban-spec =
-    tie.close
-    (tie.spec
+    tie.close (tie.spec
     returns
     (λ c. search needs)
     returns-2
     (λ c. search needs)
     returns-3
-    (λ c. search needs)
-    (λ c. search needs)
-    (λ c. search needs)
-    (λ c κs. search needs)
+    (λ c. search needs) (λ c. search needs) (λ c. search needs) (λ c κs. search needs)
     returns-4)

@@ -1,9 +1,6 @@
 -- `wet::list_iban` meets its contract: each refusal is the definition's choice on the tests that led there, and the listing over what is
 -- asked of each filling is that over all that the rules ask. Assumes nothing.
-use mathlib.Core.Path.{refl, sym, _∙_}
-use borrow.Author.Tests.{ne-eqb, eq-eqb, not-true, not-false}
-use borrow.Author.Needs.{needs}
-use Rattle.classes.proofs.Choices.{left, entered}
+use Rattle.refusal.proofs.Basics.{refl, sym, _∙_, needs, ne-eqb, eq-eqb, not-true, not-false, left, entered}
 use Rattle.wet.proofs.Accepts.{iban-listed}
 use Rattle.wet.proofs.list_iban.Statement.{statement}
 use Rattle.wet.proofs.list_iban.Tie as tie
@@ -26,14 +23,10 @@ returns-3 c =
 
 pub list-iban-spec : {M : Type 1} → statement M
 list-iban-spec =
-    tie.close
-    (tie.spec
+    tie.close (tie.spec
     (λ c κs. search needs)
     returns
-    (λ c κs. search needs)
-    (λ c κs. search needs)
+    (λ c κs. search needs) (λ c κs. search needs)
     returns-2
-    (λ c κs. search needs)
-    (λ c κs. search needs)
-    (λ c. search needs)
+    (λ c κs. search needs) (λ c κs. search needs) (λ c. search needs)
     returns-3)

@@ -1,7 +1,5 @@
 -- `wet::list_model` meets its contract: 7, else the listing by what is found of one filling. Assumes nothing.
-use mathlib.Core.Path.{refl}
-use borrow.Author.Tests.{not-true, not-false}
-use borrow.Author.Needs.{needs}
+use Rattle.refusal.proofs.Basics.{refl, needs, not-true, not-false}
 use Rattle.wet.proofs.Accepts.{reference-listed}
 use Rattle.wet.proofs.list_model.Statement.{statement}
 use Rattle.wet.proofs.list_model.Tie as tie
@@ -17,11 +15,8 @@ returns-2 c =
 
 pub list-model-spec : {M : Type 1} → statement M
 list-model-spec =
-    tie.close
-    (tie.spec
+    tie.close (tie.spec
     (λ c κs. search needs)
     returns
-    (λ c κs. search needs)
-    (λ c κs. search needs)
-    (λ c. search needs)
+    (λ c κs. search needs) (λ c κs. search needs) (λ c. search needs)
     returns-2)

@@ -1,6 +1,5 @@
 -- `wet::list_numbered` meets its contract: the arm says the number. Assumes nothing.
-use mathlib.Core.Path.{refl, sym}
-use borrow.Author.Needs.{needs}
+use Rattle.refusal.proofs.Basics.{refl, sym, needs}
 use Rattle.wet.proofs.list_numbered.Statement.{statement}
 use Rattle.wet.proofs.list_numbered.Tie as tie
 
@@ -12,13 +11,7 @@ returns-2 c = rw (c .before .enum-told .given .1) (rw (c .nowhere .ensures), ref
 
 pub list-numbered-spec : {M : Type 1} → statement M
 list-numbered-spec =
-    tie.close
-    (tie.spec
-    (λ c. search needs)
-    (λ c κs. search needs)
-    (λ c κs. search needs)
-    (λ c. search needs)
-    (λ c κs. search needs)
-    (λ c. search needs)
+    tie.close (tie.spec
+    (λ c. search needs) (λ c κs. search needs) (λ c κs. search needs) (λ c. search needs) (λ c κs. search needs) (λ c. search needs)
     returns
     returns-2)

@@ -1,11 +1,6 @@
 -- `wet::list_reference` meets its contract: each refusal is the definition's choice on the tests that led there. Assumes nothing.
-use mathlib.Core.Path.{refl, sym, _∙_}
-use native.Mathlib.Omega.{arith}
-use lib.ListN.{length}
-use borrow.Author.Tests.{not-true, not-false, lt-leb, le-leb}
-use borrow.Author.Needs.{needs}
+use Rattle.refusal.proofs.Basics.{refl, sym, _∙_, needs, arith, length, not-true, not-false, lt-leb, le-leb, left, entered}
 use Rattle.text.specs.Bytes.{marks}
-use Rattle.classes.proofs.Choices.{left, entered}
 use Rattle.wet.proofs.list_reference.Statement.{statement}
 use Rattle.wet.proofs.list_reference.Tie as tie
 
@@ -40,17 +35,12 @@ returns-4 c =
 
 pub list-reference-spec : {M : Type 1} → statement M
 list-reference-spec =
-    tie.close
-    (tie.spec
+    tie.close (tie.spec
     (λ c κs. search needs)
     returns
-    (λ c κs. search needs)
-    (λ c κs. search needs)
+    (λ c κs. search needs) (λ c κs. search needs)
     returns-2
-    (λ c κs. search needs)
-    (λ c κs. search needs)
+    (λ c κs. search needs) (λ c κs. search needs)
     returns-3
-    (λ c κs. search needs)
-    (λ c κs. search needs)
-    (λ c. search needs)
+    (λ c κs. search needs) (λ c κs. search needs) (λ c. search needs)
     returns-4)

@@ -1,9 +1,5 @@
 -- `words::read_full` is safe and ends: each turn reads at least a byte more. Assumes nothing.
-use mathlib.Core.Path.{_≡_, refl, _∙_}
-use Prim.Native.Nat.{_-_, _≤_}
-use native.Mathlib.Omega.{arith}
-use borrow.Author.Needs.{needs}
-use lib.ListN.{length}
+use Rattle.refusal.proofs.Basics.{_≡_, refl, _∙_, needs, arith, _-_, _≤_, length}
 use Rattle.words.proofs.read_full.Statement.{statement}
 use Rattle.words.proofs.read_full.Tie as tie
 
@@ -15,13 +11,11 @@ abbrev μ-loop : tie.MeasureT-loop
 
 pub read-full-spec : {M : Type 1} → statement M
 read-full-spec =
-    tie.close
-    (tie.spec
+    tie.close (tie.spec
     Inv-loop
     μ-loop
     (λ c. (refl, omega arith))
-    (λ c κs. search needs)
-    (λ c κs. search needs)
+    (λ c κs. search needs) (λ c κs. search needs)
     (λ c. c .before .before .before .before .before .read-behind .kept .0 ∙ c .before .before .before .before .before .before .before .before .loop .inv .0)
     (λ c. tt)
     (λ c. let k = c .before .before .before .before .before .read-behind .kept .0 in omega arith)

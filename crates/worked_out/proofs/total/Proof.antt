@@ -1,8 +1,5 @@
 -- `worked_out::total` meets its contract. The loop's invariant: the whole sum is `sum` with the amounts from `at` on. Assumes nothing.
-use mathlib.Core.Path.{_≡_, sym, _∙_}
-use Prim.Native.Nat.{_+_, _-_}
-use native.Mathlib.Omega.{arith}
-use lib.ListN.{length, take, drop}
+use Rattle.refusal.proofs.Basics.{_≡_, sym, _∙_, arith, _+_, _-_, length, take, drop}
 use Rattle.sums.specs.Sums.{centsOf, sumOf, added, numberIn}
 use Rattle.sums.proofs.Laws.{no-cents}
 use Rattle.wage_places.specs.declared.LineType.the-variants.{Order}
@@ -69,8 +66,7 @@ returns c =
 
 pub total-spec : {M : Type 1} → statement M
 total-spec =
-    tie.close
-    (tie.spec
+    tie.close (tie.spec
     Inv-loop
     μ-loop
     find-requires
