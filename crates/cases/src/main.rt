@@ -22,7 +22,7 @@ use text::front;
 use words::say;
 
 fn main() {
-    let mut input = [0u8; 200000];
+    let mut input = [0u8; 150000];
     let n = io::read_full(0, &mut input);
     answer_all(front(&input, n));
 }

@@ -21,7 +21,7 @@ use text::front;
 use words::say;
 
 fn main() {
-    let mut input = [0u8; 300000];
+    let mut input = [0u8; 200000];
     let n = io::read_full(0, &mut input);
     let mut memory = [0u8; 1100];
     let mut kept = [0u8; 8016];
