@@ -20,7 +20,7 @@ from .explain import Shown, count, money
 from .judging import Accepted, Judging
 from .refusal import LANGUAGES, Refusal
 from .scan import scanned
-from .tables import FIELDS, VERSION
+from .tables import VERSION
 
 PROGRAM = "lanecockle"
 
@@ -361,7 +361,7 @@ def _slip(asked: argparse.Namespace, language: str) -> Answer:
         shown = explain.of_slip(refusal, data, language)
         mended = [_say("scan", language)] if _is_slip(scanned(data)) else []
         return _refused(shown._replace(hints=shown.hints + mended), language)
-    fields = _fields(data, language)
+    fields = explain.slip_fields(data, language)
     lines = [_say("accepted", language)] + ([_say("changed", language)] if data != read else [])
     for field in fields:
         content = money(cents, language) if field["number"] == 3 else field["content"]
@@ -375,15 +375,6 @@ def _is_slip(data: bytes) -> bool:
     except Refusal:
         return False
     return True
-
-
-def _fields(slip: bytes, language: str) -> List[Dict[str, Any]]:
-    """The fourteen fields of an accepted slip, with their names."""
-    at = LANGUAGES.index(language)
-    return [
-        {"number": number, "name": FIELDS["slip", number].name[at], "content": content.decode()}
-        for number, content in enumerate(slip.split(b"\n")[:14], 1)
-    ]
 
 
 def _wage(asked: argparse.Namespace, language: str) -> Answer:
@@ -487,10 +478,7 @@ def _digit(asked: argparse.Namespace, language: str) -> Answer:
 def _text_refused(
     refusal: Refusal, what: str, model: Optional[bytes], text: bytes, language: str, placed: bool = False,
 ) -> Answer:
-    """A typed text refused; of a reference 5 and 7 are said of its model."""
-    if model is not None and refusal.number in (5, 7):
-        what, text = "model", model
-    return _refused(explain.of_text(refusal, what, text, language, placed, model or b""), language)
+    return _refused(explain.of_text(refusal, what, text, language, placed, model), language)
 
 
 _COMMANDS: Dict[str, Callable[[argparse.Namespace, str], Answer]] = {

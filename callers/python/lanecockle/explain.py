@@ -1,7 +1,7 @@
 """A refusal shown as a person would show it: its place by name, what stands there with a mark, the rule, and hints."""
 
 import unicodedata
-from typing import Dict, List, NamedTuple, Tuple
+from typing import Dict, List, NamedTuple, Optional, Tuple
 
 from . import hints
 from .calls import LINE
@@ -170,18 +170,30 @@ def of_wage(refusal: Refusal, start: bytes, line: bytes, record: Record, day: in
 
 
 def of_text(
-    refusal: Refusal, what: str, text: bytes, language: str, placed: bool = False, model: bytes = b"",
+    refusal: Refusal, what: str, text: bytes, language: str, placed: bool = False, model: Optional[bytes] = None,
 ) -> Shown:
     """The refusal of a typed text: "iban", "oib", "reference" (with its model, if given), "model" or "digits".
 
-    `placed` says that the call tells the byte of a 3, so that byte 0 is the first one; a listing and a check digit tell
-    none.
+    5 and 7 of a reference are shown of its model. `placed` says that the call tells the byte of a 3, so that byte 0 is
+    the first one; a listing and a check digit tell none.
     """
-    said = hints.of_text(what, text, refusal, language, model)
+    if model is not None and refusal.number in (5, 7):
+        what, text = "model", model
+    said = hints.of_text(what, text, refusal, language, model or b"")
     decoded = _decoded(text)
     told = refusal.number == 3 and (placed or refusal.tells_byte())
     mark = _character(decoded, refusal.byte) if told else -1
     return _shown(refusal, _visible(decoded), mark, said, language)
+
+
+def slip_fields(slip: bytes, language: str) -> List[Dict[str, object]]:
+    """The fields of an accepted slip, for JSON: number, name and content."""
+    at = LANGUAGES.index(language)
+    fields = [field for field in FIELDS.values() if field.layout == "slip"]
+    return [
+        {"number": field.number, "name": field.name[at], "content": content.decode()}
+        for field, content in zip(fields, slip.split(b"\n"))
+    ]
 
 
 def money(cents: int, language: str) -> str:
