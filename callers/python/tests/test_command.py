@@ -178,7 +178,7 @@ class TenMistakes(Case):
         self.assert_mistake(["iban", "HR12 1001 0051 8630 0016 0"], (3, 0, 0, 4), " 1001 0051", *words)
 
     def test_8_tab(self) -> None:
-        words = ["is a tab", "Write a blank"], ["tabulator", "upišite razmak"]
+        words = ["is a tab", "Write a blank"], ["tabulator", "upišite prazninu"]
         self.assert_mistake(self.slip(SLIP.replace(b"za 1.", b"za\t1.")), (3, 0, 14, 192), "␉1. mjesec", *words)
         self.assert_mistake(self.wage(with_bytes(file_of_two(), 4, 213, b"\t")), (3, 4, 9, 213), "␉/2024", *words)
 

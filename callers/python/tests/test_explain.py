@@ -263,6 +263,22 @@ class Figures(unittest.TestCase):
                           "orders: declared 1, counted 2 with this line",
                           "broj naloga: upisano 1, s ovim slogom prebrojeno 2")
 
+    def test_the_group_is_told(self) -> None:
+        """By its 301 line, which stands before the refused line by the orders that were counted."""
+        lines = lines_of(file_of_two())
+        for place, value, number, told, croatian in (
+            (52, b"1", 12, "line 2. Correct the number", "slog 2. Ispravite broj"),
+            (52, b"3", 12, "line 2. Correct the number", "slog 2. Ispravite broj"),
+            (72, b"5", 13, "line 2. Correct the sum", "slog 2. Ispravite zbroj"),
+        ):
+            wrong = changed(2, place, value)
+            behind = b"".join(lines[:4]) + wrong[LINE:]
+            for file, line in ((wrong, 2), (behind, 5)):
+                with self.subTest(value=value, number=number, line=line):
+                    self.assertEqual(wage_shown(file).number, number)
+                    self.assertIn(told.replace("2", str(line)), wage_shown(file).hints[0])
+                    self.assertIn(croatian.replace("2", str(line)), wage_shown(file, "hr").hints[0])
+
     def test_sum(self) -> None:
         self.assert_shown(changed(2, 72, b"5"), (13, 5), {"declared": 10**15 + 12355, "summed": 10**15 + 12354},
                           "sum: declared 10,000,000,000,123.55 EUR, summed 10,000,000,000,123.54 EUR",
