@@ -368,7 +368,9 @@ def serve(port: int = 0, open_browser: bool = True, language: str = "en") -> int
     try:
         server = make_server(port, language)
     except (OSError, OverflowError) as failure:
-        print(f"lanecockle page: port {port}: {failure}", file=sys.stderr)
+        why = failure.strerror if isinstance(failure, OSError) else failure
+        said = "port {} se ne može otvoriti: {}" if language == "hr" else "port {} cannot be opened: {}"
+        print("lanecockle: " + said.format(port, why), file=sys.stderr)
         return 2
     with server:
         print(server.address, flush=True)

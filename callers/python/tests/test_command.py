@@ -528,12 +528,26 @@ class Usage(Case):
                 self.assert_failed(ran, words)
                 self.assertIn("--help", ran.err)
 
+    def test_wrong_usage_in_croatian(self) -> None:
+        for asked, words in (
+            ([], "nedostaje: NAREDBA"), (["slop"], "NAREDBA: 'slop' nije jedno od: "),
+            (["slip", "a", "b"], "nepoznato: b"), (["wage", "--day"], "--day: nedostaje vrijednost"),
+            (["wage", "--day", "2024"], "--day: '2024' nije GGGGMMDD"), (["page", "--port", "x"], "--port: 'x' nije port"),
+            (["slip", "--scan=1"], "--scan: vrijednost '1' ovdje nije dozvoljena"),
+        ):
+            with self.subTest(asked=asked):
+                ran = run("--lang", "hr", *asked)
+                self.assert_failed(ran, words)
+                self.assertIn("(pomoć: ", ran.err)
+        self.assertIn("[--day GGGGMMDD]", run("wage", "--help", "--lang", "hr").out)
+
     def test_unreadable(self) -> None:
         for name in ("slip", "wage"):
             missing = str(self.folder / "none")
             self.assert_failed(run(name, missing), missing)
             self.assert_failed(run(name, missing, "--json"), missing)
-            self.assert_failed(run(name, str(self.folder), "--lang", "hr"), "ne može se pročitati")
+            self.assert_failed(run(name, str(self.folder), "--lang", "hr"), "ne može se pročitati: to je mapa")
+            self.assert_failed(run(name, missing, "--lang", "hr"), "ne može se pročitati: ne postoji")
 
     def test_one_line_of_whatever_name(self) -> None:
         self.assert_failed(run("slip", str(self.folder / "a\n\x1B[2Jb\udcff")), "a··[2Jb·")
