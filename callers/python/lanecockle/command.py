@@ -466,7 +466,7 @@ def _wet(asked: argparse.Namespace, language: str) -> Answer:
             texts = list_reference(model, text, texts=True)
     except Refusal as refusal:
         return _text_refused(refusal, "iban" if model is None else "reference", model, text, language)
-    fillings = [cast(bytes, filling).decode() for filling in texts]
+    fillings = [filling.decode() for filling in texts]
     facts = {"count": len(fillings), "fillings": fillings}
     return Answer(True, facts, "\n".join([_say("fillings", language, len(fillings))] + fillings))
 

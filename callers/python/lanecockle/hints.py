@@ -101,17 +101,17 @@ HINTS: Dict[str, Tuple[str, str]] = {
         "Graničnika LF ima trinaest, a na kraju ga nema: zadnji je izgubljen. Dodajte ga sami ili pozivom `scanned` "
         "(`slip --scan`)."),
     "feed_doubled": (
-        "There are {count} line feeds instead of fourteen, and the surplus is at the very end. Take it off, or let "
+        "The number of line feeds is {count}, not fourteen, and the surplus is at the very end. Take it off, or let "
         "`scanned` (`slip --scan`) do it.",
         "Graničnika LF ima {count} umjesto četrnaest, a višak je na samom kraju. Uklonite ga sami ili pozivom "
         "`scanned` (`slip --scan`)."),
     "feeds_few": (
-        "There are {count} line feeds instead of fourteen: fields are missing. An empty field has its LF too; write "
-        "all fourteen.",
+        "The number of line feeds is {count}, not fourteen: fields are missing. An empty field has its LF too; write all "
+        "fourteen.",
         "Graničnika LF ima {count} umjesto četrnaest: nedostaju polja. I prazno polje ima svoj graničnik LF; upišite "
         "svih četrnaest."),
     "feeds_many": (
-        "There are {count} line feeds instead of fourteen: one stands inside a field, or there are too many fields. "
+        "The number of line feeds is {count}, not fourteen: one stands inside a field, or there are too many fields. "
         "Take out the surplus.",
         "Graničnika LF ima {count} umjesto četrnaest: neki stoji unutar polja ili polja ima previše. Uklonite višak."),
     "feed_not_last": (
@@ -199,6 +199,12 @@ HINTS: Dict[str, Tuple[str, str]] = {
     "fixed": (
         "The content is {length} characters long, and exactly {width} are due. Look for what is missing or too much.",
         "Duljina podatka je {length}, a mora biti točno {width}. Provjerite što nedostaje ili je suvišno."),
+    "iban_form": (
+        "An IBAN is HR and nineteen digits. Compare it with the paper.",
+        "IBAN se sastoji od HR i devetnaest znamenki. Usporedite ga s izvornikom."),
+    "digits": (
+        "Digits alone are permitted, in a reference hyphens too. Compare it with the paper.",
+        "Dozvoljene su samo znamenke, a u pozivu na broj i crtice. Usporedite podatak s izvornikom."),
     "foreign": (
         "The IBAN begins with {country}, and only accounts of Croatia (HR) are handled. For an account abroad use "
         "another kind of order.",
@@ -350,7 +356,7 @@ def of_text(what: str, text: bytes, refusal: Refusal, language: str, model: byte
     content = _Content(what, _utf8(text), FIELDS[place] if place else None, _utf8(model))
     if not text and refusal.number in (1, 4):
         return _said([("empty", {})], language)
-    return _said(_content(content, refusal.number), language)
+    return _said(list(_content(content, refusal.number)) or _plain(content, refusal.number), language)
 
 
 def _said(found: Iterable[_Found], language: str) -> List[str]:
@@ -677,6 +683,14 @@ def _content(content: _Content, number: int) -> Iterator[_Found]:
         yield "digit", {}
     elif number == 16:
         yield "marks", {"count": content.text.count("?")}
+
+
+def _plain(content: _Content, number: int) -> Iterator[_Found]:
+    """What a typed text is to be, where its characters show nothing."""
+    if number == 1:
+        yield from _length(content)
+    elif number in (3, 5):
+        yield ("iban_form" if content.kind == "iban" else "digits"), {}
 
 
 def _characters(content: _Content) -> Iterator[_Found]:

@@ -95,7 +95,7 @@ def _wet(asked: Dict[str, str], language: str) -> Answer:
     """The fillings of an IBAN, or of a reference under its model."""
     model, text = _typed(asked)
     try:
-        numbers = cast(List[int], list_iban(text) if model is None else list_reference(model, text))
+        numbers = list_iban(text) if model is None else list_reference(model, text)
     except Refusal as refusal:
         what = "iban" if model is None else "reference"
         return _refused(of_text(refusal, what, text, language, model=model), language)

@@ -414,12 +414,13 @@ class Texts(Case):
         self.text("iban", right + b"1", [("fixed", {"length": 22, "width": 21})], right)
         self.text("iban", b"DE1210010051863000160", [("foreign", {"country": "DE"})], right)
         self.text("iban", b"HR1310010051863000160", [("iban", {})], right)
+        self.text("iban", b"HRX210010051863000160", [("iban_form", {})], right)
 
     def test_oib(self) -> None:
         right = b"12345678903"
         self.text("oib", b"12345678904", [("oib", {})], right)
         self.text("oib", b"123 456 789 03", [("blank", {"at": 4})], right)
-        self.text("oib", b"1234567890E", [], right)
+        self.text("oib", b"1234567890E", [("digits", {})], right)
         self.text("oib", b"I2345678903", [("lookalike", {"at": 1, "seen": "I", "meant": "1"})], right)
         self.text("oib", b"1234567890", [("fixed", {"length": 10, "width": 11})], right)
 
@@ -458,6 +459,8 @@ class Texts(Case):
         self.check(say, ("iban", b"HR?????10051863000160"), [("marks", {"count": 5})], wet)
         self.check(say, ("reference", b"??????"), [("marks", {"count": 6})], ("reference", b"????"))
         self.check(say, ("iban", b"HR?? 1001"), [("blank", {"at": 5})], ("iban", b"HR??10010051863000160"))
+        self.check(say, ("iban", b"HR??1001005186300016"), [("fixed", {"length": 20, "width": 21})], wet)
+        self.check(say, ("reference", b"1" * 23), [("too_long", {"length": 23, "width": 22})], ("reference", b"1?"))
 
 
 class Said(Case):
