@@ -14,8 +14,8 @@ from unittest import mock
 
 from lanecockle import LINE, __version__, command
 from lanecockle.judging import Judging
-from tests.test_calls import DAY, SLIP_FIELDS, file_of_two, replaced, slip_of
-from tests.test_judging import file_of, with_bytes
+from tests.test_calls import DAY, SLIP_FIELDS, file_of_two, replaced, slip_of, with_bytes
+from tests.test_judging import file_of
 
 PYTHON = Path(__file__).resolve().parents[1]
 ON_DAY = ("--day", str(DAY))

@@ -7,24 +7,19 @@ from unittest import mock
 
 from lanecockle import LINE, Judge, Record, Refusal, iban, list_iban, slip_read
 from lanecockle.explain import Shown, money, of_slip, of_text, of_wage
-from tests.test_calls import DAY, SLIP_FIELDS, file_of_two, lines_of, replaced, slip_of
+from tests.test_calls import DAY, SLIP_FIELDS, file_of_two, lines_of, refused, replaced, slip_of, with_bytes
 
 
 def refusal_of(call: Any, *lent: Any) -> Refusal:
     """The refusal that a call raises."""
-    try:
-        call(*lent)
-    except Refusal as refusal:
-        return refusal
-    raise AssertionError("the call accepts")
+    refusal = refused(call, *lent)
+    assert refusal is not None, "the call accepts"
+    return refusal
 
 
 def changed(line: int, byte: int, value: bytes) -> bytes:
     """The file of two orders with other bytes in a line."""
-    file = bytearray(file_of_two())
-    at = (line - 1) * LINE + byte
-    file[at:at + len(value)] = value
-    return bytes(file)
+    return with_bytes(file_of_two(), line, byte, value)
 
 
 def wage_shown(file: bytes, language: str = "en", day: int = DAY) -> Shown:

@@ -11,7 +11,7 @@ from lanecockle import (
 )
 from lanecockle.hints import HINTS, MODELS, MOST, _KINDS, of_slip, of_text, of_wage
 from lanecockle.refusal import LANGUAGES
-from tests.test_calls import DAY, SLIP_FIELDS, file_of_two, lines_of, slip_of
+from tests.test_calls import DAY, SLIP_FIELDS, file_of_two, lines_of, refused, slip_of, with_bytes
 
 #: A hint that is awaited: its name and what its places are filled with.
 Awaited = Tuple[str, Dict[str, object]]
@@ -32,24 +32,15 @@ def slip_with(number: int, content: str, *more: str) -> bytes:
 
 def file_with(line: int, *places: Any) -> bytes:
     """The file with other contents in a line: a position, from 1, and bytes, and so on."""
-    file = bytearray(file_of_two())
+    file = file_of_two()
     for position, content in zip(places[::2], places[1::2]):
-        at = (line - 1) * LINE + position - 1
-        file[at:at + len(content)] = content
-    return bytes(file)
+        file = with_bytes(file, line, position - 1, content)
+    return file
 
 
 def cut(file: bytes, at: int, count: int, put: bytes = b"") -> bytes:
     """A file without some bytes, and with others in their place."""
     return file[:at] + put + file[at + count:]
-
-
-def refused(call: Callable[..., Any], *lent: Any) -> Optional[Refusal]:
-    try:
-        call(*lent)
-    except Refusal as refusal:
-        return refusal
-    return None
 
 
 def of_a_slip(data: bytes, language: str) -> Optional[List[str]]:
