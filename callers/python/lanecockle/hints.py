@@ -84,7 +84,7 @@ HINTS: Dict[str, Tuple[str, str]] = {
         "A slip's text has digits, blanks, the letters A to Z, Č, Ć, Đ, Š and Ž, capital or small, and `, . : - + ? ' / ( "
         ")`. Write another character in its place, or leave it out.",
         "Tekst uplatnice ima znamenke, praznine, slova A do Z, Č, Ć, Đ, Š i Ž, velika ili mala, te znakove `, . : - + ? ' "
-        "/ ( )`. Umjesto ovoga upišite neki od njih ili ga izostavite."),
+        "/ ( )`. Umjesto ovog znaka upišite neki od njih ili ga izostavite."),
     # Line ends of a slip.
     "slip_ends": (
         "Fields end in {seen} here; in a slip they end in LF alone. Take the reader's bytes as they are, or let "
