@@ -57,7 +57,7 @@ install: $(STATIC) $(SHARED) $(PROGRAMS)
 	@chmod 644 $(DESTDIR)$(LIBDIR)/pkgconfig/lanecockle.pc
 	@install -m 644 $(DOCS) $(DESTDIR)$(DOCDIR)
 	@echo "installed: lanecockle $(VERSION) in $(DESTDIR)$(PREFIX)"
-	@[ -n "$(DESTDIR)" ] || echo "run ldconfig, so that programs find $(SONAME)"
+	@[ -n "$(DESTDIR)" ] || echo "so that programs find $(SONAME): run ldconfig, or set LD_LIBRARY_PATH to $(LIBDIR)"
 
 uninstall:
 	@rm -f $(addprefix $(DESTDIR)$(BINDIR)/,$(notdir $(PROGRAMS))) $(DESTDIR)$(INCLUDEDIR)/lanecockle.h

@@ -4,7 +4,7 @@ import ctypes
 import datetime
 from ctypes import c_size_t, c_uint16
 from enum import IntEnum
-from typing import Any, List, NamedTuple, Sequence, Tuple, Union
+from typing import Any, List, Literal, NamedTuple, Sequence, Tuple, Union, overload
 
 from .library import Ended, Part, Record, Valued, load
 from .refusal import Refusal, accept
@@ -147,6 +147,10 @@ def reference(model: Bytes, text: Bytes) -> None:
 # Wet slips
 
 
+@overload
+def list_iban(text: Bytes, texts: Literal[False] = False) -> List[int]: ...
+@overload
+def list_iban(text: Bytes, texts: Literal[True]) -> List[bytes]: ...
 def list_iban(text: Bytes, texts: bool = False) -> Union[List[int], List[bytes]]:
     """The fillings of an IBAN with `?` for up to four unreadable digits: their numbers, ascending, or the filled texts.
 
@@ -158,6 +162,10 @@ def list_iban(text: Bytes, texts: bool = False) -> Union[List[int], List[bytes]]
     return _listed("list_iban", _lent(text), text, texts)
 
 
+@overload
+def list_reference(model: Bytes, text: Bytes, texts: Literal[False] = False) -> List[int]: ...
+@overload
+def list_reference(model: Bytes, text: Bytes, texts: Literal[True]) -> List[bytes]: ...
 def list_reference(model: Bytes, text: Bytes, texts: bool = False) -> Union[List[int], List[bytes]]:
     """The fillings of a reference under its model, as list_iban gives those of an IBAN.
 

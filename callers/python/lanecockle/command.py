@@ -3,6 +3,7 @@
 import argparse
 import contextlib
 import datetime
+import errno
 import io
 import json
 import os
@@ -20,7 +21,7 @@ from .explain import Shown, count, money
 from .judging import Accepted, Judging
 from .refusal import LANGUAGES, Refusal
 from .scan import scanned
-from .tables import FIELDS, VERSION
+from .tables import VERSION
 
 PROGRAM = "lanecockle"
 
@@ -84,6 +85,29 @@ _HELP: Dict[str, Tuple[str, str]] = {
     "day": ("the day of submission, YYYYMMDD (today if none)", "dan podnošenja, GGGGMMDD (inače današnji)"),
     "port": ("the port (a free one if none)", "port (inače bilo koji slobodan)"),
     "no-browser": ("open no browser", "ne otvaraj preglednik"),
+}
+
+
+#: What --help calls an argument in Croatian, by its name in English.
+_NAMES = {
+    "COMMAND": "NAREDBA", "FILE": "DATOTEKA", "TEXT": "TEKST", "RULE": "PRAVILO", "DIGITS": "ZNAMENKE",
+    "YYYYMMDD": "GGGGMMDD",
+}
+
+#: What argparse and the types below say of wrong usage, and the same in Croatian.
+_USAGE: List[Tuple[str, str]] = [
+    (r"the following arguments are required: (.*)", "nedostaje: {}"),
+    (r"unrecognized arguments: (.*)", "nepoznato: {}"),
+    (r"argument (.*?): invalid choice: (.*?) \(choose from (.*)\)", "{}: {} nije jedno od: {}"),
+    (r"argument (.*?): expected one argument", "{}: nedostaje vrijednost"),
+    (r"argument (.*?): ignored explicit argument (.*)", "{}: vrijednost {} ovdje nije dozvoljena"),
+    (r"argument (.*?): not YYYYMMDD: (.*)", "{}: {} nije GGGGMMDD"),
+    (r"argument (.*?): not a port: (.*)", "{}: {} nije port"),
+]
+
+#: Why a file cannot be read, in Croatian; other reasons as the system says them.
+_REASONS = {
+    errno.ENOENT: "ne postoji", errno.EACCES: "nema dozvole", errno.EISDIR: "to je mapa, a ne datoteka",
 }
 
 
@@ -166,7 +190,13 @@ class _Parser(argparse.ArgumentParser):
     def take(self, *names: str, word: str, **given: Any) -> None:
         """Takes an argument or, by names with hyphens, an option."""
         group = self.options if names[0].startswith("-") else self.taken
+        if "metavar" in given:
+            given["metavar"] = self.named(given["metavar"])
         group.add_argument(*names, help=self.help_of(word), **given)
+
+    def named(self, name: str) -> str:
+        """What help calls an argument."""
+        return _NAMES.get(name, name) if self._language == "hr" else name
 
     def take_common(self) -> None:
         """Takes the options that may stand anywhere."""
@@ -178,7 +208,16 @@ class _Parser(argparse.ArgumentParser):
         _deliver(self.format_help(), self._language)
 
     def error(self, message: str) -> Any:
-        raise Failure(_say("see", self._language, message, self.prog))
+        said = message if self._language == "en" else _usage_in_croatian(message)
+        raise Failure(_say("see", self._language, said, self.prog))
+
+
+def _usage_in_croatian(message: str) -> str:
+    for english, croatian in _USAGE:
+        found = re.fullmatch(english, message, re.DOTALL)
+        if found:
+            return croatian.format(*found.groups())
+    return message
 
 
 def _common() -> _Parser:
@@ -193,7 +232,8 @@ def _parser(language: str) -> _Parser:
     parser = _Parser(language, prog=PROGRAM)
     parser.description, parser.epilog = parser.help_of("about"), parser.help_of("status")
     titled = parser.help_of("commands")
-    commands: Any = parser.add_subparsers(title=titled, dest="command", metavar="COMMAND", required=True)
+    metavar = parser.named("COMMAND")
+    commands: Any = parser.add_subparsers(title=titled, dest="command", metavar=metavar, required=True)
     made: Dict[str, _Parser] = {}
     for name in [*_COMMANDS, "page"]:
         about = parser.help_of(name)
@@ -246,7 +286,13 @@ def _reading(name: str, language: str) -> Iterator[io.BufferedIOBase]:
         with _opened(name) as file:
             yield file
     except OSError as failure:
-        raise Failure(_say("unreadable", language, shown, failure.strerror or failure)) from None
+        raise Failure(_say("unreadable", language, shown, _reason(failure, language))) from None
+
+
+def _reason(failure: OSError, language: str) -> str:
+    """Why the system refused."""
+    told = failure.strerror or str(failure)
+    return told if language == "en" else _REASONS.get(failure.errno or 0, told)
 
 
 def _opened(name: str) -> ContextManager[io.BufferedIOBase]:
@@ -296,7 +342,7 @@ def _deliver(text: str, language: str) -> None:
         # Python writes out what is left once more at its end.
         os.dup2(os.open(os.devnull, os.O_WRONLY), sys.stdout.fileno())
         if not isinstance(failure, BrokenPipeError):
-            raise Failure(_say("unwritable", language, failure.strerror)) from None
+            raise Failure(_say("unwritable", language, _reason(failure, language))) from None
 
 
 class Progress:
@@ -361,7 +407,7 @@ def _slip(asked: argparse.Namespace, language: str) -> Answer:
         shown = explain.of_slip(refusal, data, language)
         mended = [_say("scan", language)] if _is_slip(scanned(data)) else []
         return _refused(shown._replace(hints=shown.hints + mended), language)
-    fields = _fields(data, language)
+    fields = explain.slip_fields(data, language)
     lines = [_say("accepted", language)] + ([_say("changed", language)] if data != read else [])
     for field in fields:
         content = money(cents, language) if field["number"] == 3 else field["content"]
@@ -375,15 +421,6 @@ def _is_slip(data: bytes) -> bool:
     except Refusal:
         return False
     return True
-
-
-def _fields(slip: bytes, language: str) -> List[Dict[str, Any]]:
-    """The fourteen fields of an accepted slip, with their names."""
-    at = LANGUAGES.index(language)
-    return [
-        {"number": number, "name": FIELDS["slip", number].name[at], "content": content.decode()}
-        for number, content in enumerate(slip.split(b"\n")[:14], 1)
-    ]
 
 
 def _wage(asked: argparse.Namespace, language: str) -> Answer:
@@ -429,7 +466,7 @@ def _wet(asked: argparse.Namespace, language: str) -> Answer:
             texts = list_reference(model, text, texts=True)
     except Refusal as refusal:
         return _text_refused(refusal, "iban" if model is None else "reference", model, text, language)
-    fillings = [cast(bytes, filling).decode() for filling in texts]
+    fillings = [filling.decode() for filling in texts]
     facts = {"count": len(fillings), "fillings": fillings}
     return Answer(True, facts, "\n".join([_say("fillings", language, len(fillings))] + fillings))
 
@@ -487,10 +524,7 @@ def _digit(asked: argparse.Namespace, language: str) -> Answer:
 def _text_refused(
     refusal: Refusal, what: str, model: Optional[bytes], text: bytes, language: str, placed: bool = False,
 ) -> Answer:
-    """A typed text refused; of a reference 5 and 7 are said of its model."""
-    if model is not None and refusal.number in (5, 7):
-        what, text = "model", model
-    return _refused(explain.of_text(refusal, what, text, language, placed, model or b""), language)
+    return _refused(explain.of_text(refusal, what, text, language, placed, model), language)
 
 
 _COMMANDS: Dict[str, Callable[[argparse.Namespace, str], Answer]] = {

@@ -1,7 +1,7 @@
 """A refusal shown as a person would show it: its place by name, what stands there with a mark, the rule, and hints."""
 
 import unicodedata
-from typing import Dict, List, NamedTuple, Tuple
+from typing import Dict, List, NamedTuple, Optional, Tuple
 
 from . import hints
 from .calls import LINE
@@ -29,6 +29,14 @@ _WORDS: Dict[str, Tuple[str, str]] = {
     "due": ("A line of type {} is due here.", "Ovdje treba stajati slog {}."),
     "or": (" or ", " ili "),
     "closed": ("Nothing may follow the 399 line.", "Iza sloga 399 ne smije biti više ništa."),
+    "miscounted": ("The group's 301 line is line {}. Correct the number in its field 5, or look for an order that is missing "
+                   "or too many.",
+                   "Slog 301 ove grupe je slog {}. Ispravite broj u njegovu polju 5 ili potražite nalog koji nedostaje ili "
+                   "je suvišan."),
+    "missummed": ("The group's 301 line is line {}. Correct the sum in its field 6, or look for a wrong amount in its "
+                  "orders.",
+                  "Slog 301 ove grupe je slog {}. Ispravite zbroj u njegovu polju 6 ili potražite pogrešan iznos u "
+                  "nalozima."),
 }
 
 _ENDS = {"␍␊": "CR LF", "␊": "LF", "␍": "CR"}
@@ -153,7 +161,7 @@ def of_slip(refusal: Refusal, data: bytes, language: str) -> Shown:
 
 def of_wage(refusal: Refusal, start: bytes, line: bytes, record: Record, day: int, language: str) -> Shown:
     """The refusal of a wage file, whose first bytes are `start`: in `line`, judged from the record before it."""
-    said = _due_hints(refusal, record, language) + hints.of_wage(start, line, refusal, day, language)
+    said = _record_hints(refusal, record, language) + hints.of_wage(start, line, refusal, day, language)
     if not refusal.line:
         return _shown(refusal, f"{day:08}", -1, said, language)
     if refusal.number == 14:
@@ -170,18 +178,30 @@ def of_wage(refusal: Refusal, start: bytes, line: bytes, record: Record, day: in
 
 
 def of_text(
-    refusal: Refusal, what: str, text: bytes, language: str, placed: bool = False, model: bytes = b"",
+    refusal: Refusal, what: str, text: bytes, language: str, placed: bool = False, model: Optional[bytes] = None,
 ) -> Shown:
     """The refusal of a typed text: "iban", "oib", "reference" (with its model, if given), "model" or "digits".
 
-    `placed` says that the call tells the byte of a 3, so that byte 0 is the first one; a listing and a check digit tell
-    none.
+    5 and 7 of a reference are shown of its model. `placed` says that the call tells the byte of a 3, so that byte 0 is
+    the first one; a listing and a check digit tell none.
     """
-    said = hints.of_text(what, text, refusal, language, model)
+    if model is not None and refusal.number in (5, 7):
+        what, text = "model", model
+    said = hints.of_text(what, text, refusal, language, model or b"")
     decoded = _decoded(text)
     told = refusal.number == 3 and (placed or refusal.tells_byte())
     mark = _character(decoded, refusal.byte) if told else -1
     return _shown(refusal, _visible(decoded), mark, said, language)
+
+
+def slip_fields(slip: bytes, language: str) -> List[Dict[str, object]]:
+    """The fields of an accepted slip, for JSON: number, name and content."""
+    at = LANGUAGES.index(language)
+    fields = [field for field in FIELDS.values() if field.layout == "slip"]
+    return [
+        {"number": field.number, "name": field.name[at], "content": content.decode()}
+        for field, content in zip(fields, slip.split(b"\n"))
+    ]
 
 
 def money(cents: int, language: str) -> str:
@@ -238,12 +258,16 @@ def _due(record: Record) -> Tuple[str, ...]:
     return {0: ("300",), 1: ("301",)}.get(record.condition, ())
 
 
-def _due_hints(refusal: Refusal, record: Record, language: str) -> List[str]:
-    """For a line out of place, what is due there: the record knows it, the bytes do not."""
-    if refusal.number != 10:
-        return []
-    types = _say("or", language).join(_due(record))
-    return [_say("due", language, types) if types else _say("closed", language)]
+def _record_hints(refusal: Refusal, record: Record, language: str) -> List[str]:
+    """What the record knows and the bytes do not: what is due where a line is out of place, and where the group begins whose
+    number of orders or sum differs."""
+    if refusal.number == 10:
+        types = _say("or", language).join(_due(record))
+        return [_say("due", language, types) if types else _say("closed", language)]
+    if refusal.number in (12, 13):
+        said = "miscounted" if refusal.number == 12 else "missummed"
+        return [_say(said, language, refusal.line - 1 - record.counted)]
+    return []
 
 
 def _figures(refusal: Refusal, record: Record) -> Dict[str, int]:

@@ -79,7 +79,12 @@ HINTS: Dict[str, Tuple[str, str]] = {
     "tab": (
         "Character {at} of the content is a tab (09), which is not permitted. Write a blank in its place, or leave it "
         "out.",
-        "{at}. znak podatka je tabulator (09), koji nije dozvoljen. Umjesto njega upišite razmak ili ga izostavite."),
+        "{at}. znak podatka je tabulator (09), koji nije dozvoljen. Umjesto njega upišite prazninu ili ga izostavite."),
+    "text": (
+        "A slip's text has digits, blanks, the letters A to Z, Č, Ć, Đ, Š and Ž, capital or small, and `, . : - + ? ' / ( "
+        ")`. Write another character in its place, or leave it out.",
+        "Tekst uplatnice ima znamenke, praznine, slova A do Z, Č, Ć, Đ, Š i Ž, velika ili mala, te znakove `, . : - + ? ' "
+        "/ ( )`. Umjesto ovog znaka upišite neki od njih ili ga izostavite."),
     # Line ends of a slip.
     "slip_ends": (
         "Fields end in {seen} here; in a slip they end in LF alone. Take the reader's bytes as they are, or let "
@@ -96,17 +101,17 @@ HINTS: Dict[str, Tuple[str, str]] = {
         "Graničnika LF ima trinaest, a na kraju ga nema: zadnji je izgubljen. Dodajte ga sami ili pozivom `scanned` "
         "(`slip --scan`)."),
     "feed_doubled": (
-        "There are {count} line feeds instead of fourteen, and the surplus is at the very end. Take it off, or let "
+        "The number of line feeds is {count}, not fourteen, and the surplus is at the very end. Take it off, or let "
         "`scanned` (`slip --scan`) do it.",
         "Graničnika LF ima {count} umjesto četrnaest, a višak je na samom kraju. Uklonite ga sami ili pozivom "
         "`scanned` (`slip --scan`)."),
     "feeds_few": (
-        "There are {count} line feeds instead of fourteen: fields are missing. An empty field has its LF too; write "
-        "all fourteen.",
+        "The number of line feeds is {count}, not fourteen: fields are missing. An empty field has its LF too; write all "
+        "fourteen.",
         "Graničnika LF ima {count} umjesto četrnaest: nedostaju polja. I prazno polje ima svoj graničnik LF; upišite "
         "svih četrnaest."),
     "feeds_many": (
-        "There are {count} line feeds instead of fourteen: one stands inside a field, or there are too many fields. "
+        "The number of line feeds is {count}, not fourteen: one stands inside a field, or there are too many fields. "
         "Take out the surplus.",
         "Graničnika LF ima {count} umjesto četrnaest: neki stoji unutar polja ili polja ima previše. Uklonite višak."),
     "feed_not_last": (
@@ -158,6 +163,14 @@ HINTS: Dict[str, Tuple[str, str]] = {
         "399, and nothing after it.",
         "Slog {line} ovdje je tipa {record}. Poredajte slogove: jedan 300; grupe od jednog 301 i najmanje jednog 309; "
         "jedan 399, a iza njega ništa."),
+    "type": (
+        "The type of a line stands at positions 998 to 1000. Correct it; where something else stands there, look for a "
+        "field that is too narrow or too wide.",
+        "Tip sloga stoji na pozicijama 998 do 1000. Ispravite ga; ako ondje stoji nešto drugo, potražite prekratko ili "
+        "predugo polje."),
+    "unfinished": (
+        "The file was cut off, or written without its 399 line. Have the program write it again.",
+        "Datoteka je prekinuta ili je izrađena bez sloga 399. Ponovno je izradite u programu."),
     # Contents.
     "lookalike": (
         "Character {at} of the content is the letter {seen}, where a digit is due. Write {meant}.",
@@ -186,6 +199,12 @@ HINTS: Dict[str, Tuple[str, str]] = {
     "fixed": (
         "The content is {length} characters long, and exactly {width} are due. Look for what is missing or too much.",
         "Duljina podatka je {length}, a mora biti točno {width}. Provjerite što nedostaje ili je suvišno."),
+    "iban_form": (
+        "An IBAN is HR and nineteen digits. Compare it with the paper.",
+        "IBAN se sastoji od HR i devetnaest znamenki. Usporedite ga s izvornikom."),
+    "digits": (
+        "Digits alone are permitted, in a reference hyphens too. Compare it with the paper.",
+        "Dozvoljene su samo znamenke, a u pozivu na broj i crtice. Usporedite podatak s izvornikom."),
     "foreign": (
         "The IBAN begins with {country}, and only accounts of Croatia (HR) are handled. For an account abroad use "
         "another kind of order.",
@@ -252,8 +271,8 @@ HINTS: Dict[str, Tuple[str, str]] = {
         "{date} is not a date: a date is eight digits, YYYYMMDD. Write it so.",
         "{date} nije datum: datum je osam znamenki, GGGGMMDD. Upišite ga tako."),
     "date_turned": (
-        "{date} looks like DDMMYYYY. Write the year first: {turned}.",
-        "{date} izgleda kao DDMMGGGG. Upišite godinu na početak: {turned}."),
+        "{date} is not a date: it looks like DDMMYYYY. Write the year first: {turned}.",
+        "{date} nije datum: izgleda kao DDMMGGGG. Upišite godinu na početak: {turned}."),
     "date_year": (
         "{date} is of the year {year}, and the years 2023 to 9999 are accepted. Correct the year.",
         "Godina u datumu {date} je {year}, a prihvaćaju se godine od 2023. do 9999. Ispravite godinu."),
@@ -293,6 +312,7 @@ _KUNA = "HRK"
 _UTF16 = (BOM_UTF16_LE, BOM_UTF16_BE)
 _LOOKALIKES = {"O": "0", "o": "0", "I": "1", "l": "1"}
 _CONTINUATION = bytes(range(0x80, 0xC0))
+_CROATIAN = re.compile("|".join(_LETTERS).encode())
 _YEAR = 2023
 
 
@@ -312,7 +332,10 @@ class _Content(NamedTuple):
 
 def of_slip(data: bytes, refusal: Refusal, language: str) -> List[str]:
     """The hints about a refused slip, in `en` or `hr`; none where nothing is known."""
-    return _said(_slip(data, refusal), language)
+    found = list(_slip(data, refusal))
+    if not found and refusal.number == 3 and ("slip", refusal.field) not in _KINDS:
+        found = [("text", {})]
+    return _said(found, language)
 
 
 def of_wage(start: bytes, line: bytes, refusal: Refusal, day: int, language: str) -> List[str]:
@@ -333,7 +356,7 @@ def of_text(what: str, text: bytes, refusal: Refusal, language: str, model: byte
     content = _Content(what, _utf8(text), FIELDS[place] if place else None, _utf8(model))
     if not text and refusal.number in (1, 4):
         return _said([("empty", {})], language)
-    return _said(_content(content, refusal.number), language)
+    return _said(list(_content(content, refusal.number)) or _plain(content, refusal.number), language)
 
 
 def _said(found: Iterable[_Found], language: str) -> List[str]:
@@ -477,8 +500,8 @@ def _wage(start: bytes, line: bytes, refusal: Refusal, day: int) -> Iterator[_Fo
         yield "day", {"date": str(day)}
         yield from _not_a_date(str(day))
         return
-    if refusal.number == 14 and not start:
-        yield "empty", {}
+    if refusal.number == 14:
+        yield ("unfinished" if start else "empty"), {}
     if start.startswith(_UTF16):
         yield "utf16", {"mark": _hex(start[:2]), "due": "WIN-1250"}
     elif start.startswith((b"<?xml", BOM_UTF8 + b"<?xml")):
@@ -497,6 +520,8 @@ def _wage_line(start: bytes, line: bytes, refusal: Refusal, day: int) -> Iterato
         yield from _wage_order(line, refusal)
     elif len(line) == LINE and not line.strip(b" \r\n"):
         yield "empty_line", {}
+    elif refusal.number == 5 and not refusal.field:
+        yield "type", {}
     yield from _wage_field(line, refusal, day)
 
 
@@ -542,14 +567,16 @@ def _wage_end(length: int, end: bytes) -> Iterator[_Found]:
 
 
 def _letter_of_utf8(piece: bytes) -> str:
-    """The first letter of several bytes in a piece that is UTF-8; empty if it has none or is not UTF-8.
+    """The first letter of several bytes in a piece that is UTF-8, or in part UTF-8; empty if it has none.
 
-    Such letters are those of Latin writing, dashes, quotes and the euro: others may be WIN-1250 by chance, as ĆŠ is.
+    Such letters are those of Latin writing, dashes, quotes and the euro: others may be WIN-1250 by chance, as ĆŠ is. Where
+    other parts are not UTF-8, they are those of Croatian: in WIN-1250 their bytes would be Ä or Ĺ and a sign.
     """
     try:
         text = getincrementaldecoder("utf-8")().decode(piece.lstrip(_CONTINUATION))
     except UnicodeDecodeError:
-        return ""
+        mixed = _CROATIAN.search(piece)
+        return mixed.group().decode() if mixed else ""
     found = re.search("[\u00c0-\u017f\u2010-\u20ac]", text)
     return found.group() if found else ""
 
@@ -617,9 +644,7 @@ def _not_a_date(text: str) -> Iterator[_Found]:
     if found is None:
         return
     turned = text[4:] + text[2:4] + text[:2]
-    if _wrong_part(turned) is None:
-        yield "date_turned", {"date": text, "turned": turned}
-    yield found
+    yield ("date_turned", {"date": text, "turned": turned}) if _wrong_part(turned) is None else found
 
 
 def _wrong_part(text: str) -> Optional[_Found]:
@@ -658,6 +683,14 @@ def _content(content: _Content, number: int) -> Iterator[_Found]:
         yield "digit", {}
     elif number == 16:
         yield "marks", {"count": content.text.count("?")}
+
+
+def _plain(content: _Content, number: int) -> Iterator[_Found]:
+    """What a typed text is to be, where its characters show nothing."""
+    if number == 1:
+        yield from _length(content)
+    elif number in (3, 5):
+        yield ("iban_form" if content.kind == "iban" else "digits"), {}
 
 
 def _characters(content: _Content) -> Iterator[_Found]:

@@ -331,7 +331,7 @@ function figuresOf(answer) {
 }
 
 function hintsOf(refusal) {
-  const hints = refusal.hints.map((hint) => make("li", {}, hint));
+  const hints = refusal.hints.map((hint) => make("li", {}, ...coded(hint)));
   return hints.length ? [make("h3", {}, say("hints")), make("ul", { class: "hints" }, ...hints)] : [];
 }
 

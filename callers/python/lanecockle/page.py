@@ -20,11 +20,10 @@ from typing import Any, Callable, Dict, Iterator, List, NoReturn, Optional, Tupl
 from urllib.parse import parse_qsl, urlsplit
 
 from .calls import LINE, filled, iban, list_iban, list_reference, oib, reference, slip_cents
-from .explain import Shown, money, of_slip, of_text
+from .explain import Shown, money, of_slip, of_text, slip_fields
 from .judging import Accepted, Judging
 from .refusal import LANGUAGES, Refusal
 from .scan import compact, scanned
-from .tables import FIELDS
 
 #: The only address on which the page is served.
 LOOPBACK = "127.0.0.1"
@@ -88,22 +87,18 @@ def _slip(data: bytes, language: str) -> Answer:
         cents = slip_cents(slip)
     except Refusal as refusal:
         return {**_refused(of_slip(refusal, slip, language), language), "changed": slip != data}
-    at = LANGUAGES.index(language)
-    fields = [
-        {"number": number, "name": FIELDS["slip", number].name[at], "content": content.decode()}
-        for number, content in enumerate(slip.split(b"\n")[:14], 1)
-    ]
+    fields = slip_fields(slip, language)
     return {"accepted": True, "changed": slip != data, "cents": cents, "sum": money(cents, language), "fields": fields}
 
 
 def _wet(asked: Dict[str, str], language: str) -> Answer:
     """The fillings of an IBAN, or of a reference under its model."""
-    what = "reference" if "model" in asked else "iban"
-    model, text = compact(asked.get("model", "")), compact(asked["text"])
+    model, text = _typed(asked)
     try:
-        numbers = cast(List[int], list_iban(text) if what == "iban" else list_reference(model, text))
+        numbers = list_iban(text) if model is None else list_reference(model, text)
     except Refusal as refusal:
-        return _refused_text(refusal, what, model, text, language, placed=False)
+        what = "iban" if model is None else "reference"
+        return _refused(of_text(refusal, what, text, language, model=model), language)
     fillings = [filled(text, number).decode() for number in numbers[:FILLINGS_SHOWN]]
     return {"accepted": True, "text": text.decode(), "count": len(numbers), "fillings": fillings}
 
@@ -111,24 +106,22 @@ def _wet(asked: Dict[str, str], language: str) -> Answer:
 def _check(asked: Dict[str, str], language: str) -> Answer:
     """Whether an IBAN, an OIB or a reference is right."""
     what = asked.get("what", "")
-    if what not in ("iban", "oib", "reference") or (what == "reference") != ("model" in asked):
+    model, text = _typed(asked)
+    if what not in ("iban", "oib", "reference") or (what == "reference") != (model is not None):
         raise _Bad(HTTPStatus.BAD_REQUEST, "what must be iban, oib or reference, the last with a model")
-    model, text = compact(asked.get("model", "")), compact(asked["text"])
     try:
-        if what == "reference":
-            reference(model, text)
-        else:
+        if model is None:
             {"iban": iban, "oib": oib}[what](text)
+        else:
+            reference(model, text)
     except Refusal as refusal:
-        return _refused_text(refusal, what, model, text, language, placed=True)
+        return _refused(of_text(refusal, what, text, language, placed=True, model=model), language)
     return {"accepted": True, "text": text.decode()}
 
 
-def _refused_text(refusal: Refusal, what: str, model: bytes, text: bytes, language: str, placed: bool) -> Answer:
-    """The refusal of a typed text; 5 and 7 of a reference are said of its model."""
-    if what == "reference" and refusal.number in (5, 7):
-        what, text = "model", model
-    return _refused(of_text(refusal, what, text, language, placed=placed, model=model), language)
+def _typed(asked: Dict[str, str]) -> Tuple[Optional[bytes], bytes]:
+    """The model, if there is one, and the text, as the calls take them."""
+    return compact(asked["model"]) if "model" in asked else None, compact(asked["text"])
 
 
 # ----------------------------------------------------------------------------------------------------------------------
@@ -375,7 +368,9 @@ def serve(port: int = 0, open_browser: bool = True, language: str = "en") -> int
     try:
         server = make_server(port, language)
     except (OSError, OverflowError) as failure:
-        print(f"lanecockle page: port {port}: {failure}", file=sys.stderr)
+        why = failure.strerror if isinstance(failure, OSError) else failure
+        said = "port {} se ne može otvoriti: {}" if language == "hr" else "port {} cannot be opened: {}"
+        print("lanecockle: " + said.format(port, why), file=sys.stderr)
         return 2
     with server:
         print(server.address, flush=True)

@@ -13,7 +13,7 @@ import tempfile
 import unittest
 import warnings
 from pathlib import Path
-from typing import Any, Callable, Iterator, List, Sequence, Tuple
+from typing import Any, Callable, Iterator, List, Optional, Sequence, Tuple
 from unittest import mock
 
 import lanecockle
@@ -66,6 +66,21 @@ def file_of_two() -> bytes:
 
 def lines_of(file: bytes) -> List[bytes]:
     return [file[at:at + LINE] for at in range(0, len(file), LINE)]
+
+
+def with_bytes(file: bytes, line: int, byte: int, value: bytes) -> bytes:
+    """A file with other bytes in a line, which counts from 1."""
+    at = (line - 1) * LINE + byte
+    return file[:at] + value + file[at + len(value):]
+
+
+def refused(call: Callable[..., Any], *lent: Any) -> Optional[Refusal]:
+    """The refusal that a call raises; None where it accepts."""
+    try:
+        call(*lent)
+    except Refusal as refusal:
+        return refusal
+    return None
 
 
 class Case(unittest.TestCase):

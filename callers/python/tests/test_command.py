@@ -14,8 +14,8 @@ from unittest import mock
 
 from lanecockle import LINE, __version__, command
 from lanecockle.judging import Judging
-from tests.test_calls import DAY, SLIP_FIELDS, file_of_two, replaced, slip_of
-from tests.test_judging import file_of, with_bytes
+from tests.test_calls import DAY, SLIP_FIELDS, file_of_two, replaced, slip_of, with_bytes
+from tests.test_judging import file_of
 
 PYTHON = Path(__file__).resolve().parents[1]
 ON_DAY = ("--day", str(DAY))
@@ -178,7 +178,7 @@ class TenMistakes(Case):
         self.assert_mistake(["iban", "HR12 1001 0051 8630 0016 0"], (3, 0, 0, 4), " 1001 0051", *words)
 
     def test_8_tab(self) -> None:
-        words = ["is a tab", "Write a blank"], ["tabulator", "upišite razmak"]
+        words = ["is a tab", "Write a blank"], ["tabulator", "upišite prazninu"]
         self.assert_mistake(self.slip(SLIP.replace(b"za 1.", b"za\t1.")), (3, 0, 14, 192), "␉1. mjesec", *words)
         self.assert_mistake(self.wage(with_bytes(file_of_two(), 4, 213, b"\t")), (3, 4, 9, 213), "␉/2024", *words)
 
@@ -528,12 +528,26 @@ class Usage(Case):
                 self.assert_failed(ran, words)
                 self.assertIn("--help", ran.err)
 
+    def test_wrong_usage_in_croatian(self) -> None:
+        for asked, words in (
+            ([], "nedostaje: NAREDBA"), (["slop"], "NAREDBA: 'slop' nije jedno od: "),
+            (["slip", "a", "b"], "nepoznato: b"), (["wage", "--day"], "--day: nedostaje vrijednost"),
+            (["wage", "--day", "2024"], "--day: '2024' nije GGGGMMDD"), (["page", "--port", "x"], "--port: 'x' nije port"),
+            (["slip", "--scan=1"], "--scan: vrijednost '1' ovdje nije dozvoljena"),
+        ):
+            with self.subTest(asked=asked):
+                ran = run("--lang", "hr", *asked)
+                self.assert_failed(ran, words)
+                self.assertIn("(pomoć: ", ran.err)
+        self.assertIn("[--day GGGGMMDD]", run("wage", "--help", "--lang", "hr").out)
+
     def test_unreadable(self) -> None:
         for name in ("slip", "wage"):
             missing = str(self.folder / "none")
             self.assert_failed(run(name, missing), missing)
             self.assert_failed(run(name, missing, "--json"), missing)
-            self.assert_failed(run(name, str(self.folder), "--lang", "hr"), "ne može se pročitati")
+            self.assert_failed(run(name, str(self.folder), "--lang", "hr"), "ne može se pročitati: to je mapa")
+            self.assert_failed(run(name, missing, "--lang", "hr"), "ne može se pročitati: ne postoji")
 
     def test_one_line_of_whatever_name(self) -> None:
         self.assert_failed(run("slip", str(self.folder / "a\n\x1B[2Jb\udcff")), "a··[2Jb·")

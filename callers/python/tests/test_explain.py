@@ -7,24 +7,19 @@ from unittest import mock
 
 from lanecockle import LINE, Judge, Record, Refusal, iban, list_iban, slip_read
 from lanecockle.explain import Shown, money, of_slip, of_text, of_wage
-from tests.test_calls import DAY, SLIP_FIELDS, file_of_two, lines_of, replaced, slip_of
+from tests.test_calls import DAY, SLIP_FIELDS, file_of_two, lines_of, refused, replaced, slip_of, with_bytes
 
 
 def refusal_of(call: Any, *lent: Any) -> Refusal:
     """The refusal that a call raises."""
-    try:
-        call(*lent)
-    except Refusal as refusal:
-        return refusal
-    raise AssertionError("the call accepts")
+    refusal = refused(call, *lent)
+    assert refusal is not None, "the call accepts"
+    return refusal
 
 
 def changed(line: int, byte: int, value: bytes) -> bytes:
     """The file of two orders with other bytes in a line."""
-    file = bytearray(file_of_two())
-    at = (line - 1) * LINE + byte
-    file[at:at + len(value)] = value
-    return bytes(file)
+    return with_bytes(file_of_two(), line, byte, value)
 
 
 def wage_shown(file: bytes, language: str = "en", day: int = DAY) -> Shown:
@@ -262,6 +257,22 @@ class Figures(unittest.TestCase):
         self.assert_shown(b"".join(lines[:4] + [second] + lines[2:]), (12, 7), {"declared": 1, "counted": 2},
                           "orders: declared 1, counted 2 with this line",
                           "broj naloga: upisano 1, s ovim slogom prebrojeno 2")
+
+    def test_the_group_is_told(self) -> None:
+        """By its 301 line, which stands before the refused line by the orders that were counted."""
+        lines = lines_of(file_of_two())
+        for place, value, number, told, croatian in (
+            (52, b"1", 12, "line 2. Correct the number", "slog 2. Ispravite broj"),
+            (52, b"3", 12, "line 2. Correct the number", "slog 2. Ispravite broj"),
+            (72, b"5", 13, "line 2. Correct the sum", "slog 2. Ispravite zbroj"),
+        ):
+            wrong = changed(2, place, value)
+            behind = b"".join(lines[:4]) + wrong[LINE:]
+            for file, line in ((wrong, 2), (behind, 5)):
+                with self.subTest(value=value, number=number, line=line):
+                    self.assertEqual(wage_shown(file).number, number)
+                    self.assertIn(told.replace("2", str(line)), wage_shown(file).hints[0])
+                    self.assertIn(croatian.replace("2", str(line)), wage_shown(file, "hr").hints[0])
 
     def test_sum(self) -> None:
         self.assert_shown(changed(2, 72, b"5"), (13, 5), {"declared": 10**15 + 12355, "summed": 10**15 + 12354},

@@ -11,7 +11,7 @@ from lanecockle import (
 )
 from lanecockle.hints import HINTS, MODELS, MOST, _KINDS, of_slip, of_text, of_wage
 from lanecockle.refusal import LANGUAGES
-from tests.test_calls import DAY, SLIP_FIELDS, file_of_two, lines_of, slip_of
+from tests.test_calls import DAY, SLIP_FIELDS, file_of_two, lines_of, refused, slip_of, with_bytes
 
 #: A hint that is awaited: its name and what its places are filled with.
 Awaited = Tuple[str, Dict[str, object]]
@@ -32,24 +32,15 @@ def slip_with(number: int, content: str, *more: str) -> bytes:
 
 def file_with(line: int, *places: Any) -> bytes:
     """The file with other contents in a line: a position, from 1, and bytes, and so on."""
-    file = bytearray(file_of_two())
+    file = file_of_two()
     for position, content in zip(places[::2], places[1::2]):
-        at = (line - 1) * LINE + position - 1
-        file[at:at + len(content)] = content
-    return bytes(file)
+        file = with_bytes(file, line, position - 1, content)
+    return file
 
 
 def cut(file: bytes, at: int, count: int, put: bytes = b"") -> bytes:
     """A file without some bytes, and with others in their place."""
     return file[:at] + put + file[at + count:]
-
-
-def refused(call: Callable[..., Any], *lent: Any) -> Optional[Refusal]:
-    try:
-        call(*lent)
-    except Refusal as refusal:
-        return refusal
-    return None
 
 
 def of_a_slip(data: bytes, language: str) -> Optional[List[str]]:
@@ -182,14 +173,14 @@ class Slips(Case):
             fields = [letter.encode("cp1250") + b"A"] + SLIP_FIELDS[1:]
             self.slip(slip_of(fields), [("win1250", {"position": 30, "letter": letter})], slip_with(4, letter))
         # UTF-8 that begins with a byte of WIN-1250's letters, and bytes that are neither.
-        self.slip(slip_with(4, "\u020a"), [])
-        self.slip(slip_of([b"\xFF"] + SLIP_FIELDS[1:]), [])
+        self.slip(slip_with(4, "\u020a"), [("text", {})])
+        self.slip(slip_of([b"\xFF"] + SLIP_FIELDS[1:]), [("text", {})])
 
     def test_texts(self) -> None:
         self.slip(slip_with(4, "IVAN\tHORVAT"), [("tab", {"at": 5})], slip_with(4, "IVAN HORVAT"))
         self.slip(slip_with(14, "Žeđ\t"), [("tab", {"at": 4})], slip_with(14, "Žeđ "))
         self.slip(slip_with(4, "Ž" * 31), [("too_long", {"length": 31, "width": 30})], slip_with(4, "Ž" * 30))
-        self.slip(slip_with(4, "IVAN_"), [])
+        self.slip(slip_with(4, "IVAN_"), [("text", {})], slip_with(4, "IVAN\tHORVAT"), slip_with(12, "1_"))
         self.slip(slip_with(13, "COS"), [("fixed", {"length": 3, "width": 4})], slip_with(13, ""))
 
     def test_currency(self) -> None:
@@ -248,6 +239,7 @@ class Wages(Case):
         file = file_of_two()
         self.accepted(of_a_file, file)
         self.file(b"", [("empty", {})], file[:LINE])
+        self.file(file[:-LINE], [("unfinished", {})], b"", file[:-2])
         self.file(MARK + file, [("wage_mark", {})], MARK[1:] + file)
         text = file.decode("cp1250")
         self.file(b"\xFF\xFE" + text.encode("utf-16-le"), [("utf16", {"mark": "FF FE", "due": "WIN-1250"})])
@@ -263,6 +255,9 @@ class Wages(Case):
         plain = b"a".ljust(140)
         self.file(file_with(3, 1, "Š".encode(), 208, plain), [("utf8", {"letter": "Š"})],
                   file_with(3, 1, b"__", 208, plain))
+        # A name in UTF-8, one byte longer for its letter, in a line that is WIN-1250 otherwise.
+        mixed = file_with(3, 35, b"\x8Eeljko", 208, b"Pla\xE6a")
+        self.file(cut(mixed, 2 * LINE + 34, 1, "Ž".encode()), [("utf8", {"letter": "Ž"})], cut(mixed, 2 * LINE + 34, 1, b"ZZ"))
 
     def test_not_utf8(self) -> None:
         """Letters of WIN-1250 that are UTF-8 by chance, and others."""
@@ -317,6 +312,9 @@ class Wages(Case):
         self.file(label + first, [("sequence", {"record": "309", "line": 2})])
         self.file(group, [("sequence", {"record": "301", "line": 1})])
         self.file(label + group + first + second + closing + closing, [("sequence", {"record": "399", "line": 6})])
+
+    def test_type(self) -> None:
+        self.file(file_with(2, 998, b"302"), [("type", {})], file_with(2, 22, b"USD"))
 
     def test_checks(self) -> None:
         for line, position, wrong, kind in (
@@ -384,8 +382,7 @@ class Wages(Case):
 
     def test_turned_dates(self) -> None:
         turned = ("date_turned", {"date": "01032024", "turned": "20240301"})
-        year = ("date_year", {"date": "01032024", "year": "0103"})
-        self.file(file_with(2, 74, b"01032024"), [turned, year], file_with(2, 74, b"20240301"))
+        self.file(file_with(2, 74, b"01032024"), [turned], file_with(2, 74, b"20240301"))
         self.file(file_with(2, 74, b"01132024"), [("date_year", {"date": "01132024", "year": "0113"})])
         self.file((MARK, 2024022), [("day", {"date": "2024022"}), ("date_form", {"date": "2024022"})])
         self.file((b"", 10**15), [("day", {"date": str(10**15)}), ("date_form", {"date": str(10**15)})])
@@ -408,12 +405,13 @@ class Texts(Case):
         self.text("iban", right + b"1", [("fixed", {"length": 22, "width": 21})], right)
         self.text("iban", b"DE1210010051863000160", [("foreign", {"country": "DE"})], right)
         self.text("iban", b"HR1310010051863000160", [("iban", {})], right)
+        self.text("iban", b"HRX210010051863000160", [("iban_form", {})], right)
 
     def test_oib(self) -> None:
         right = b"12345678903"
         self.text("oib", b"12345678904", [("oib", {})], right)
         self.text("oib", b"123 456 789 03", [("blank", {"at": 4})], right)
-        self.text("oib", b"1234567890E", [], right)
+        self.text("oib", b"1234567890E", [("digits", {})], right)
         self.text("oib", b"I2345678903", [("lookalike", {"at": 1, "seen": "I", "meant": "1"})], right)
         self.text("oib", b"1234567890", [("fixed", {"length": 10, "width": 11})], right)
 
@@ -452,6 +450,8 @@ class Texts(Case):
         self.check(say, ("iban", b"HR?????10051863000160"), [("marks", {"count": 5})], wet)
         self.check(say, ("reference", b"??????"), [("marks", {"count": 6})], ("reference", b"????"))
         self.check(say, ("iban", b"HR?? 1001"), [("blank", {"at": 5})], ("iban", b"HR??10010051863000160"))
+        self.check(say, ("iban", b"HR??1001005186300016"), [("fixed", {"length": 20, "width": 21})], wet)
+        self.check(say, ("reference", b"1" * 23), [("too_long", {"length": 23, "width": 22})], ("reference", b"1?"))
 
 
 class Said(Case):

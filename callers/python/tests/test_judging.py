@@ -12,7 +12,7 @@ from lanecockle import (
 )
 from lanecockle.explain import Shown
 from lanecockle.judging import Accepted, Judging
-from tests.test_calls import DAY, GROUP_FIELDS, LABEL_FIELDS, file_of_two, lines_of, order_fields
+from tests.test_calls import DAY, GROUP_FIELDS, LABEL_FIELDS, file_of_two, lines_of, order_fields, with_bytes
 
 ORDER = write_order(DAY, 4, order_fields())
 
@@ -29,11 +29,6 @@ def file_of(groups: List[int]) -> bytes:
     """A file of groups of so many orders each."""
     lines = [group_of(orders) + ORDER * orders for orders in groups]
     return write_label(DAY, LABEL_FIELDS) + b"".join(lines) + write_closing(DAY)
-
-
-def with_bytes(file: bytes, line: int, byte: int, value: bytes) -> bytes:
-    at = (line - 1) * LINE + byte
-    return file[:at] + value + file[at + len(value):]
 
 
 def parts_of(file: bytes, size: int) -> Iterator[bytes]:
