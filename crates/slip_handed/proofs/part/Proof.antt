@@ -1,20 +1,7 @@
--- `slip::part` meets its contract: each return is the definition's choice on the tests that led there. Assumes nothing.
-use Rattle.refusal.proofs.Basics.{sym, _∙_, needs, not-true, not-false, lt-leb, le-leb}
-use Rattle.slip_handed.proofs.Laws.{not-handed, handed}
+-- `slip_handed::part` meets its contract. Assumes nothing.
+use Rattle.refusal.proofs.Basics.{needs}
 use Rattle.slip_handed.proofs.part.Statement.{statement}
 use Rattle.slip_handed.proofs.part.Tie as tie
 
-returns : tie.Need-returns
-returns c = not-handed _ _ (rw (lt-leb 4 _ (c .if1 .taken)))
-
-returns-2 : tie.Need-returns-2
-returns-2 c = not-handed _ _ (rw (le-leb 4 _ (c .before .if1 .left), lt-leb _ 14 (c .if2 .taken)))
-
-returns-3 : tie.Need-returns-3
-returns-3 c = not-handed _ _ (rw (le-leb 4 _ (c .before .before .before .if1 .left), le-leb _ 14 (c .before .before .if2 .left), sym (c .before .is-accepted .ensures) ∙ not-true _ (c .if3 .taken)))
-
-returns-4 : tie.Need-returns-4
-returns-4 c = handed _ _ _ (c .before .before .before .before .if1 .left) (c .before .before .before .if2 .left) (sym (c .before .before .is-accepted .ensures) ∙ not-false _ (c .before .if3 .left)) (c .piece .ensures)
-
 pub part-spec : {M : Type 1} → statement M
-part-spec = tie.close (tie.spec returns returns-2 (λ c κs. search needs) returns-3 (λ c. search needs) (λ c κs. search needs) returns-4)
+part-spec = tie.close (tie.spec (λ c. search needs) (λ c κs. search needs) (λ c. c .part-in .ensures))
