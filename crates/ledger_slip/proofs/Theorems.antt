@@ -3,6 +3,7 @@
 use Rattle.refusal.proofs.Basics.{_≡_, refl, sym, ap, _∙_, arith, ℕ, suc, _-_, _≤_, length, getD, le-leb, eq-eqb, List, [], _∷_, true, false, cond, eqb, _↔_, and-second}
 use Rattle.refusal.specs.declared.Answer.{Answer}
 use Rattle.refusal.specs.declared.Answer.the-variants as answer
+use Rattle.refusal.specs.declared.Refusal.{Refusal}
 use Rattle.refusal.specs.declared.Refusal.the-variants.{Form}
 use Rattle.text.specs.Bytes.{same, countOf}
 use Rattle.text.specs.Split.{split}
@@ -37,25 +38,34 @@ never-both s e k =
 -- ---------------------------------------------------------------------------
 -- Accepted exactly when, for both
 
+-- the number of an amount, whatever its unit
+abbrev numberIn : LedgerSlip → ℕ
+numberIn (Euro cents) = cents .number
+numberIn (Kuna lipa) = lipa .number
+numberIn (Refused r) = 0
+
 -- an amount in a unit is of one currency and one number
 amount-one : (c d : Currency) (m n : ℕ) → amountIn c m ≡ amountIn d n → (c ≡ d) × (m ≡ n)
 unfolding amountIn
-amount-one currency.Euro currency.Euro m n e = (refl, cc)
-amount-one currency.Kuna currency.Kuna m n e = (refl, cc)
+amount-one currency.Euro currency.Euro m n e = (refl, ap numberIn e)
+amount-one currency.Kuna currency.Kuna m n e = (refl, ap numberIn e)
 amount-one currency.Euro currency.Kuna m n e = let z : _≡_ {A = ℕ} 0 1 = cc in absurd (omega arith)
 amount-one currency.Kuna currency.Euro m n e = let z : _≡_ {A = ℕ} 0 1 = cc in absurd (omega arith)
+
+-- and no refusal
+not-refused : (c : Currency) (n : ℕ) (r : Refusal) → Refused r ≡ amountIn c n → ⊥
+unfolding amountIn
+not-refused currency.Euro n r e = let z : _≡_ {A = ℕ} 0 1 = cc in omega arith
+not-refused currency.Kuna n r e = let z : _≡_ {A = ℕ} 0 1 = cc in omega arith
 
 -- an accepted slip is of its currency, with the amount of its field 3, exactly when it is as the documents ask
 pub ledger-exactly : (c : Currency) (s : List ℕ) (n : ℕ) → (ledgerOf s ≡ amountIn c n) ↔ (PlainSlip c s × (n ≡ amountOf s))
 unfolding ledgerOf
 ledger-exactly c s n = (λ e. go (slipAnswerIn (currencyOf s) s) refl e, λ w. back w)
   where
-    no-refusal : (d : Currency) → (m : ℕ) → amountIn d m ≡ Refused _ → ⊥
-    no-refusal = ?
-
     go : (a : Answer) → slipAnswerIn (currencyOf s) s ≡ a → ledgerFrom (currencyOf s) (amountOf s) a ≡ amountIn c n → PlainSlip c s × (n ≡ amountOf s)
     go answer.Accepted g e = let h = amount-one (currencyOf s) c (amountOf s) n e in (accepted-plainly c s .0 (rw (h .0) at g), sym (h .1))
-    go (answer.Refused r) g e = ?
+    go (answer.Refused r) g e = absurd (not-refused c n r e)
 
     back : PlainSlip c s × (n ≡ amountOf s) → ledgerFrom (currencyOf s) (amountOf s) (slipAnswerIn (currencyOf s) s) ≡ amountIn c n
     back (w, e) = rw (plain-currency c s w, accepted-plainly c s .1 w, e)
