@@ -6,15 +6,15 @@ use Rattle.desk_ledger.proofs.tell.Tie as tie
 
 returns : tie.Need-returns
 unfolding ledgerTold
-returns c = ?
+returns c = rw (c .before .before .slip .given .1, c .accept .ensures)
 
 returns-2 : tie.Need-returns-2
 unfolding ledgerTold
-returns-2 c = ?
+returns-2 c = rw (c .before .before .before .slip2 .given .1, c .before .accept2 .ensures, c .converted .ensures)
 
 returns-3 : tie.Need-returns-3
 unfolding ledgerTold
-returns-3 c = ?
+returns-3 c = rw (c .before .before .slip3 .given .1, c .refuse .ensures)
 
 pub tell-spec : {M : Type 1} → statement M
 tell-spec =
