@@ -6,13 +6,11 @@ use Rattle.slip_printed.proofs.print.Statement.{statement}
 use Rattle.slip_printed.proofs.print.Tie as tie
 
 put-accepted-requires : tie.Need-put-accepted-requires
-put-accepted-requires c κs = cents-known (c .before .before .before .before .before .before .before .args .s .now) _ (sym (c .before .before .before .before .cents .ensures) ∙ c .before .before .n .given .1)
+put-accepted-requires c κs = cents-known (c .before .before .before .before .before .before .before .before .args .s .now) _ (sym (c .before .before .before .before .before .cents .ensures) ∙ c .before .before .before .n .given .1)
 
 returns : tie.Need-returns
 unfolding slipPrinted
-returns c =
-    let k = cents-known (c .before .before .before .before .before .before .before .before .before .before .args .s .now) _ (sym (c .before .before .before .before .before .before .before .cents .ensures) ∙ c .before .before .before .before .before .n .given .1) in
-    rw (k .0) (c .before .before .put-accepted .ensures)
+returns c = rw (cents-known (c .before .before .before .before .before .before .before .before .before .before .before .args .s .now) _ (sym (c .before .before .before .before .before .before .before .before .cents .ensures) ∙ c .before .before .before .before .before .before .n .given .1) .0) (c .before .before .put-accepted .ensures)
 
 returns-2 : tie.Need-returns-2
 unfolding slipPrinted
@@ -21,7 +19,7 @@ returns-2 c = rw (refusal-known (c .before .before .before .before .before .befo
 pub print-spec : {M : Type 1} → statement M
 print-spec =
     tie.close (tie.spec
-    (λ c κs. search needs) (λ c. search needs)
+    (λ c κs. search needs) (λ c. search needs) (λ c. search needs)
     put-accepted-requires
     (λ c. search needs) (λ c κs. search needs) (λ c. search needs)
     returns

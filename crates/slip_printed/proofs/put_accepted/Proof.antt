@@ -17,7 +17,7 @@ returns c =
 pub put-accepted-spec : {M : Type 1} → statement M
 put-accepted-spec =
     tie.close (tie.spec
-    (λ c. search needs) (λ c κs. search needs) (λ c κs. search needs)
+    (λ c κs. search needs) (λ c κs. search needs)
     put-fields-requires
     (λ c. search needs)
     returns)
