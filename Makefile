@@ -17,7 +17,7 @@ MAJOR := $(firstword $(subst ., ,$(VERSION)))
 
 STATIC = target/staticlib/libdesk.a
 SHARED = target/staticlib/liblanecockle.so
-PROGRAMS = target/bin/listing target/bin/slipfile target/bin/wagefile
+PROGRAMS = target/bin/listing target/bin/slipfile target/bin/ledger target/bin/wagefile
 DOCS = callers/release/README.md docs/FIELDS.md CHANGELOG.md
 
 SONAME = liblanecockle.so.$(MAJOR)
@@ -31,7 +31,7 @@ all: $(STATIC) $(SHARED) $(PROGRAMS)
 	@echo "there: $^"
 
 $(STATIC):
-	@echo "$@ is proved and written: with the programs about nine minutes on two cores"
+	@echo "$@ is proved and written: with the programs about seven minutes on two cores"
 	@callers/library
 
 $(SHARED): $(STATIC) VERSION callers/build
@@ -73,7 +73,7 @@ release:
 	@tools/release
 
 help:
-	@echo "make            builds what is missing: the library and the programs, about nine minutes where nothing is there"
+	@echo "make            builds what is missing: the library and the programs, about seven minutes where nothing is there"
 	@echo "make install    the header, the libraries, lanecockle.pc, the programs and their papers"
 	@echo "                  PREFIX=/usr/local   where they are to stand; BINDIR, LIBDIR, INCLUDEDIR, DOCDIR are below it"
 	@echo "                  DESTDIR=            a folder in front of it, for packages"

@@ -22,8 +22,8 @@
 #include <stdint.h>
 
 /* The version of this header; lanecockle_version() is that of the library that a program runs with. */
-#define LANECOCKLE_VERSION "1.0.0"
-#define LANECOCKLE_VERSION_NUMBER 10000
+#define LANECOCKLE_VERSION "1.1.0"
+#define LANECOCKLE_VERSION_NUMBER 10100
 
 #ifdef __cplusplus
 extern "C" {
@@ -153,6 +153,37 @@ lanecockle_valued lanecockle_slip_cents(const uint8_t *slip, size_t length);
  * bytes are always enough. */
 lanecockle_valued lanecockle_slip_write(uint64_t cents, const uint8_t *text, size_t text_length, const size_t *sizes,
                                         size_t count, uint8_t *out, size_t room);
+
+/* ---------------------------------------------------------------------------------------------------------------------
+ * Slips of either currency, for the ledgers
+ *
+ * A kuna slip, printed before 2023, has `HRK` in field 2, its amount in lipa, and in field 10 an IBAN or, where that begins
+ * with a digit, an account: seven digits, a hyphen and ten digits. All else is as in a euro slip. The calls above take euro
+ * slips alone: to them a kuna slip is 5 at field 2, and none of them gives its amount. Cents and lipa are two units: no call
+ * adds them, and no caller should. None of these calls writes anywhere. */
+
+/* The currency of a slip; none where it is refused. */
+enum { LANECOCKLE_NO_CURRENCY = 0, LANECOCKLE_EURO = 1, LANECOCKLE_KUNA = 2 };
+
+/* An answer with the currency of a slip and its amount in its own unit. All but `told` is 0 where the slip is refused. */
+typedef struct {
+    lanecockle_told told;
+    size_t currency;    /* LANECOCKLE_EURO or LANECOCKLE_KUNA */
+    uint64_t cents;     /* the amount of a euro slip; 0 for a kuna slip */
+    uint64_t lipa;      /* the amount of a kuna slip; 0 for a euro slip */
+    uint64_t converted; /* the amount of a kuna slip in cents, as lanecockle_lipa_in_cents gives it; 0 for a euro slip */
+} lanecockle_ledger;
+
+/* A slip of either currency. Refusals: those of lanecockle_slip_read, with field 10 of a kuna slip judged by its own rule: an
+ * account permits A to Z, digits and hyphens (3), has 18 bytes (4) and its form (5), and has no check. A currency that is
+ * neither `EUR` nor `HRK` is 5 at field 2. */
+lanecockle_ledger lanecockle_ledger_read(const uint8_t *slip, size_t length);
+
+/* Where field 4 to 14 of an accepted slip of either currency stands; no part for another number or a refused slip. */
+lanecockle_part lanecockle_ledger_field(const uint8_t *slip, size_t length, size_t number);
+
+/* Any number of lipa in cents, at 7.53450 kuna for a euro: the nearest number of cents, exactly. No number lies halfway. */
+uint64_t lanecockle_lipa_in_cents(uint64_t lipa);
 
 /* ---------------------------------------------------------------------------------------------------------------------
  * Wage files judged

@@ -86,6 +86,31 @@ static void check_unended(lanecockle_ended ended, size_t number, size_t line, si
 #define NO_COUNTS(call, number, line, field, byte) \
     check_unended((call), (number), (line), (field), (byte), #call, __LINE__)
 
+static int holds_amounts(lanecockle_ledger ledger, size_t currency, uint64_t cents, uint64_t lipa, uint64_t converted)
+{
+    return ledger.currency == currency && ledger.cents == cents && ledger.lipa == lipa && ledger.converted == converted;
+}
+
+static void check_ledger(lanecockle_ledger ledger, size_t currency, uint64_t cents, uint64_t lipa, uint64_t converted,
+                         const char *what, int at)
+{
+    check_told(ledger.told, 0, 0, 0, 0, 0, what, at);
+    check(holds_amounts(ledger, currency, cents, lipa, converted), what, at);
+}
+
+/* A euro slip with its cents, a kuna slip with its lipa and these in cents; each has nothing of the other. */
+#define EURO(call, cents) check_ledger((call), LANECOCKLE_EURO, (cents), 0, 0, #call, __LINE__)
+#define KUNA(call, lipa, converted) check_ledger((call), LANECOCKLE_KUNA, 0, (lipa), (converted), #call, __LINE__)
+
+static void check_no_ledger(lanecockle_ledger ledger, size_t number, size_t field, size_t byte, const char *what, int at)
+{
+    check_told(ledger.told, number, 0, field, byte, 0, what, at);
+    check(holds_amounts(ledger, LANECOCKLE_NO_CURRENCY, 0, 0, 0), what, at);
+}
+
+/* A refusal, which has no currency and no amount. */
+#define NO_LEDGER(call, number, field, byte) check_no_ledger((call), (number), (field), (byte), #call, __LINE__)
+
 /* ---------------------------------------------------------------------------------------------------------------------
  * Lent memory */
 
@@ -374,21 +399,27 @@ static const char *const slip_fields[11] = {
     "ALKARSKI PROLAZ 13B", "21230 SINJ", "HR1210010051863000160", "HR01", "7269-68499637766-00011", "COST",
     "Tro\xC5\xA1kovi za 1. mjesec"};
 
-/* The text of a slip with one field (1 to 14) replaced; 0 replaces none. */
-static const char *slip_with(size_t number, const char *text)
+/* The text of a slip in a currency with one field (1 to 14) replaced; 0 replaces none. */
+static const char *slip_in(const char *currency, size_t number, const char *text)
 {
     static char slip[2048];
     size_t n;
     slip[0] = '\0';
     for (n = 1; n <= 14; n++) {
-        const char *field = n == 1 ? "HRVHUB30" : n == 2 ? "EUR" : n == 3 ? "000000000012355" : slip_fields[n - 4];
+        const char *field = n == 1 ? "HRVHUB30" : n == 2 ? currency : n == 3 ? "000000000012355" : slip_fields[n - 4];
         strcat(slip, n == number ? text : field);
         strcat(slip, "\n");
     }
     return slip;
 }
 
-/* Where a field of slip_with(0, ..) begins. */
+/* The text of a euro slip with one field replaced. */
+static const char *slip_with(size_t number, const char *text)
+{
+    return slip_in("EUR", number, text);
+}
+
+/* Where a field of slip_with(0, ..) begins, and of a slip in any currency of three letters. */
 static size_t slip_start(size_t number)
 {
     size_t n, start = 29;
@@ -566,6 +597,165 @@ static void test_slip_round(void)
     }
     VALUE(lanecockle_slip_write(lanecockle_slip_cents(lent, length).value, F(f), out, ROOM), length);
     CHECK(memcmp(out, slip, length) == 0);
+}
+
+/* ---------------------------------------------------------------------------------------------------------------------
+ * Slips of either currency, for the ledgers */
+
+#define IN_KUNA(number, text) T(slip_in("HRK", (number), (text)))
+#define ACCOUNT "1001005-1863000160"
+
+static void test_ledger_read(void)
+{
+    EURO(lanecockle_ledger_read(SLIP(0, "")), 12355);
+    EURO(lanecockle_ledger_read(SLIP(3, "000000000000000")), 0);
+    EURO(lanecockle_ledger_read(SLIP(3, "999999999999999")), 999999999999999u);
+    KUNA(lanecockle_ledger_read(IN_KUNA(0, "")), 12355, 1640);
+    KUNA(lanecockle_ledger_read(IN_KUNA(10, ACCOUNT)), 12355, 1640);
+    KUNA(lanecockle_ledger_read(IN_KUNA(3, "000000000000000")), 0, 0);
+    KUNA(lanecockle_ledger_read(IN_KUNA(3, "000000000000003")), 3, 0);
+    KUNA(lanecockle_ledger_read(IN_KUNA(3, "000000000000004")), 4, 1);
+    KUNA(lanecockle_ledger_read(IN_KUNA(3, "999999999999999")), 999999999999999u, 132722808414626u);
+    KUNA(lanecockle_ledger_read(IN_KUNA(4, repeated("\xC5\xBD", 30))), 12355, 1640);
+    KUNA(lanecockle_ledger_read(IN_KUNA(13, "")), 12355, 1640);
+}
+
+static void test_ledger_whole(void)
+{
+    NO_LEDGER(lanecockle_ledger_read(T(repeated("\n", 484))), LANECOCKLE_SIZE, 0, 0);
+    NO_LEDGER(lanecockle_ledger_read(T(repeated("\n", 483))), LANECOCKLE_ENDS, 0, 0);
+    NO_LEDGER(lanecockle_ledger_read(NULL, 0), LANECOCKLE_ENDS, 0, 0);
+    NO_LEDGER(lanecockle_ledger_read(IN_KUNA(14, "\n")), LANECOCKLE_ENDS, 0, 0);
+    NO_LEDGER(lanecockle_ledger_read(T("HRVHUB30\nHRK\n")), LANECOCKLE_ENDS, 0, 0);
+}
+
+/* Another currency is a euro slip's 5; field 1 comes before it. */
+static void test_ledger_currency(void)
+{
+    static const char *const others[7] = {"USD", "", "hrk", "HRK ", "HRKK", "HR", "HRK\r"};
+    size_t i;
+    for (i = 0; i < 7; i++) {
+        NO_LEDGER(lanecockle_ledger_read(SLIP(2, others[i])), LANECOCKLE_FORM, 2, 9);
+        PART(lanecockle_ledger_field(SLIP(2, others[i]), 4), 0, 0);
+    }
+    NO_LEDGER(lanecockle_ledger_read(IN_KUNA(1, "HRVHUB31")), LANECOCKLE_FORM, 1, 0);
+    NO_LEDGER(lanecockle_ledger_read(T(slip_in("USD", 1, "HRVHUB31"))), LANECOCKLE_FORM, 1, 0);
+}
+
+/* What is refused in a field of either currency. */
+static void check_either(size_t field, const char *text, size_t number, size_t byte, int line)
+{
+    size_t start = slip_start(field) + byte;
+    check_no_ledger(lanecockle_ledger_read(SLIP(field, text)), number, field, start, "ledger_read of euro", line);
+    check_no_ledger(lanecockle_ledger_read(IN_KUNA(field, text)), number, field, start, "ledger_read of kuna", line);
+    check_part(lanecockle_ledger_field(IN_KUNA(field, text), 14), 0, 0, "ledger_field of what is refused", line);
+}
+
+#define EITHER(field, text, number, byte) check_either((field), (text), (number), (byte), __LINE__)
+
+static void test_ledger_refusals(void)
+{
+    NO_LEDGER(lanecockle_ledger_read(IN_KUNA(3, "00000000001235x")), LANECOCKLE_BYTE, 3, 27);
+    NO_LEDGER(lanecockle_ledger_read(IN_KUNA(3, "00000000012355")), LANECOCKLE_LENGTH, 3, 13);
+    EITHER(4, repeated("\xC5\xBD", 31), LANECOCKLE_LENGTH, 0);
+    EITHER(5, "IVAN\xC4", LANECOCKLE_BYTE, 4);
+    EITHER(10, "HR1310010051863000160", LANECOCKLE_CHECK, 0);
+    EITHER(10, "SI1210010051863000160", LANECOCKLE_FORM, 0);
+    EITHER(10, "HR121001005186300016", LANECOCKLE_LENGTH, 0);
+    EITHER(10, "", LANECOCKLE_LENGTH, 0);
+    EITHER(11, "HRO1", LANECOCKLE_FORM, 0);
+    EITHER(11, "HR12", LANECOCKLE_MODEL, 0);
+    EITHER(12, "1-", LANECOCKLE_PARTS, 0);
+    EITHER(12, "7269-68949637676-00019", LANECOCKLE_DIGIT, 0);
+    EITHER(13, "COSt", LANECOCKLE_BYTE, 3);
+    EITHER(13, "COS", LANECOCKLE_LENGTH, 0);
+    EITHER(14, repeated("x", 36), LANECOCKLE_LENGTH, 0);
+}
+
+/* What is refused in field 10 of a kuna slip. */
+#define NO_ACCOUNT(text, number, byte) \
+    NO_LEDGER(lanecockle_ledger_read(IN_KUNA(10, (text))), (number), 10, slip_start(10) + (byte))
+
+/* An account begins with a digit; what does not is an IBAN, in which a hyphen is not permitted. */
+static void test_ledger_account(void)
+{
+    KUNA(lanecockle_ledger_read(IN_KUNA(10, "1001005-1700128481")), 12355, 1640);
+    KUNA(lanecockle_ledger_read(IN_KUNA(10, "0000000-0000000000")), 12355, 1640);
+    KUNA(lanecockle_ledger_read(IN_KUNA(10, "9999999-9999999999")), 12355, 1640);
+    NO_ACCOUNT("1001005A1863000160", LANECOCKLE_FORM, 0);
+    NO_ACCOUNT("100100518-63000160", LANECOCKLE_FORM, 0);
+    NO_ACCOUNT("1001005--863000160", LANECOCKLE_FORM, 0);
+    NO_ACCOUNT("1001005-186300016Z", LANECOCKLE_FORM, 0);
+    NO_ACCOUNT("100100511863000160", LANECOCKLE_FORM, 0);
+    NO_ACCOUNT("1001005-186300016", LANECOCKLE_LENGTH, 0);
+    NO_ACCOUNT("1001005-18630001600", LANECOCKLE_LENGTH, 0);
+    NO_ACCOUNT("100100518630001601234", LANECOCKLE_LENGTH, 0);
+    NO_ACCOUNT("1", LANECOCKLE_LENGTH, 0);
+    NO_ACCOUNT("1001005 1863000160", LANECOCKLE_BYTE, 7);
+    NO_ACCOUNT("1001005-186300016a", LANECOCKLE_BYTE, 17);
+    NO_ACCOUNT("1001005\xE2\x80\x93" "1863000160", LANECOCKLE_BYTE, 7);
+    NO_ACCOUNT("1_", LANECOCKLE_BYTE, 1);
+    NO_ACCOUNT("HR12-0010051863000160", LANECOCKLE_BYTE, 4);
+    NO_ACCOUNT("-001005-1863000160", LANECOCKLE_BYTE, 0);
+    NO_ACCOUNT("A001005-1863000160", LANECOCKLE_BYTE, 7);
+    /* in a euro slip it is no IBAN */
+    NO_LEDGER(lanecockle_ledger_read(SLIP(10, ACCOUNT)), LANECOCKLE_BYTE, 10, slip_start(10) + 7);
+}
+
+static void test_ledger_field(void)
+{
+    size_t n;
+    for (n = 4; n <= 14; n++) {
+        /* behind an account, three bytes shorter than the IBAN, fields begin as much earlier */
+        size_t earlier = n > 10 ? 3 : 0, length = strlen(slip_fields[n - 4]);
+        PART(lanecockle_ledger_field(SLIP(0, ""), n), slip_start(n), length);
+        PART(lanecockle_ledger_field(IN_KUNA(0, ""), n), slip_start(n), length);
+        PART(lanecockle_ledger_field(IN_KUNA(10, ACCOUNT), n), slip_start(n) - earlier, n == 10 ? 18 : length);
+    }
+    for (n = 0; n <= 3; n++) {
+        PART(lanecockle_ledger_field(SLIP(0, ""), n), 0, 0);
+        PART(lanecockle_ledger_field(IN_KUNA(0, ""), n), 0, 0);
+    }
+    PART(lanecockle_ledger_field(IN_KUNA(0, ""), 15), 0, 0);
+    PART(lanecockle_ledger_field(IN_KUNA(0, ""), SIZE_MAX), 0, 0);
+    PART(lanecockle_ledger_field(IN_KUNA(4, ""), 4), slip_start(4), 0);
+    PART(lanecockle_ledger_field(NULL, 0, 4), 0, 0);
+}
+
+/* To the calls for euro slips a kuna slip is none. */
+static void test_kuna_is_no_euro(void)
+{
+    TOLD(lanecockle_slip_read(IN_KUNA(0, "")), LANECOCKLE_FORM, 0, 2, 9, 0);
+    TOLD(lanecockle_slip_read(IN_KUNA(10, ACCOUNT)), LANECOCKLE_FORM, 0, 2, 9, 0);
+    NO_VALUE(lanecockle_slip_cents(IN_KUNA(0, "")), LANECOCKLE_FORM, 2, 9, 0);
+    PART(lanecockle_slip_field(IN_KUNA(0, ""), 10), 0, 0);
+    UNWRITTEN(12355, slip_given(10, ACCOUNT), LANECOCKLE_BYTE, 10, 7);
+}
+
+/* Twice the distance of a number of cents from a small number of lipa is below a cent. */
+static int is_nearest(uint64_t lipa, uint64_t cents)
+{
+    uint64_t at = lipa * 10000, told = cents * 75345;
+    return 2 * (at < told ? told - at : at - told) < 75345;
+}
+
+static void test_lipa_in_cents(void)
+{
+    size_t lipa, wrong = 0;
+    for (lipa = 0; lipa < 200000; lipa++) {
+        wrong += !is_nearest(lipa, lanecockle_lipa_in_cents(lipa));
+    }
+    CHECK(wrong == 0);
+    CHECK(lanecockle_lipa_in_cents(3) == 0 && lanecockle_lipa_in_cents(4) == 1);
+    CHECK(lanecockle_lipa_in_cents(12355) == 1640);
+    CHECK(lanecockle_lipa_in_cents(75345) == 10000);
+    /* the largest amount, and where twice its ten-thousandths, and these, no longer fit 64 bits */
+    CHECK(lanecockle_lipa_in_cents(999999999999999u) == 132722808414626u);
+    CHECK(lanecockle_lipa_in_cents(922337203685477u) == 122415183978429u);
+    CHECK(lanecockle_lipa_in_cents(922337203685478u) == 122415183978430u);
+    CHECK(lanecockle_lipa_in_cents(1844674407370955u) == 244830367956859u);
+    CHECK(lanecockle_lipa_in_cents(1844674407370956u) == 244830367956859u);
+    CHECK(lanecockle_lipa_in_cents(UINT64_MAX) == 2448303679568591362u);
 }
 
 /* ---------------------------------------------------------------------------------------------------------------------
@@ -1213,7 +1403,10 @@ static void (*const tests[])(void) = {
     test_list_reference, test_all_fillings,   test_filled,
     test_slip_read,      test_slip_field,     test_slip_cents,
     test_slip_write,     test_slip_longest,   test_slip_write_refusals,
-    test_slip_write_sizes, test_slip_round,   test_write_label,
+    test_slip_write_sizes, test_slip_round,   test_ledger_read,
+    test_ledger_whole,   test_ledger_currency, test_ledger_refusals,
+    test_ledger_account, test_ledger_field,   test_kuna_is_no_euro,
+    test_lipa_in_cents,  test_write_label,
     test_label_refusals, test_write_order,    test_order_refusals,
     test_write_group,    test_group_orders,   test_group_too_large,
     test_group_refusals, test_write_closing,  test_sizes,

@@ -1,12 +1,13 @@
-"""The calls of the library: check digits, accounts, references, wet slips, slips and wage files."""
+"""The calls of the library: check digits, accounts, references, wet slips, slips, slips for the ledgers and wage files."""
 
 import ctypes
 import datetime
 from ctypes import c_size_t, c_uint16
+from dataclasses import dataclass
 from enum import IntEnum
-from typing import Any, List, Literal, NamedTuple, Sequence, Tuple, Union, overload
+from typing import Any, Dict, List, Literal, NamedTuple, Sequence, Tuple, Union, overload
 
-from .library import Ended, Part, Record, Valued, load
+from .library import Ended, Ledger, Part, Record, Valued, load
 from .refusal import Refusal, accept
 from .scan import warn_of_barcode
 
@@ -22,6 +23,8 @@ LINE = 1002
 _SLIP = 483
 _FILLINGS = 10_000
 _REFUSED = 4
+_EURO = 1
+_KUNA = 2
 
 _CALLS = load()
 
@@ -256,6 +259,91 @@ def slip_write(cents: int, fields: Sequence[Bytes]) -> bytes:
     written = _front(out, length)
     warn_of_barcode(written)
     return written
+
+
+# ----------------------------------------------------------------------------------------------------------------------
+# Slips of either currency, for the ledgers
+
+
+@dataclass(frozen=True)
+class EuroCents:
+    """An amount in cents, hundredths of a euro. No operator adds it, to lipa least of all."""
+
+    cents: int
+
+
+@dataclass(frozen=True)
+class Lipa:
+    """An amount in lipa, hundredths of a kuna. No operator adds it, to cents least of all.
+
+        >>> Lipa(12355) + EuroCents(1640)
+        Traceback (most recent call last):
+        TypeError: unsupported operand type(s) for +: 'Lipa' and 'EuroCents'
+    """
+
+    lipa: int
+
+
+#: The amount of a slip in its own unit, which tells the slip's currency.
+Amount = Union[EuroCents, Lipa]
+
+
+def ledger_read(slip: Bytes) -> Amount:
+    """The amount of an accepted slip of either currency: EuroCents of a euro slip, Lipa of a kuna slip, printed before 2023.
+
+    Refusals: those of slip_read, a kuna slip's field 10 by its own rule; a currency that is neither is 5 at field 2.
+    """
+    read: Ledger = _CALLS["ledger_read"](*_lent(slip))
+    accept(read.told)
+    amounts: Dict[int, Amount] = {_EURO: EuroCents(read.cents), _KUNA: Lipa(read.lipa)}
+    return amounts[read.currency]
+
+
+def ledger_field(slip: Bytes, number: int) -> bytes:
+    """Field 4 to 14 of an accepted slip of either currency; empty for another number or a refused slip."""
+    slip = _bytes(slip)
+    return _part(slip, _CALLS["ledger_field"](*_lent(slip), _number(number)))
+
+
+class LedgerSlip(NamedTuple):
+    """What an accepted slip of either currency says: its amount in its own unit, and its fields 4 to 14 by name, as text.
+
+    `account` is an IBAN; in a kuna slip it may be seven digits, a hyphen and ten digits.
+    """
+
+    amount: Amount
+    payer: str
+    payer_street: str
+    payer_town: str
+    recipient: str
+    recipient_street: str
+    recipient_town: str
+    account: str
+    model: str
+    reference: str
+    purpose: str
+    description: str
+
+
+def ledger(slip: Bytes) -> LedgerSlip:
+    """The amount and fields of an accepted slip of either currency, by one call of the library; raises its refusal.
+
+        >>> read = ledger(b"HRVHUB30\\nHRK\\n000000000012355\\n\\n\\n\\n\\n\\n\\n1001005-1863000160\\nHR99\\n\\n\\nvoda\\n")
+        >>> read.amount, read.account
+        (Lipa(lipa=12355), '1001005-1863000160')
+        >>> lipa_in_cents(read.amount)
+        EuroCents(cents=1640)
+    """
+    slip = _bytes(slip)
+    amount = ledger_read(slip)
+    return LedgerSlip(amount, *(field.decode() for field in slip.split(b"\n")[3:14]))
+
+
+def lipa_in_cents(lipa: Lipa) -> EuroCents:
+    """Lipa in cents at 7.53450 kuna for a euro: the nearest cent, exactly."""
+    if not isinstance(lipa, Lipa):
+        raise TypeError(f"Lipa are needed, not {type(lipa).__name__}")
+    return EuroCents(_CALLS["lipa_in_cents"](_number(lipa.lipa)))
 
 
 # ----------------------------------------------------------------------------------------------------------------------

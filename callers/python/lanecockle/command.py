@@ -16,8 +16,11 @@ from typing import (
 )
 
 from . import explain
-from .calls import LINE, Bytes, Rule, iban, list_iban, list_reference, make_digit, oib, reference, slip_cents
-from .explain import Shown, count, money
+from .calls import (
+    LINE, Bytes, EuroCents, Rule, iban, ledger_read, lipa_in_cents, list_iban, list_reference, make_digit, oib,
+    reference, slip_cents,
+)
+from .explain import Shown, count, kuna, money
 from .judging import Accepted, Judging
 from .refusal import LANGUAGES, Refusal
 from .scan import scanned
@@ -37,6 +40,10 @@ _WORDS: Dict[str, Tuple[str, str]] = {
     "changed": ("mended: what the barcode reader had added or lost",
                 "ispravljeno: što je čitač barkoda dodao ili izgubio"),
     "scan": ("With --scan this slip is accepted.", "Uz --scan ova je uplatnica prihvaćena."),
+    "euro": ("accepted: a euro slip", "prihvaćeno: uplatnica u eurima"),
+    "kuna": ("accepted: a kuna slip, read for the ledger, not to be paid",
+             "prihvaćeno: uplatnica u kunama, pročitana za poslovne knjige, ne za plaćanje"),
+    "converted": ("{} ({} at 7.53450)", "{} ({} po tečaju 7,53450)"),
     "counts": ("accepted: lines {}, groups {}, orders {}, sum {}",
                "prihvaćeno: slogova {}, grupa {}, naloga {}, zbroj {}"),
     "fillings": ("fillings: {}", "mogućih dopuna: {}"),
@@ -65,6 +72,8 @@ _HELP: Dict[str, Tuple[str, str]] = {
     "lang": ("language: en or hr (else that of the environment)", "jezik: en ili hr (inače jezik okoline)"),
     "json": ("answer with one line of JSON", "odgovori jednim retkom u formatu JSON"),
     "slip": ("judge a slip, the bytes of its barcode", "provjeri uplatnicu, sadržaj njezina barkoda"),
+    "ledger": ("judge a slip in euro or in kuna, for the ledgers",
+               "provjeri uplatnicu u eurima ili u kunama, za poslovne knjige"),
     "wage": ("judge a wage file of 300, 301, 309 and 399 lines",
              "provjeri datoteku osobnih primanja (slogovi 300, 301, 309 i 399)"),
     "wet": ("list what an IBAN or a reference with ? for unreadable digits may be",
@@ -248,9 +257,10 @@ def _parser(language: str) -> _Parser:
 
 def _take_arguments(made: Dict[str, _Parser]) -> None:
     """Gives each command its arguments and options."""
-    for name in ("slip", "wage"):
+    for name in ("slip", "ledger", "wage"):
         made[name].take("file", word="file", metavar="FILE", nargs="?", default="-")
-    made["slip"].take("--scan", word="scan", action="store_true")
+    for name in ("slip", "ledger"):
+        made[name].take("--scan", word="scan", action="store_true")
     made["wage"].take("--day", word="day", metavar="YYYYMMDD", type=_day)
     made["wet"].take("model", word="of wet", metavar="MODEL", nargs="?")
     made["reference"].take("model", word="model", metavar="MODEL")
@@ -398,26 +408,60 @@ def _refused(shown: Shown, language: str) -> Answer:
 
 def _slip(asked: argparse.Namespace, language: str) -> Answer:
     """A slip: its amount and every field with its name."""
-    with _reading(asked.file, language) as file:
-        read = file.read(_MOST)
-    data = scanned(read) if asked.scan else read
+    data, changed = _slip_of(asked, language)
     try:
         cents = slip_cents(data)
     except Refusal as refusal:
-        shown = explain.of_slip(refusal, data, language)
-        mended = [_say("scan", language)] if _is_slip(scanned(data)) else []
-        return _refused(shown._replace(hints=shown.hints + mended), language)
-    fields = explain.slip_fields(data, language)
-    lines = [_say("accepted", language)] + ([_say("changed", language)] if data != read else [])
-    for field in fields:
-        content = money(cents, language) if field["number"] == 3 else field["content"]
-        lines.append(f"  {field['number']:2} {field['name']}: {content}".rstrip())
-    return Answer(True, {"changed": data != read, "cents": cents, "fields": fields}, "\n".join(lines))
+        return _slip_refused(explain.of_slip(refusal, data, language), slip_cents, data, language)
+    facts: Dict[str, object] = {"changed": changed, "cents": cents}
+    return _slip_told("accepted", facts, money(cents, language), data, language)
 
 
-def _is_slip(data: bytes) -> bool:
+def _ledger(asked: argparse.Namespace, language: str) -> Answer:
+    """A slip of either currency: which it is, its amount, a kuna slip's also in euro, and every field with its name."""
+    data, changed = _slip_of(asked, language)
     try:
-        slip_cents(data)
+        amount = ledger_read(data)
+    except Refusal as refusal:
+        return _slip_refused(explain.of_ledger(refusal, data, language), ledger_read, data, language)
+    facts: Dict[str, object] = {"changed": changed}
+    if isinstance(amount, EuroCents):
+        facts.update(currency="EUR", cents=amount.cents)
+        return _slip_told("euro", facts, money(amount.cents, language), data, language)
+    converted = lipa_in_cents(amount).cents
+    # no `cents`: whoever asks for these must not be given a converted amount
+    facts.update(currency="HRK", lipa=amount.lipa, converted=converted)
+    said = _say("converted", language, kuna(amount, language), money(converted, language))
+    return _slip_told("kuna", facts, said, data, language)
+
+
+def _slip_of(asked: argparse.Namespace, language: str) -> Tuple[bytes, bool]:
+    """The slip of a file, and whether what a barcode reader added was mended in it."""
+    with _reading(asked.file, language) as file:
+        read = file.read(_MOST)
+    data = scanned(read) if asked.scan else read
+    return data, data != read
+
+
+def _slip_told(word: str, facts: Dict[str, object], amount: str, data: bytes, language: str) -> Answer:
+    """What is said of an accepted slip: the word, whether it was mended, and its fields, the amount in words."""
+    fields = explain.slip_fields(data, language)
+    lines = [_say(word, language)] + ([_say("changed", language)] if facts["changed"] else [])
+    for field in fields:
+        content = amount if field["number"] == 3 else field["content"]
+        lines.append(f"  {field['number']:2} {field['name']}: {content}".rstrip())
+    return Answer(True, dict(facts, fields=fields), "\n".join(lines))
+
+
+def _slip_refused(shown: Shown, call: Callable[[Bytes], object], data: bytes, language: str) -> Answer:
+    """What is said of a slip that a call refuses, and whether it would accept the slip mended."""
+    mended = [_say("scan", language)] if _accepts(call, scanned(data)) else []
+    return _refused(shown._replace(hints=shown.hints + mended), language)
+
+
+def _accepts(call: Callable[[Bytes], object], data: bytes) -> bool:
+    try:
+        call(data)
     except Refusal:
         return False
     return True
@@ -528,5 +572,6 @@ def _text_refused(
 
 
 _COMMANDS: Dict[str, Callable[[argparse.Namespace, str], Answer]] = {
-    "slip": _slip, "wage": _wage, "wet": _wet, "iban": _iban, "oib": _oib, "reference": _reference, "digit": _digit,
+    "slip": _slip, "ledger": _ledger, "wage": _wage, "wet": _wet, "iban": _iban, "oib": _oib, "reference": _reference,
+    "digit": _digit,
 }

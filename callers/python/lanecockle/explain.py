@@ -4,7 +4,7 @@ import unicodedata
 from typing import Dict, List, NamedTuple, Optional, Tuple
 
 from . import hints
-from .calls import LINE
+from .calls import LINE, Lipa
 from .library import Record
 from .refusal import LANGUAGES, TYPE_BYTE, Refusal
 from .tables import FIELDS, WORDS
@@ -25,6 +25,8 @@ _WORDS: Dict[str, Tuple[str, str]] = {
     "sum": ("sum: declared {}, summed {}", "zbroj iznosa: upisano {}, zbrojeno {}"),
     "before": ("bytes before {}: {}; due: {} before CR LF", "znakova prije {}: {}; propisano: {} prije CR LF"),
     "file end": ("the end of the file", "kraja datoteke"),
+    "currency": ("Must be `EUR`, or `HRK` in a slip from before 2023.",
+                 "Mora biti `EUR` ili, u uplatnici iz vremena prije 2023., `HRK`."),
     "slip size": ("A slip has at most {} bytes; {} were read.", "Uplatnica ima najviše {} bajta; pročitano ih je {}."),
     "due": ("A line of type {} is due here.", "Ovdje treba stajati slog {}."),
     "or": (" or ", " ili "),
@@ -148,7 +150,19 @@ class Shown(NamedTuple):
 
 def of_slip(refusal: Refusal, data: bytes, language: str) -> Shown:
     """The refusal of a slip, with the content of its field."""
-    said = hints.of_slip(data, refusal, language)
+    return _named(_of_slip(refusal, data, hints.of_slip(data, refusal, language), language), "slip", language)
+
+
+def of_ledger(refusal: Refusal, data: bytes, language: str) -> Shown:
+    """The refusal of a slip of either currency, with the content of its field."""
+    layout = hints.slip_layout(data)
+    shown = _of_slip(refusal, data, hints.of_ledger(data, refusal, language), language)
+    shown = _named(shown, layout if (layout, refusal.field) in FIELDS else "slip", language)
+    return shown._replace(rule=_say("currency", language)) if refusal.field == 2 else shown
+
+
+def _of_slip(refusal: Refusal, data: bytes, said: List[str], language: str) -> Shown:
+    """The refusal of a slip, without the name of its field."""
     if refusal.number == 1:
         said = said + [_say("slip size", language, _SLIP, count(len(data), language))]
     if not refusal.field:
@@ -156,7 +170,7 @@ def of_slip(refusal: Refusal, data: bytes, language: str) -> Shown:
     fields = data.split(b"\n", refusal.field)[:refusal.field]
     text = _decoded(fields[-1])
     mark = _character(text, refusal.byte - sum(len(field) + 1 for field in fields[:-1]))
-    return _named(_shown(refusal, _visible(text), mark, said, language), "slip", language)
+    return _shown(refusal, _visible(text), mark, said, language)
 
 
 def of_wage(refusal: Refusal, start: bytes, line: bytes, record: Record, day: int, language: str) -> Shown:
@@ -195,9 +209,9 @@ def of_text(
 
 
 def slip_fields(slip: bytes, language: str) -> List[Dict[str, object]]:
-    """The fields of an accepted slip, for JSON: number, name and content."""
-    at = LANGUAGES.index(language)
-    fields = [field for field in FIELDS.values() if field.layout == "slip"]
+    """The fields of an accepted slip of either currency, for JSON: number, name and content."""
+    at, layout = LANGUAGES.index(language), hints.slip_layout(slip)
+    fields = [FIELDS.get((layout, number), FIELDS["slip", number]) for number in range(1, 15)]
     return [
         {"number": field.number, "name": field.name[at], "content": content.decode()}
         for field, content in zip(fields, slip.split(b"\n"))
@@ -206,8 +220,18 @@ def slip_fields(slip: bytes, language: str) -> List[Dict[str, object]]:
 
 def money(cents: int, language: str) -> str:
     """An amount in euro: `1,234.56 EUR`, in Croatian `1.234,56 EUR`."""
+    return f"{_hundredths(cents, language)} EUR"
+
+
+def kuna(lipa: Lipa, language: str) -> str:
+    """An amount in kuna: `1,234.56 HRK`, in Croatian `1.234,56 HRK`."""
+    return f"{_hundredths(lipa.lipa, language)} HRK"
+
+
+def _hundredths(number: int, language: str) -> str:
+    """Hundredths as a number with two places behind the point."""
     point = "," if language == "hr" else "."
-    return f"{count(cents // 100, language)}{point}{cents % 100:02} EUR"
+    return f"{count(number // 100, language)}{point}{number % 100:02}"
 
 
 def count(number: int, language: str) -> str:

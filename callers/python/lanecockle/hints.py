@@ -190,9 +190,15 @@ HINTS: Dict[str, Tuple[str, str]] = {
     "point": (
         "The amount has a comma or a point. Write it in cents, with leading zeros: for 123.55 euro, 12355.",
         "Iznos sadrži zarez ili točku. Upišite ga u centima, s vodećim nulama: za 123,55 eura 12355."),
+    "lipa_point": (
+        "The amount has a comma or a point. Write it in lipa, with leading zeros: for 123.55 kuna, 12355.",
+        "Iznos sadrži zarez ili točku. Upišite ga u lipama, s vodećim nulama: za 123,55 kuna 12355."),
     "padded": (
         "The amount has {length} digits, and {width} are due. Write it in cents with leading zeros.",
         "Duljina iznosa je {length}, a mora biti {width}. Upišite iznos u centima s vodećim nulama."),
+    "lipa_padded": (
+        "The amount has {length} digits, and {width} are due. Write it in lipa with leading zeros.",
+        "Duljina iznosa je {length}, a mora biti {width}. Upišite iznos u lipama s vodećim nulama."),
     "too_long": (
         "The content is {length} characters long, and at most {width} are permitted. Shorten it.",
         "Duljina podatka je {length}, a dozvoljeno je najviše {width}. Skratite ga."),
@@ -202,6 +208,10 @@ HINTS: Dict[str, Tuple[str, str]] = {
     "iban_form": (
         "An IBAN is HR and nineteen digits. Compare it with the paper.",
         "IBAN se sastoji od HR i devetnaest znamenki. Usporedite ga s izvornikom."),
+    "account_form": (
+        "It begins with a digit, so it is an account: seven digits, a hyphen and ten digits. Compare it with the paper.",
+        "Podatak počinje znamenkom, dakle to je račun: sedam znamenki, crtica i deset znamenki. Usporedite ga s "
+        "izvornikom."),
     "digits": (
         "Digits alone are permitted, in a reference hyphens too. Compare it with the paper.",
         "Dozvoljene su samo znamenke, a u pozivu na broj i crtice. Usporedite podatak s izvornikom."),
@@ -213,6 +223,10 @@ HINTS: Dict[str, Tuple[str, str]] = {
     "kuna": (
         "The currency is the kuna (HRK), which the euro replaced on 1 January 2023. Ask for a new order in euro (EUR).",
         "Valuta je kuna (HRK), koju je 1. siječnja 2023. zamijenio euro. Zatražite novi nalog u eurima (EUR)."),
+    "kuna_slip": (
+        "This is a kuna slip (HRK), from before 2023, and is not to be paid. For the books it is read by `ledger`.",
+        "Ovo je uplatnica u kunama (HRK), iz vremena prije 2023., i po njoj se ne plaća. Za poslovne knjige čita je "
+        "`ledger`."),
     # Checks.
     "iban": (
         "It is the IBAN that fails its check: probably one digit was misread or two were exchanged. Compare it with "
@@ -296,6 +310,7 @@ _Found = Tuple[str, Dict[str, object]]
 _KINDS: Dict[Tuple[str, int], str] = {
     ("slip", 2): "currency", ("slip", 3): "amount", ("slip", 10): "iban", ("slip", 11): "model",
     ("slip", 12): "reference",
+    ("kuna", 3): "lipa", ("kuna", 10): "iban",
     ("300", 1): "date", ("300", 5): "oib", ("300", 6): "number", ("300", 7): "number", ("300", 8): "oib",
     ("301", 1): "iban", ("301", 2): "currency", ("301", 3): "iban", ("301", 4): "currency", ("301", 5): "number",
     ("301", 6): "amount", ("301", 7): "date",
@@ -309,6 +324,7 @@ _TEXTS = {"iban": ("slip", 10), "oib": ("300", 5), "reference": ("slip", 12), "m
 _LETTERS = "ČčĆćĐđŠšŽž"
 _HEADER = b"HRVHUB30"
 _KUNA = "HRK"
+_ACCOUNT = FIELDS["kuna", 10]._replace(width=18, at_most=False)
 _UTF16 = (BOM_UTF16_LE, BOM_UTF16_BE)
 _LOOKALIKES = {"O": "0", "o": "0", "I": "1", "l": "1"}
 _CONTINUATION = bytes(range(0x80, 0xC0))
@@ -327,15 +343,17 @@ class _Content(NamedTuple):
 
 
 # ----------------------------------------------------------------------------------------------------------------------
-# The three calls
+# The four calls
 
 
 def of_slip(data: bytes, refusal: Refusal, language: str) -> List[str]:
     """The hints about a refused slip, in `en` or `hr`; none where nothing is known."""
-    found = list(_slip(data, refusal))
-    if not found and refusal.number == 3 and ("slip", refusal.field) not in _KINDS:
-        found = [("text", {})]
-    return _said(found, language)
+    return _of_slip(data, refusal, "slip", language)
+
+
+def of_ledger(data: bytes, refusal: Refusal, language: str) -> List[str]:
+    """The hints about a slip of either currency that is refused, in `en` or `hr`; none where nothing is known."""
+    return _of_slip(data, refusal, slip_layout(data), language)
 
 
 def of_wage(start: bytes, line: bytes, refusal: Refusal, day: int, language: str) -> List[str]:
@@ -357,6 +375,11 @@ def of_text(what: str, text: bytes, refusal: Refusal, language: str, model: byte
     if not text and refusal.number in (1, 4):
         return _said([("empty", {})], language)
     return _said(list(_content(content, refusal.number)) or _plain(content, refusal.number), language)
+
+
+def slip_layout(data: bytes) -> str:
+    """The layout of a slip of either currency: `kuna` where its field 2 is `HRK`, else `slip`."""
+    return "kuna" if data.split(b"\n", 2)[1:2] == [_KUNA.encode()] else "slip"
 
 
 def _said(found: Iterable[_Found], language: str) -> List[str]:
@@ -385,7 +408,14 @@ def _hex(data: bytes) -> str:
 # Slips
 
 
-def _slip(data: bytes, refusal: Refusal) -> Iterator[_Found]:
+def _of_slip(data: bytes, refusal: Refusal, layout: str, language: str) -> List[str]:
+    found = list(_slip(data, refusal, layout))
+    if not found and refusal.number == 3 and ("slip", refusal.field) not in _KINDS:
+        found = [("text", {})]
+    return _said(found, language)
+
+
+def _slip(data: bytes, refusal: Refusal, layout: str) -> Iterator[_Found]:
     if not data:
         yield "empty", {}
         return
@@ -398,12 +428,18 @@ def _slip(data: bytes, refusal: Refusal) -> Iterator[_Found]:
         yield from _slip_letters(data, refusal)
     if refusal.number == 2:
         yield from _slip_feeds(data.rstrip(b"\0"))
-    fields = data.split(b"\n")
-    field = FIELDS.get(("slip", refusal.field))
-    if field and field.number <= len(fields):
-        kind = _KINDS.get(("slip", field.number), "text")
-        model = _utf8(fields[field.number - 2]) if kind == "reference" else ""
-        yield from _content(_Content(kind, _utf8(fields[field.number - 1]), field, model), refusal.number)
+    fields = [_utf8(field) for field in data.split(b"\n")]
+    if ("slip", refusal.field) in FIELDS and refusal.field <= len(fields):
+        yield from _content(_slip_content(fields, refusal.field, layout), refusal.number)
+
+
+def _slip_content(fields: List[str], number: int, layout: str) -> _Content:
+    """What stands in a field of a slip."""
+    kind = _KINDS.get((layout, number)) or _KINDS.get(("slip", number), "text")
+    text = fields[number - 1]
+    if (layout, number) == ("kuna", 10) and re.match("[0-9]", text):
+        return _Content("account", text, _ACCOUNT)
+    return _Content(kind, text, FIELDS["slip", number], fields[number - 2] if kind == "reference" else "")
 
 
 def _slip_front(data: bytes) -> Iterator[_Found]:
@@ -704,13 +740,13 @@ def _characters(content: _Content) -> Iterator[_Found]:
     similar = re.compile("[OoIl]").search(text, letters)
     if similar:
         yield "lookalike", {"at": similar.start() + 1, "seen": similar.group(), "meant": _LOOKALIKES[similar.group()]}
-    if kind == "amount" and re.search("[.,]", text):
-        yield "point", {}
+    if kind in ("amount", "lipa") and re.search("[.,]", text):
+        yield "point" if kind == "amount" else "lipa_point", {}
     if letters and re.search("[a-z]", text[:letters] + re.sub("[ol]", "", text[letters:])):
         yield "lower", {}
     blank = re.search("[ \u00a0]", text)
     if blank:
-        numeric = kind in ("amount", "number", "date") or kind == "oib" and content.of_wage
+        numeric = kind in ("amount", "lipa", "number", "date") or kind == "oib" and content.of_wage
         yield "zeros" if numeric else "blank", {"at": blank.start() + 1}
     dash = re.search("[\u2010-\u2015\u2212]", text)
     if dash:
@@ -725,13 +761,15 @@ def _length(content: _Content) -> Iterator[_Found]:
     if content.field.at_most:
         yield "too_long", values
     else:
-        yield "padded" if content.kind == "amount" else "fixed", values
+        yield {"amount": "padded", "lipa": "lipa_padded"}.get(content.kind, "fixed"), values
 
 
 def _form(content: _Content) -> Iterator[_Found]:
     """What is wrong with a content that is not of its form."""
     if content.kind == "currency" and content.text == _KUNA:
-        yield "kuna", {}
+        yield "kuna" if content.of_wage else "kuna_slip", {}
+    if content.kind == "account":
+        yield "account_form", {}
     if content.kind == "model":
         yield "model", {}
     country = re.match("[A-Z]{2}", content.text)

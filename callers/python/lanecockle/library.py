@@ -38,6 +38,19 @@ class Ended(ctypes.Structure):
     _fields_ = [("told", Told), ("lines", c_size_t), ("groups", c_size_t), ("orders", c_size_t)]
 
 
+class Ledger(ctypes.Structure):
+    """An answer with the currency of a slip, 1 euro or 2 kuna, and its amount in its own unit; 0 where it is refused."""
+
+    told: Told
+    currency: int
+    cents: int
+    lipa: int
+    converted: int
+    _fields_ = [
+        ("told", Told), ("currency", c_size_t), ("cents", c_uint64), ("lipa", c_uint64), ("converted", c_uint64),
+    ]
+
+
 class Part(ctypes.Structure):
     """A part of the lent bytes."""
 
@@ -103,6 +116,9 @@ _FUNCTIONS: Dict[str, Any] = {
     "slip_field": (Part, _TEXT + [c_size_t]),
     "slip_cents": (Valued, _TEXT),
     "slip_write": (Valued, [c_uint64] + _TEXT + _SIZES + _TEXT),
+    "ledger_read": (Ledger, _TEXT),
+    "ledger_field": (Part, _TEXT + [c_size_t]),
+    "lipa_in_cents": (c_uint64, [c_uint64]),
     "judge_begin": (Record, [c_uint64]),
     "judge_step": (Record, [Record] + _TEXT),
     "judge_lines": (Record, [Record] + _TEXT),

@@ -47,6 +47,9 @@ const TEXTS = {
     number: "No.",
     empty: "empty",
     mended: "What the barcode reader had added or lost was put right first.",
+    ledger: "Kuna slip: read for the ledger, not to be paid",
+    inKuna: "Amount in kuna",
+    inEuro: "In euro, at 7.53450",
     wetLead: "Type ? for each unreadable digit (four at most) and choose among the fillings.",
     kind: "What is to be read",
     iban: "IBAN",
@@ -112,6 +115,9 @@ const TEXTS = {
     number: "Br.",
     empty: "prazno",
     mended: "Prije čitanja ispravljeno je ono što je čitač barkoda dodao ili izgubio.",
+    ledger: "Uplatnica u kunama: pročitana za poslovne knjige, ne za plaćanje",
+    inKuna: "Iznos u kunama",
+    inEuro: "U eurima, po tečaju 7,53450",
     wetLead: "Za svaku nečitljivu znamenku upišite ? (najviše četiri) i odaberite među mogućim dopunama.",
     kind: "Što treba pročitati",
     iban: "IBAN",
@@ -453,8 +459,17 @@ function readSlip(slip) {
       showFields(answer, note);
     } else {
       showRefusal("slip", answer, note);
+      showLedger(answer.ledger);
     }
   });
+}
+
+/** Shows what a kuna slip says for the ledger, below its refusal. */
+function showLedger(ledger) {
+  if (ledger) {
+    const figures = [[say("inKuna"), ledger.kuna], [say("inEuro"), ledger.euro]];
+    at("slip-result").append(card("ledger", say("ledger"), pairs("figures", figures)), fieldTable(ledger.fields));
+  }
 }
 
 function showFields(answer, note) {

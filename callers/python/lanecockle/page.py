@@ -19,8 +19,10 @@ from pathlib import Path
 from typing import Any, Callable, Dict, Iterator, List, NoReturn, Optional, Tuple, cast
 from urllib.parse import parse_qsl, urlsplit
 
-from .calls import LINE, filled, iban, list_iban, list_reference, oib, reference, slip_cents
-from .explain import Shown, money, of_slip, of_text, slip_fields
+from .calls import (
+    LINE, Lipa, filled, iban, ledger_read, lipa_in_cents, list_iban, list_reference, oib, reference, slip_cents,
+)
+from .explain import Shown, kuna, money, of_slip, of_text, slip_fields
 from .judging import Accepted, Judging
 from .refusal import LANGUAGES, Refusal
 from .scan import compact, scanned
@@ -86,9 +88,23 @@ def _slip(data: bytes, language: str) -> Answer:
     try:
         cents = slip_cents(slip)
     except Refusal as refusal:
-        return {**_refused(of_slip(refusal, slip, language), language), "changed": slip != data}
+        shown = _refused(of_slip(refusal, slip, language), language)
+        return {**shown, "changed": slip != data, "ledger": _ledger(slip, language)}
     fields = slip_fields(slip, language)
     return {"accepted": True, "changed": slip != data, "cents": cents, "sum": money(cents, language), "fields": fields}
+
+
+def _ledger(slip: bytes, language: str) -> Optional[Answer]:
+    """What a kuna slip, which is refused all the same, says for the ledger: its amount in kuna and in euro, its fields."""
+    try:
+        amount = ledger_read(slip)
+    except Refusal:
+        return None
+    # a euro slip is not shown here: it has its own answer
+    if not isinstance(amount, Lipa):
+        return None
+    euro = money(lipa_in_cents(amount).cents, language)
+    return {"kuna": kuna(amount, language), "euro": euro, "fields": slip_fields(slip, language)}
 
 
 def _wet(asked: Dict[str, str], language: str) -> Answer:

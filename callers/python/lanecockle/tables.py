@@ -3,7 +3,7 @@
 from typing import Dict, List, NamedTuple, Tuple
 
 #: The version of the package, which is that of the library it was made with.
-VERSION = "1.0.0"
+VERSION = "1.1.0"
 
 #: The name and the meaning of each refusal, by its number.
 KINDS: Dict[int, Tuple[str, str]] = {
@@ -63,7 +63,8 @@ WORDS: Dict[str, Tuple[str, str]] = {
 
 
 class Field(NamedTuple):
-    """A field of the slip (`layout` "slip") or of a line of a wage file ("300", "301", "309", "399").
+    """A field of the slip (`layout` "slip"), of a kuna slip where it differs from the slip's ("kuna"), or of a line of a
+    wage file ("300", "301", "309", "399").
 
     `start` is its first position, counted from 1, and 0 in a slip; `width` its bytes, in a slip its characters, and the
     most of them where `at_most`; `read` whether it is judged; `name` and `rule` are in English and Croatian.
@@ -125,6 +126,15 @@ FIELDS: Dict[Tuple[str, int], Field] = {
         Field("slip", 14, 0, 35, True, True,
               ("Description of the payment", "Opis plaćanja"),
               ("Text of at most 35 characters; may be empty.", "Tekst od najviše 35 znakova; smije biti prazan.")),
+        Field("kuna", 2, 0, 3, False, True,
+              ("Currency", "Valuta"),
+              ("Must be `HRK`.", "Mora biti `HRK`.")),
+        Field("kuna", 3, 0, 15, False, True,
+              ("Amount", "Iznos"),
+              ("Exactly fifteen digits, the amount in lipa with leading zeros.", "Točno petnaest znamenki, iznos u lipama s vodećim nulama.")),
+        Field("kuna", 10, 0, 21, True, True,
+              ("Recipient's IBAN or account", "IBAN ili račun primatelja"),
+              ("An IBAN or an account, at most 21 characters: `HR` and nineteen digits that pass the IBAN's check; or, where it begins with a digit, seven digits, a hyphen and ten digits.", "IBAN ili račun, najviše 21 znak: `HR` i devetnaest znamenki koje prolaze kontrolu IBAN-a; ili, ako počinje znamenkom, sedam znamenki, crtica i deset znamenki.")),
         Field("300", 1, 1, 8, False, True,
               ("Date of submission of the file", "Datum podnošenja / slanja datoteke"),
               ("The day of submission, YYYYMMDD.", "Dan podnošenja, GGGGMMDD.")),

@@ -16,6 +16,7 @@ from lanecockle import LINE, __version__, command
 from lanecockle.judging import Judging
 from tests.test_calls import DAY, SLIP_FIELDS, file_of_two, replaced, slip_of, with_bytes
 from tests.test_judging import file_of
+from tests.test_ledger import ACCEPTED, KUNA, joined
 
 PYTHON = Path(__file__).resolve().parents[1]
 ON_DAY = ("--day", str(DAY))
@@ -259,6 +260,71 @@ class Slips(Case):
         self.assertLess(len(ran.out), 500)
 
 
+class Ledger(Case):
+    def test_kuna(self) -> None:
+        ran = run("ledger", self.file(KUNA))
+        self.assertEqual((ran.status, ran.err), (0, ""))
+        lines = ran.out.split("\n")
+        self.assertEqual(lines[:4], [
+            "accepted: a kuna slip, read for the ledger, not to be paid", "   1 Header: HRVHUB30", "   2 Currency: HRK",
+            "   3 Amount: 123.55 HRK (16.40 EUR at 7.53450)",
+        ])
+        self.assertEqual((lines[10], len(lines)), ("  10 Recipient's IBAN or account: 1001005-1863000160", 16))
+
+    def test_kuna_in_croatian(self) -> None:
+        lines = run("--lang", "hr", "ledger", self.file(KUNA)).out.split("\n")
+        self.assertEqual(lines[0], "prihvaćeno: uplatnica u kunama, pročitana za poslovne knjige, ne za plaćanje")
+        self.assertEqual(lines[3], "   3 Iznos: 123,55 HRK (16,40 EUR po tečaju 7,53450)")
+        self.assertEqual(lines[10], "  10 IBAN ili račun primatelja: 1001005-1863000160")
+
+    def test_euro(self) -> None:
+        of_slip = run("slip", self.file(SLIP)).out.split("\n")
+        lines = run("ledger", self.file(SLIP)).out.split("\n")
+        self.assertEqual((lines[0], lines[1:]), ("accepted: a euro slip", of_slip[1:]))
+        croatian = run("ledger", self.file(SLIP), "--lang", "hr").out.split("\n")
+        self.assertEqual(croatian[0], "prihvaćeno: uplatnica u eurima")
+
+    def test_json(self) -> None:
+        facts = self.answer("ledger", self.file(KUNA))
+        fields = facts.pop("fields")
+        self.assertEqual(facts, {"accepted": True, "changed": False, "currency": "HRK", "lipa": 12355, "converted": 1640})
+        self.assertEqual([field["content"].encode() for field in fields], ACCEPTED[2])
+        facts = self.answer("ledger", self.file(SLIP))
+        self.assertEqual((facts["currency"], facts["cents"]), ("EUR", 12355))
+        self.assertEqual(set(facts) & {"lipa", "converted"}, set())
+
+    def test_standard_input(self) -> None:
+        for asked in (["ledger"], ["ledger", "-"]):
+            for fields in ACCEPTED:
+                self.assertEqual(run(*asked, given=joined(fields)).status, 0)
+            self.assertEqual(run(*asked, given=KUNA[:-1]).status, 1)
+
+    def test_scan(self) -> None:
+        file = self.file(b"]L2" + KUNA.replace(b"\n", b"\r\n"))
+        ran = run("ledger", file)
+        self.assertEqual((ran.status, "With --scan this slip is accepted." in ran.out), (1, True))
+        self.assertTrue(self.answer("ledger", file, "--scan")["changed"])
+        self.assertIn("mended", run("ledger", "--scan", file).out)
+
+    def test_refused(self) -> None:
+        file = self.file(KUNA.replace(b"1001005-", b"1001005A"))
+        refusal = self.answer("ledger", file, status=1)["refusal"]
+        self.assertEqual((refusal["number"], refusal["field"], refusal["content"]), (5, 10, "1001005A1863000160"))
+        self.assertIn("a hyphen and ten digits", run("ledger", file).out)
+
+    def test_kuna_is_no_slip(self) -> None:
+        """It is refused, and `--scan` does not mend it; the hint names `ledger`."""
+        for asked in (["slip", self.file(KUNA)], ["slip", self.file(KUNA), "--scan"]):
+            facts = self.answer(*asked, status=1)
+            self.assertEqual((facts["refusal"]["number"], facts["refusal"]["field"], facts["refusal"]["byte"]), (5, 2, 9))
+            self.assertEqual(set(facts), {"accepted", "refusal"})
+            for language in ("en", "hr"):
+                ran = run(*asked, "--lang", language)
+                self.assertEqual(ran.status, 1)
+                self.assertIn("`ledger`", ran.out)
+                self.assertNotIn("--scan", ran.out)
+
+
 class Wages(Case):
     def test_accepted(self) -> None:
         file = self.file(file_of([700, 1, 1300]))
@@ -480,7 +546,7 @@ class Texts(Case):
 
 
 class Usage(Case):
-    COMMANDS = ("slip", "wage", "wet", "iban", "oib", "reference", "digit", "page")
+    COMMANDS = ("slip", "ledger", "wage", "wet", "iban", "oib", "reference", "digit", "page")
 
     def test_help(self) -> None:
         ran = run("--help")
@@ -507,6 +573,7 @@ class Usage(Case):
                 self.assertIn("--json", ran.out)
         self.assertIn("--day", run("wage", "-h").out)
         self.assertIn("--scan", run("slip", "-h").out)
+        self.assertIn("--scan", run("ledger", "-h").out)
 
     def test_version(self) -> None:
         for asked in (["--version"], ["slip", "--version"]):
@@ -542,7 +609,7 @@ class Usage(Case):
         self.assertIn("[--day GGGGMMDD]", run("wage", "--help", "--lang", "hr").out)
 
     def test_unreadable(self) -> None:
-        for name in ("slip", "wage"):
+        for name in ("slip", "ledger", "wage"):
             missing = str(self.folder / "none")
             self.assert_failed(run(name, missing), missing)
             self.assert_failed(run(name, missing, "--json"), missing)

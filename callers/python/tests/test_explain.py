@@ -5,9 +5,10 @@ import unittest
 from typing import Any, List, Tuple
 from unittest import mock
 
-from lanecockle import LINE, Judge, Record, Refusal, iban, list_iban, slip_read
-from lanecockle.explain import Shown, money, of_slip, of_text, of_wage
+from lanecockle import LINE, Judge, Lipa, Record, Refusal, iban, ledger_read, list_iban, slip_read
+from lanecockle.explain import Shown, kuna, money, of_ledger, of_slip, of_text, of_wage, slip_fields
 from tests.test_calls import DAY, SLIP_FIELDS, file_of_two, lines_of, refused, replaced, slip_of, with_bytes
+from tests.test_ledger import ACCEPTED, KUNA, joined, kuna_with
 
 
 def refusal_of(call: Any, *lent: Any) -> Refusal:
@@ -37,6 +38,10 @@ def wage_shown(file: bytes, language: str = "en", day: int = DAY) -> Shown:
 
 def slip_shown(slip: bytes, language: str = "en") -> Shown:
     return of_slip(refusal_of(slip_read, slip), slip, language)
+
+
+def ledger_shown(slip: bytes, language: str = "en") -> Shown:
+    return of_ledger(refusal_of(ledger_read, slip), slip, language)
 
 
 def slip_with(number: int, field: bytes) -> bytes:
@@ -115,6 +120,64 @@ class Slips(unittest.TestCase):
         self.assertEqual((shown.number, shown.content), (1, "␊" * 483))
         self.assertIn("A slip has at most 483 bytes; 1,500 were read.", shown.hints)
         self.assertIn("najviše 483 bajta; pročitano ih je 1.500.", slip_shown(b"\n" * 1500, "hr").hints[-1])
+
+
+class Ledger(unittest.TestCase):
+    """Slips of either currency: a kuna slip's fields have their own names and rules."""
+
+    def test_account(self) -> None:
+        shown = ledger_shown(kuna_with(10, b"1001005A1863000160"))
+        self.assertEqual((shown.number, shown.field, shown.content, shown.mark), (5, 10, "1001005A1863000160", 0))
+        self.assertEqual(body(shown)[1], "  field 10: Recipient's IBAN or account")
+        self.assertIn("seven digits, a hyphen and ten digits", shown.rule)
+        shown = ledger_shown(kuna_with(10, b"1001005A1863000160"), "hr")
+        self.assertEqual(body(shown, "hr")[1], "  polje 10: IBAN ili račun primatelja")
+
+    def test_amount_has_its_unit(self) -> None:
+        of_kuna, of_euro = ledger_shown(kuna_with(3, b"12355")), ledger_shown(slip_of(SLIP_FIELDS).replace(b"0" * 10, b""))
+        self.assertEqual((of_kuna.field, of_euro.field), (3, 3))
+        for shown, unit, other in ((of_kuna, "lipa", "cent"), (of_euro, "cents", "lipa")):
+            self.assertIn(unit, shown.rule)
+            self.assertIn(unit, shown.hints[0])
+            self.assertNotIn(other, shown.text("en"))
+
+    def test_currency(self) -> None:
+        for slip in (KUNA.replace(b"HRK", b"USD"), slip_of(SLIP_FIELDS).replace(b"EUR", b"USD")):
+            self.assertEqual(body(ledger_shown(slip)), [
+                "refused 5: Field 2, position 10: the content is not the required word, form or code.",
+                "  field 2: Currency", "  USD", "  ^", "  rule: Must be `EUR`, or `HRK` in a slip from before 2023.",
+            ])
+            self.assertIn("`EUR` ili", ledger_shown(slip, "hr").rule)
+
+    def test_other_fields_are_the_slip_s(self) -> None:
+        for number, text in ((4, b"_"), (11, b"HR12"), (12, b"1"), (14, b"\t")):
+            shown, of_euro = ledger_shown(kuna_with(number, text)), slip_shown(slip_with(number, text))
+            self.assertEqual((shown.field_name, shown.rule, shown.hints), (of_euro.field_name, of_euro.rule, of_euro.hints))
+
+    def test_kuna_slip_to_a_euro_reader(self) -> None:
+        shown = slip_shown(KUNA)
+        self.assertEqual((shown.number, shown.field, shown.rule), (5, 2, "Must be `EUR`."))
+        self.assertIn("kuna slip (HRK), from before 2023", shown.hints[0])
+        self.assertIn("`ledger`", shown.hints[0])
+        self.assertIn("`ledger`", slip_shown(KUNA, "hr").hints[0])
+
+    def test_whole(self) -> None:
+        self.assertEqual((ledger_shown(b"").number, ledger_shown(KUNA[:-1]).content[:13]), (2, "HRVHUB30␊HRK␊"))
+        self.assertIn("A slip has at most 483 bytes; 1,500 were read.", ledger_shown(b"\n" * 1500).hints)
+
+    def test_fields(self) -> None:
+        names = [slip_fields(joined(fields), "en")[9]["name"] for fields in ACCEPTED]
+        self.assertEqual(names, ["Recipient's account number (IBAN)"] + 2 * ["Recipient's IBAN or account"])
+        told = slip_fields(KUNA, "hr")
+        self.assertEqual([field["number"] for field in told], list(range(1, 15)))
+        self.assertEqual((told[1]["content"], told[9]["content"]), ("HRK", "1001005-1863000160"))
+
+    def test_kuna(self) -> None:
+        for lipa, english, croatian in (
+            (0, "0.00 HRK", "0,00 HRK"), (12355, "123.55 HRK", "123,55 HRK"),
+            (10**15 - 1, "9,999,999,999,999.99 HRK", "9.999.999.999.999,99 HRK"),
+        ):
+            self.assertEqual((kuna(Lipa(lipa), "en"), kuna(Lipa(lipa), "hr")), (english, croatian))
 
 
 class Wages(unittest.TestCase):

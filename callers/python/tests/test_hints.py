@@ -7,11 +7,13 @@ import unittest
 from typing import Any, Callable, Dict, List, Optional, Pattern, Set, Tuple
 
 from lanecockle import (
-    FIELDS, LINE, Refusal, Rule, check_digits, iban, list_iban, list_reference, oib, reference, slip_read, wage_file,
+    FIELDS, LINE, Refusal, Rule, check_digits, iban, ledger_read, list_iban, list_reference, oib, reference, slip_read,
+    wage_file,
 )
-from lanecockle.hints import HINTS, MODELS, MOST, _KINDS, of_slip, of_text, of_wage
+from lanecockle.hints import HINTS, MODELS, MOST, _KINDS, of_ledger, of_slip, of_text, of_wage, slip_layout
 from lanecockle.refusal import LANGUAGES
 from tests.test_calls import DAY, SLIP_FIELDS, file_of_two, lines_of, refused, slip_of, with_bytes
+from tests.test_ledger import KUNA, kuna_with
 
 #: A hint that is awaited: its name and what its places are filled with.
 Awaited = Tuple[str, Dict[str, object]]
@@ -47,6 +49,12 @@ def of_a_slip(data: bytes, language: str) -> Optional[List[str]]:
     """The hints of the library's refusal of a slip; None where it is accepted."""
     refusal = refused(slip_read, data)
     return of_slip(data, refusal, language) if refusal else None
+
+
+def of_a_ledger_slip(data: bytes, language: str) -> Optional[List[str]]:
+    """The hints of the library's refusal of a slip of either currency; None where it is accepted."""
+    refusal = refused(ledger_read, data)
+    return of_ledger(data, refusal, language) if refusal else None
 
 
 def of_a_file(lent: Any, language: str) -> Optional[List[str]]:
@@ -184,7 +192,8 @@ class Slips(Case):
         self.slip(slip_with(13, "COS"), [("fixed", {"length": 3, "width": 4})], slip_with(13, ""))
 
     def test_currency(self) -> None:
-        self.slip(slip_with(2, "HRK"), [("kuna", {})], slip_with(2, "USD"))
+        self.slip(slip_with(2, "HRK"), [("kuna_slip", {})], slip_with(2, "USD"))
+        self.slip(KUNA, [("kuna_slip", {})], slip_with(2, "hrk"))
 
     def test_amount(self) -> None:
         self.slip(slip_with(3, "123,55"), [("point", {})])
@@ -229,6 +238,56 @@ class Slips(Case):
             self.accepted(of_a_slip, slip_with(11, model, right))
             self.slip(slip_with(11, model, wrong), [("parts_" + model, {"seen": seen})], slip_with(11, "HR01", "1-"))
         self.slip(slip_with(11, "HR99", "0"), [("parts_HR99", {})], slip_with(11, "HR99", ""))
+
+
+class Ledger(Case):
+    """Slips of either currency: of a kuna slip nothing is said in cents, nor of a euro slip in lipa."""
+
+    def slip(self, wrong: bytes, awaited: List[Awaited], *neighbours: bytes) -> None:
+        self.check(of_a_ledger_slip, wrong, awaited, KUNA, SLIP, *neighbours)
+
+    def test_accepted(self) -> None:
+        self.accepted(of_a_ledger_slip, KUNA, SLIP)
+
+    def test_amount(self) -> None:
+        self.slip(kuna_with(3, b"123,55"), [("lipa_point", {})], slip_with(3, "123,55"))
+        self.slip(slip_with(3, "123,55"), [("point", {})], kuna_with(3, b"123,55"))
+        self.slip(kuna_with(3, b"00000000012355"), [("lipa_padded", {"length": 14, "width": 15})], slip_with(3, "12355"))
+        self.slip(slip_with(3, "12355"), [("padded", {"length": 5, "width": 15})], kuna_with(3, b"12355"))
+        self.slip(kuna_with(3, b"          12355"), [("zeros", {"at": 1})])
+        self.slip(kuna_with(3, b"00000000001235O"), [("lookalike", {"at": 15, "seen": "O", "meant": "0"})])
+
+    def test_account(self) -> None:
+        self.slip(kuna_with(10, b"1001005A1863000160"), [("account_form", {})])
+        self.slip(kuna_with(10, b"1OO1005-1863000160"),
+                  [("lookalike", {"at": 2, "seen": "O", "meant": "0"}), ("account_form", {})])
+        self.slip(kuna_with(10, b"1001005-186300016"), [("fixed", {"length": 17, "width": 18})])
+        self.slip(kuna_with(10, b"1001005 1863000160"), [("blank", {"at": 8})])
+        self.slip(kuna_with(10, "1001005–1863000160".encode()), [("dash", {"at": 8})])
+
+    def test_iban(self) -> None:
+        self.slip(kuna_with(10, b"HR121001005186300016"), [("fixed", {"length": 20, "width": 21})])
+        self.slip(kuna_with(10, b"HR1310010051863000160"), [("iban", {})])
+        self.slip(kuna_with(10, b"hr1210010051863000160"), [("lower", {})])
+        self.slip(kuna_with(10, b"SI5610010051863000160"), [("foreign", {"country": "SI"})])
+
+    def test_other_fields(self) -> None:
+        self.slip(kuna_with(4, b"IVAN_"), [("text", {})])
+        self.slip(kuna_with(11, b"HRO1"), [("lookalike", {"at": 3, "seen": "O", "meant": "0"}), ("model", {})])
+        self.slip(kuna_with(12, b"7269-68949637676-00019"), [("digit", {})])
+        self.slip(kuna_with(12, b"1-"), [("parts", {"seen": "1, 0"})])
+
+    def test_currency(self) -> None:
+        """Another currency is not said to be the kuna, nor is the kuna itself wrong."""
+        self.slip(slip_with(2, "USD"), [])
+        self.slip(KUNA[:-1], [("feed_missing", {})])
+
+    def test_layout(self) -> None:
+        for data, layout in (
+            (KUNA, "kuna"), (SLIP, "slip"), (b"", "slip"), (b"HRK\n", "slip"), (b"\nHRK", "kuna"), (b"\nHRK\r\n", "slip"),
+            (b"\n\nHRK\n", "slip"), (b"]L2HRVHUB30\nHRK\n", "kuna"),
+        ):
+            self.assertEqual(slip_layout(data), layout, data)
 
 
 class Wages(Case):
@@ -495,7 +554,7 @@ class Tables(unittest.TestCase):
     def test_kinds_are_those_of_the_fields(self) -> None:
         words = {
             "iban": "IBAN", "oib": "OIB", "model": "two digits, a model", "reference": "as the model",
-            "amount": "cents", "date": "YYYYMMDD", "currency": "`EUR`",
+            "amount": "cents", "lipa": "lipa", "date": "YYYYMMDD", "currency": "`EUR`",
         }
         for kind, word in words.items():
             placed = {place for place, of_kind in _KINDS.items() if of_kind == kind}
@@ -513,7 +572,7 @@ class Anything(unittest.TestCase):
     """Whatever the bytes and the refusal, at most three sentences come, the same in each language."""
 
     PIECES = [
-        SLIP, b"\r", b"\n", b"\0", b"\t", MARK, b"HR12", b"O", b"\xC4", b"\xFF\xFE", b"{0}", b"{at}", b"300\r\n",
+        SLIP, KUNA, b"\r", b"\n", b"\0", b"\t", MARK, b"HR12", b"O", b"\xC4", b"\xFF\xFE", b"{0}", b"{at}", b"300\r\n",
         b" " * 990,
     ]
 
@@ -534,6 +593,7 @@ class Anything(unittest.TestCase):
             what = chance.choice(["iban", "oib", "reference", "model", "digits"])
             day = chance.choice([DAY, 0, 20240231, 1 << 60])
             self.assert_some(*(of_slip(data, refusal, language) for language in LANGUAGES))
+            self.assert_some(*(of_ledger(data, refusal, language) for language in LANGUAGES))
             self.assert_some(*(of_wage(data, line, refusal, day, language) for language in LANGUAGES))
             self.assert_some(*(of_text(what, data, refusal, language) for language in LANGUAGES))
 
@@ -542,7 +602,7 @@ class Every(unittest.TestCase):
     def test_every_hint_is_said(self) -> None:
         """By the tests above, which are run for it, so that it stands on its own."""
         SEEN.clear()
-        for case in (Slips, Wages, Texts):
+        for case in (Slips, Ledger, Wages, Texts):
             unittest.defaultTestLoader.loadTestsFromTestCase(case).run(unittest.TestResult())
         self.assertEqual(set(HINTS) - SEEN, set())
 

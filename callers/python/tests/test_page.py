@@ -21,6 +21,7 @@ from unittest import mock
 
 from lanecockle import LINE, page, write_closing, write_group, write_label, write_order
 from tests.test_calls import DAY, GROUP_FIELDS, LABEL_FIELDS, SLIP_FIELDS, file_of_two, order_fields, replaced, slip_of
+from tests.test_ledger import ACCEPTED, KUNA, kuna_with
 
 PACKAGE = Path(page.__file__).resolve().parent
 WAGE = f"/api/wage?day={DAY}"
@@ -316,6 +317,23 @@ class Slips(Served):
             self.assertEqual(refusal["content"], text.decode())
         self.assertEqual(self.post("/api/slip", b"x" * 4096)["refusal"]["number"], 1)
         self.assertEqual(self.post("/api/slip", b"")["refusal"]["number"], 2)
+
+    def test_kuna(self) -> None:
+        """Refused as a slip, with its hint; beside that, what it says for the ledger."""
+        for language, kuna, euro in (("en", "123.55 HRK", "16.40 EUR"), ("hr", "123,55 HRK", "16,40 EUR")):
+            answer = self.post(f"/api/slip?lang={language}", KUNA)
+            self.assertEqual((answer["accepted"], "sum" in answer, "cents" in answer), (False, False, False))
+            self.assertEqual((answer["refusal"]["number"], answer["refusal"]["field"]), (5, 2))
+            self.assertIn("`ledger`", answer["refusal"]["hints"][0])
+            self.assertEqual((answer["ledger"]["kuna"], answer["ledger"]["euro"]), (kuna, euro))
+            self.assertEqual([field["content"].encode() for field in answer["ledger"]["fields"]], ACCEPTED[2])
+        self.assertTrue(self.post("/api/slip", b"]L2" + KUNA)["ledger"])
+
+    def test_no_kuna(self) -> None:
+        """Of a kuna slip that is refused for the ledger too, and of a euro slip, nothing is said for the ledger."""
+        self.assertIsNone(self.post("/api/slip", kuna_with(10, b"1001005"))["ledger"])
+        self.assertIsNone(self.post("/api/slip", slip_of(replaced(SLIP_FIELDS, 9, b"COSt")))["ledger"])
+        self.assertNotIn("ledger", self.post("/api/slip", slip_of(SLIP_FIELDS)))
 
     def test_script_is_text(self) -> None:
         slip = slip_of([b"<script>alert(1)</script>"] + SLIP_FIELDS[1:])

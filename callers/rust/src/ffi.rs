@@ -46,6 +46,18 @@ pub struct Ended {
     pub orders: usize,
 }
 
+/// An answer with the currency of a slip and its amount in its own unit.
+#[repr(C)]
+#[derive(Clone, Copy)]
+pub struct Ledger {
+    pub told: Told,
+    pub currency: usize,
+    pub cents: u64,
+    pub lipa: u64,
+    /// The lipa in cents, which `lipa_in_cents` gives of any lipa.
+    pub _converted: u64,
+}
+
 /// A part of the lent bytes.
 #[repr(C)]
 #[derive(Clone, Copy)]
@@ -132,6 +144,9 @@ extern "C" {
     fn lanecockle_slip_cents(slip: *const u8, length: usize) -> Valued;
     fn lanecockle_slip_write(cents: u64, text: *const u8, text_length: usize, sizes: *const usize, count: usize,
                              out: *mut u8, room: usize) -> Valued;
+    fn lanecockle_ledger_read(slip: *const u8, length: usize) -> Ledger;
+    fn lanecockle_ledger_field(slip: *const u8, length: usize, number: usize) -> Part;
+    fn lanecockle_lipa_in_cents(lipa: u64) -> u64;
     fn lanecockle_judge_begin(day: u64) -> Record;
     fn lanecockle_judge_step(record: Record, line: *const u8, length: usize) -> Record;
     fn lanecockle_judge_lines(record: Record, bytes: *const u8, length: usize) -> Record;
@@ -213,6 +228,21 @@ pub fn slip_write(cents: u64, fields: &Fields, out: &mut [u8]) -> Valued {
     let (text, text_length, sizes, count) = (text.as_ptr(), text.len(), sizes.as_ptr(), sizes.len());
     // SAFETY: text and sizes may be read and `out` written for their lengths; `out`, a `&mut`, overlaps nothing.
     unsafe { lanecockle_slip_write(cents, text, text_length, sizes, count, out.as_mut_ptr(), out.len()) }
+}
+
+pub fn ledger_read(slip: &[u8]) -> Ledger {
+    // SAFETY: the slice may be read for its length, and the call keeps no pointer.
+    unsafe { lanecockle_ledger_read(slip.as_ptr(), slip.len()) }
+}
+
+pub fn ledger_field(slip: &[u8], number: usize) -> Part {
+    // SAFETY: the slice may be read for its length, and the call keeps no pointer.
+    unsafe { lanecockle_ledger_field(slip.as_ptr(), slip.len(), number) }
+}
+
+pub fn lipa_in_cents(lipa: u64) -> u64 {
+    // SAFETY: the call takes a number alone.
+    unsafe { lanecockle_lipa_in_cents(lipa) }
 }
 
 pub fn judge_begin(day: u64) -> Record {

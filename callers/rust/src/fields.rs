@@ -1,9 +1,9 @@
-//! The fields of the slip and of the lines of a wage file: their positions, widths, names and rules.
+//! The fields of the slip, of the kuna slip and of the lines of a wage file: their positions, widths, names and rules.
 
 use crate::refusal::Language;
 use crate::tables::FIELDS;
 
-/// What a field is part of: the slip, or one of the four lines of a wage file.
+/// What a field is part of: the slip, the kuna slip, or one of the four lines of a wage file.
 ///
 /// ```
 /// use lanecockle::{Layout, FIELDS};
@@ -11,10 +11,13 @@ use crate::tables::FIELDS;
 /// let fields_of = |layout| FIELDS.iter().filter(move |field| field.layout == layout).count();
 /// assert_eq!((fields_of(Layout::Slip), fields_of(Layout::Order)), (14, 25));
 /// ```
+#[non_exhaustive]
 #[derive(Clone, Copy, Debug, PartialEq, Eq, Hash)]
 pub enum Layout {
     /// The slip: fourteen fields that each end in a line feed.
     Slip,
+    /// The kuna slip, in the fields 2, 3 and 10, which differ from the slip's.
+    Kuna,
     /// A 300, the label of a wage file.
     Label,
     /// A 301, the head of a group.
@@ -57,7 +60,7 @@ pub struct Field {
 }
 
 impl Field {
-    /// The field of a number, if there is one.
+    /// The field of a number, if there is one; a kuna slip's other fields are the slip's.
     ///
     /// ```
     /// use lanecockle::{slip, Field, Language, Layout};
@@ -68,10 +71,17 @@ impl Field {
     ///
     /// assert_eq!(Field::of(Layout::Slip, 0), None);
     /// assert_eq!(Field::of(Layout::Slip, 15), None);
+    ///
+    /// assert_eq!(Field::of(Layout::Kuna, 10).unwrap().name_in(Language::Croatian), "IBAN ili račun primatelja");
+    /// assert_eq!(Field::of(Layout::Kuna, 11), Field::of(Layout::Slip, 11));
     /// ```
     pub fn of(layout: Layout, number: usize) -> Option<&'static Field> {
         const ALL: &[Field] = &FIELDS;
-        ALL.iter().find(|field| field.layout == layout && field.number == number)
+        let found = ALL.iter().find(|field| field.layout == layout && field.number == number);
+        match layout {
+            Layout::Kuna => found.or_else(|| Field::of(Layout::Slip, number)),
+            _ => found,
+        }
     }
 
     /// The name in a language.

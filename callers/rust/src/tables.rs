@@ -4,7 +4,7 @@ use crate::fields::{Field, Layout};
 use crate::refusal::{Sentence, When};
 
 /// The version of the crate, which is that of the library it was made with.
-pub const VERSION: &str = "1.0.0";
+pub const VERSION: &str = "1.1.0";
 
 /// What is wrong: one of the 17 numbers of the documents.
 ///
@@ -111,7 +111,7 @@ pub(crate) const SENTENCES: &[Sentence] = &[
 /// The words of a place: line, field and position, in English and Croatian.
 pub(crate) const WORDS: [[&str; 3]; 2] = [["line", "field", "position"], ["slog", "polje", "pozicija"]];
 
-/// Every field of the slip and of the four lines of a wage file.
+/// Every field of the slip and of the four lines of a wage file, and those of the kuna slip that differ from the slip's.
 ///
 /// ```
 /// use lanecockle::{Layout, FIELDS};
@@ -119,7 +119,7 @@ pub(crate) const WORDS: [[&str; 3]; 2] = [["line", "field", "position"], ["slog"
 /// let field = FIELDS.iter().find(|field| field.layout == Layout::Order && field.number == 1).unwrap();
 /// assert_eq!((field.name[0], field.width), ("IBAN of the recipient", 34));
 /// ```
-pub const FIELDS: [Field; 60] = [
+pub const FIELDS: [Field; 63] = [
     Field { layout: Layout::Slip, number: 1, start: 0, width: 8, at_most: false, read: true, name: ["Header", "Zaglavlje"], rule: ["Must be `HRVHUB30`.", "Mora biti `HRVHUB30`."] },
     Field { layout: Layout::Slip, number: 2, start: 0, width: 3, at_most: false, read: true, name: ["Currency", "Valuta"], rule: ["Must be `EUR`.", "Mora biti `EUR`."] },
     Field { layout: Layout::Slip, number: 3, start: 0, width: 15, at_most: false, read: true, name: ["Amount", "Iznos"], rule: ["Exactly fifteen digits, the amount in cents with leading zeros.", "Točno petnaest znamenki, iznos u centima s vodećim nulama."] },
@@ -134,6 +134,9 @@ pub const FIELDS: [Field; 60] = [
     Field { layout: Layout::Slip, number: 12, start: 0, width: 22, at_most: true, read: true, name: ["Recipient's reference", "Poziv na broj primatelja"], rule: ["Digits and hyphens, at most 22 characters, as the model in field 11 asks.", "Znamenke i crtice, najviše 22 znaka, u skladu s modelom iz polja 11."] },
     Field { layout: Layout::Slip, number: 13, start: 0, width: 4, at_most: false, read: true, name: ["Purpose code", "Šifra namjene"], rule: ["Four letters A to Z, or empty.", "Četiri slova od A do Z ili prazno."] },
     Field { layout: Layout::Slip, number: 14, start: 0, width: 35, at_most: true, read: true, name: ["Description of the payment", "Opis plaćanja"], rule: ["Text of at most 35 characters; may be empty.", "Tekst od najviše 35 znakova; smije biti prazan."] },
+    Field { layout: Layout::Kuna, number: 2, start: 0, width: 3, at_most: false, read: true, name: ["Currency", "Valuta"], rule: ["Must be `HRK`.", "Mora biti `HRK`."] },
+    Field { layout: Layout::Kuna, number: 3, start: 0, width: 15, at_most: false, read: true, name: ["Amount", "Iznos"], rule: ["Exactly fifteen digits, the amount in lipa with leading zeros.", "Točno petnaest znamenki, iznos u lipama s vodećim nulama."] },
+    Field { layout: Layout::Kuna, number: 10, start: 0, width: 21, at_most: true, read: true, name: ["Recipient's IBAN or account", "IBAN ili račun primatelja"], rule: ["An IBAN or an account, at most 21 characters: `HR` and nineteen digits that pass the IBAN's check; or, where it begins with a digit, seven digits, a hyphen and ten digits.", "IBAN ili račun, najviše 21 znak: `HR` i devetnaest znamenki koje prolaze kontrolu IBAN-a; ili, ako počinje znamenkom, sedam znamenki, crtica i deset znamenki."] },
     Field { layout: Layout::Label, number: 1, start: 1, width: 8, at_most: false, read: true, name: ["Date of submission of the file", "Datum podnošenja / slanja datoteke"], rule: ["The day of submission, YYYYMMDD.", "Dan podnošenja, GGGGMMDD."] },
     Field { layout: Layout::Label, number: 2, start: 9, width: 1, at_most: false, read: true, name: ["Kind of orders in the file", "Vrsta naloga u datoteci"], rule: ["4 (wages and other income) or 5 (deductions).", "4 (plaće, ostala redovna i povremena primanja) ili 5 (ustege)."] },
     Field { layout: Layout::Label, number: 3, start: 10, width: 3, at_most: false, read: true, name: ["Source of the document", "Izvor dokumenta"], rule: ["Must be `000`.", "Mora biti `000`."] },
