@@ -1,8 +1,8 @@
 -- What is promised of accounts: nothing is refused exactly when, and where a 3's byte lies.
 -- Assumes nothing.
-use Rattle.refusal.proofs.Basics.{_≡_, refl, sym, arith, ℕ, length, eq-eqb, List, _∷_, Bool, true, false, _&&_, eqb, _↔_, both-true, and-second}
-use Rattle.verdict.specs.Verdict.{onlyIf, andThen, Within}
-use Rattle.verdict.proofs.Verdicts.{passed, met, both-pass, pass-both, test-holds, then-within, only-within}
+use Rattle.refusal.proofs.Basics.{_≡_, refl, sym, arith, ℕ, length, eq-eqb, List, _∷_, true, false, _&&_, eqb, _↔_, both-true}
+use Rattle.verdict.specs.Verdict.{onlyIf, Within}
+use Rattle.verdict.proofs.Verdicts.{passed, met, both-pass, test-exactly, both-exactly, then-within, only-within}
 use Rattle.text.specs.Bytes.{allOf, bytesVerdict}
 use Rattle.text.specs.Digits.{digitsOf, valueFrom, valueOf}
 use Rattle.classes.specs.declared.Class.the-variants.{Digits, Account}
@@ -13,17 +13,6 @@ use Rattle.account.proofs.Laws.{formed-length, formed-permitted}
 
 -- ---------------------------------------------------------------------------
 -- Nothing is refused exactly when
-
--- a test's rule, where it holds
-test-exactly : (b : Bool) (n : ℕ) → eqb n 0 ≡ false → (onlyIf b n ≡ 0) ↔ (b ≡ true)
-test-exactly b n z = (test-holds b n z, λ e. rw e)
-
--- two rules, where both refuse nothing
-both-exactly : (v w : ℕ) (a b : Bool) → (v ≡ 0) ↔ (a ≡ true) → (w ≡ 0) ↔ (b ≡ true) → (andThen v w ≡ 0) ↔ ((a && b) ≡ true)
-both-exactly v w a b p q = (
-  λ e. let h = both-pass v w e in sym (and-second a b true (p .0 (h .0)) (sym (q .0 (h .1)))),
-  λ e. let h = both-true a b e in pass-both v w (p .1 (h .0)) (q .1 (h .1)),
-)
 
 -- form and check refuse nothing exactly when a text is `HR` and nineteen digits, and its check holds
 pub iban-accepted-exactly : (s : List ℕ) → (ibanCheckVerdict s ≡ 0) ↔ (isIban s ≡ true)

@@ -6,6 +6,7 @@
 // answered by the program `wage_cases`.
 use boundary::Told;
 use boundary::Valued;
+use desk_ledger::Ledger;
 use question::behind;
 use question::count;
 use question::field;
@@ -46,7 +47,7 @@ fn answer(question: &[u8]) {
     respond(
         number_of(
             field(question, 0),
-            b"iban|oib|ref|check ini|check iso|make ini|make iso|list iban|list ref|slip|write",
+            b"iban|oib|ref|check ini|check iso|make ini|make iso|list iban|list ref|slip|write|ledger|lipa",
         ),
         question,
     );
@@ -61,6 +62,8 @@ fn respond(verb: usize, question: &[u8]) {
         7..=8 => list(verb, question),
         9 => read(behind(question, 1)),
         10 => write(question),
+        11 => enter(behind(question, 1)),
+        12 => convert(question),
         _ => {
             say(b"unknown");
         }
@@ -143,6 +146,38 @@ fn read(s: &[u8]) {
 fn read_in(s: &[u8], text: &mut [u8]) -> Told {
     put_lines(text, s);
     desk_slips::lanecockle_slip_read(front(text, s.len()))
+}
+
+// ledger: its bars are line feeds.
+fn enter(s: &[u8]) {
+    let mut text = [0u8; 1024];
+    tell_ledger(enter_in(s, &mut text));
+}
+
+fn enter_in(s: &[u8], text: &mut [u8]) -> Ledger {
+    put_lines(text, s);
+    desk_ledger::lanecockle_ledger_read(front(text, s.len()))
+}
+
+// Writes a slip's currency and its amount.
+fn tell_ledger(l: Ledger) {
+    tell(l.told);
+    if l.currency == 1 {
+        count(b" euro ", l.cents as usize);
+    }
+    if l.currency == 2 {
+        count(b" kuna ", l.lipa as usize);
+        count(b" cents ", l.converted as usize);
+    }
+}
+
+// lipa: so many in cents.
+fn convert(question: &[u8]) {
+    let lipa = number_at(question, 1) as u64;
+    count(
+        b"cents ",
+        desk_ledger::lanecockle_lipa_in_cents(lipa) as usize,
+    );
 }
 
 // write: into a room of 1,100 bytes at most.

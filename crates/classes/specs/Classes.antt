@@ -1,7 +1,7 @@
 -- Which bytes the fields of document 01 permit.
 use Rattle.refusal.specs.Basics.{ℕ, Bool, not, _&&_, _||_, eqb, leb}
 use Rattle.classes.specs.declared.Class.{Class}
-use Rattle.classes.specs.declared.Class.the-variants.{Digits, Account, Reference, WetAccount, WetReference, Dry, Part, Line, Letters, Blanks, Zeros, Place, Description}
+use Rattle.classes.specs.declared.Class.the-variants.{Digits, Account, Reference, WetAccount, WetReference, Dry, Part, Line, Letters, Blanks, Zeros, Place, Description, AccountForm}
 
 -- a digit, `0` to `9`
 abbrev pub isDigit : ℕ → Bool
@@ -40,3 +40,4 @@ permits Blanks b = eqb b 32
 permits Zeros b = eqb b 48
 permits Place b = (isDigit b || isLetter b) || eqb b 32
 permits Description b = isPlain b || isCroatian b
+permits AccountForm b = (isDigit b || isLetter b) || eqb b 45

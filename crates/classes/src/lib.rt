@@ -32,6 +32,8 @@ pub enum Class {
     Place,
     // The description of a wage order, in WIN-1250.
     Description,
+    // A to Z, digits and hyphens: the account form of a kuna slip.
+    AccountForm,
 }
 
 // Whether a byte is a digit.
@@ -138,5 +140,6 @@ pub fn permitted(class: Class, b: u8) -> bool
         Class::Zeros => b == 48,
         Class::Place => is_place_byte(b),
         Class::Description => described(b),
+        Class::AccountForm => is_account_byte(b) | (b == 45),
     }
 }

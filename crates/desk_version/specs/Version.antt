@@ -2,4 +2,4 @@
 use Rattle.refusal.specs.Basics.{ℕ}
 
 abbrev pub version : ℕ
-version = 10000
+version = 10100

@@ -9,8 +9,10 @@ use Rattle.verdict.specs.Verdict.{answerAt}
 use Rattle.text.specs.Bytes.{countOf}
 use Rattle.text.specs.Split.{split}
 use Rattle.text.proofs.Pieces.{pieces-counted}
+use Rattle.slip_fields.specs.declared.Currency.{Currency}
+use Rattle.slip_fields.specs.declared.Currency.the-variants.{Euro}
 use Rattle.slip_fields.specs.Fields.{fieldVerdict}
-use Rattle.slip.specs.Slip.{slipEnds, fieldsAnswer, slipAnswer, pieceOf}
+use Rattle.slip.specs.Slip.{slipEnds, fieldsAnswer, slipAnswerIn, pieceOf}
 use Rattle.slip_writer.specs.Writer.{joinLines}
 use Rattle.dates.specs.Dates.{isDate}
 use Rattle.wage_places.specs.declared.LineType.{LineType}
@@ -45,29 +47,29 @@ use Rattle.promises.specs.Refusals.{SlipRefused, size, ends, field, goes
 -- ---------------------------------------------------------------------------
 -- A slip
 
--- what the rule says of the piece at k, which is field n + k, behind the field m
-abbrev verdictOf : ℕ → List ℕ → List (List ℕ) → ℕ → ℕ
-verdictOf n m ps k = fieldVerdict (n + k) (getD (m ∷ ps) k []) (getD ps k [])
+-- what the rule says of the piece at k of a slip in currency c, which is field n + k, behind the field m
+abbrev verdictOf : Currency → ℕ → List ℕ → List (List ℕ) → ℕ → ℕ
+verdictOf c n m ps k = fieldVerdict c (n + k) (getD (m ∷ ps) k []) (getD ps k [])
 
 -- the first of the pieces that is not right, and the answer that it gives
-record FirstWrong (n start : ℕ) (m : List ℕ) (ps : List (List ℕ)) : Type 0 where
+record FirstWrong (c : Currency) (n start : ℕ) (m : List ℕ) (ps : List (List ℕ)) : Type 0 where
   order : ℕ
   known : order + 1 < length ps
-  before : (k : ℕ) → k < order → verdictOf n m ps k ≡ 0
-  wrong : verdictOf n m ps order ≡ 0 → ⊥
-  answer : fieldsAnswer n start m ps ≡ answerAt (n + order) (start + length (joinLines (take order ps))) (verdictOf n m ps order)
+  before : (k : ℕ) → k < order → verdictOf c n m ps k ≡ 0
+  wrong : verdictOf c n m ps order ≡ 0 → ⊥
+  answer : fieldsAnswer c n start m ps ≡ answerAt (n + order) (start + length (joinLines (take order ps))) (verdictOf c n m ps order)
 
 -- pieces that are not accepted have one
-first-wrong : (n start : ℕ) (m : List ℕ) (ps : List (List ℕ)) → (fieldsAnswer n start m ps ≡ Accepted → ⊥) → FirstWrong n start m ps
+first-wrong : (c : Currency) (n start : ℕ) (m : List ℕ) (ps : List (List ℕ)) → (fieldsAnswer c n start m ps ≡ Accepted → ⊥) → FirstWrong c n start m ps
 unfolding fieldsAnswer joinLines
-first-wrong n start m [] h = absurd (h refl)
-first-wrong n start m (p ∷ []) h = absurd (h refl)
-first-wrong n start m (p ∷ (q ∷ ps)) h = go (eqb (fieldVerdict n m p) 0) refl (first-wrong (n + 1) (start + length p + 1) p (q ∷ ps))
+first-wrong c n start m [] h = absurd (h refl)
+first-wrong c n start m (p ∷ []) h = absurd (h refl)
+first-wrong c n start m (p ∷ (q ∷ ps)) h = go (eqb (fieldVerdict c n m p) 0) refl (first-wrong c (n + 1) (start + length p + 1) p (q ∷ ps))
   where
     go :
-        (b : Bool) → eqb (fieldVerdict n m p) 0 ≡ b
-        → ((fieldsAnswer (n + 1) (start + length p + 1) p (q ∷ ps) ≡ Accepted → ⊥) → FirstWrong (n + 1) (start + length p + 1) p (q ∷ ps))
-        → FirstWrong n start m (p ∷ (q ∷ ps))
+        (b : Bool) → eqb (fieldVerdict c n m p) 0 ≡ b
+        → ((fieldsAnswer c (n + 1) (start + length p + 1) p (q ∷ ps) ≡ Accepted → ⊥) → FirstWrong c (n + 1) (start + length p + 1) p (q ∷ ps))
+        → FirstWrong c n start m (p ∷ (q ∷ ps))
     go true e rest =
         let w = rest (rw e at h) in
         let o = w .order in
@@ -82,8 +84,8 @@ first-wrong n start m (p ∷ (q ∷ ps)) h = go (eqb (fieldVerdict n m p) 0) ref
           answer = rw (e, z, y) (w .answer);
         }
       where
-        earlier : (w : FirstWrong (n + 1) (start + length p + 1) p (q ∷ ps)) (k : ℕ) → k < suc (w .order) → verdictOf n m (p ∷ (q ∷ ps)) k ≡ 0
-        earlier w zero g = rw (add-zero n) (eqb-true (fieldVerdict n m p) 0 e)
+        earlier : (w : FirstWrong c (n + 1) (start + length p + 1) p (q ∷ ps)) (k : ℕ) → k < suc (w .order) → verdictOf c n m (p ∷ (q ∷ ps)) k ≡ 0
+        earlier w zero g = rw (add-zero n) (eqb-true (fieldVerdict c n m p) 0 e)
         earlier w (suc k) g = let z : n + suc k ≡ n + 1 + k = omega arith in rw z (w .before k (omega arith))
     go false e rest =
         let z = add-zero n in
@@ -92,16 +94,16 @@ first-wrong n start m (p ∷ (q ∷ ps)) h = go (eqb (fieldVerdict n m p) 0) ref
           order = 0;
           known = omega arith;
           before = λ k g. absurd (omega arith);
-          wrong = rw z (eqb-false (fieldVerdict n m p) 0 e);
+          wrong = rw z (eqb-false (fieldVerdict c n m p) 0 e);
           answer = rw (z, y, e);
         }
 
--- a slip that is not accepted
-slip-refused : (s : List ℕ) → (slipAnswer s ≡ Accepted → ⊥) → SlipRefused s (toldOf (slipAnswer s))
-unfolding slipAnswer toldOf pieceOf
-slip-refused s h = short (leb (length s) 483) refl h
+-- a slip that is not accepted in a currency
+pub slip-refused : (c : Currency) (s : List ℕ) → (slipAnswerIn c s ≡ Accepted → ⊥) → SlipRefused c s (toldOf (slipAnswerIn c s))
+unfolding slipAnswerIn toldOf pieceOf
+slip-refused c s h = short (leb (length s) 483) refl h
   where
-    told : length s ≤ 483 → slipEnds s ≡ true → FirstWrong 1 0 [] (split 10 s) → SlipRefused s (toldOf (fieldsAnswer 1 0 [] (split 10 s)))
+    told : length s ≤ 483 → slipEnds s ≡ true → FirstWrong c 1 0 [] (split 10 s) → SlipRefused c s (toldOf (fieldsAnswer c 1 0 [] (split 10 s)))
     told l e w =
         let o = w .order in
         let z : 1 + o - 1 ≡ o = omega arith in
@@ -111,21 +113,21 @@ slip-refused s h = short (leb (length s) 483) refl h
         (rw z (w .wrong)) (rw z (rw (zero-add (length (joinLines (take o (split 10 s))))) at (ap toldOf (w .answer))))
 
     feeds :
-        (b : Bool) → slipEnds s ≡ b → length s ≤ 483 → (cond b (fieldsAnswer 1 0 [] (split 10 s)) (Refused (Ends none)) ≡ Accepted → ⊥)
-        → SlipRefused s (toldOf (cond b (fieldsAnswer 1 0 [] (split 10 s)) (Refused (Ends none))))
-    feeds true e l g = told l e (first-wrong 1 0 [] (split 10 s) g)
+        (b : Bool) → slipEnds s ≡ b → length s ≤ 483 → (cond b (fieldsAnswer c 1 0 [] (split 10 s)) (Refused (Ends none)) ≡ Accepted → ⊥)
+        → SlipRefused c s (toldOf (cond b (fieldsAnswer c 1 0 [] (split 10 s)) (Refused (Ends none))))
+    feeds true e l g = told l e (first-wrong c 1 0 [] (split 10 s) g)
     feeds false e l g = ends l e refl
 
     short :
-        (b : Bool) → leb (length s) 483 ≡ b → (cond b (cond (slipEnds s) (fieldsAnswer 1 0 [] (split 10 s)) (Refused (Ends none))) (Refused (Size none)) ≡ Accepted → ⊥)
-        → SlipRefused s (toldOf (cond b (cond (slipEnds s) (fieldsAnswer 1 0 [] (split 10 s)) (Refused (Ends none))) (Refused (Size none))))
+        (b : Bool) → leb (length s) 483 ≡ b → (cond b (cond (slipEnds s) (fieldsAnswer c 1 0 [] (split 10 s)) (Refused (Ends none))) (Refused (Size none)) ≡ Accepted → ⊥)
+        → SlipRefused c s (toldOf (cond b (cond (slipEnds s) (fieldsAnswer c 1 0 [] (split 10 s)) (Refused (Ends none))) (Refused (Size none))))
     short true e g = feeds (slipEnds s) refl (leb-true (length s) 483 e) g
     short false e g = size (leb-false (length s) 483 e) refl
 
 -- "Order: 1, then 2, then fields 1 to 14"
-pub slip-refused-first : EverySlipRead (λ slip r. (r .number ≡ 0 → ⊥) → SlipRefused slip r)
+pub slip-refused-first : EverySlipRead (λ slip r. (r .number ≡ 0 → ⊥) → SlipRefused c slip r)
 unfolding toldOf
-slip-refused-first κs a z w call h = rw call (slip-refused (a .0 .now) (λ e. h (ap (λ (t : Told). t .number) call ∙ ap (λ (x : Answer). toldOf x .number) e)))
+slip-refused-first κs a z w call h = rw call (slip-refused Euro (a .0 .now) (λ e. h (ap (λ (t : Told). t .number) call ∙ ap (λ (x : Answer). toldOf x .number) e)))
 
 -- ---------------------------------------------------------------------------
 -- A wage line

@@ -12,6 +12,7 @@ use Rattle.models.specs.Models.{modelOf}
 use Rattle.model_text.specs.Texts.{modelNumber}
 use Rattle.parts.specs.Parts.{partsOf}
 use Rattle.groups.specs.Groups.{present}
+use Rattle.slip_fields.specs.declared.Currency.the-variants.{Euro}
 use Rattle.slip.specs.Slip.{slipAnswer}
 use Rattle.slip.proofs.Theorems.{fieldText}
 use Rattle.slip.proofs.Plain.{PlainSlip, accepted-plainly, accepted-groups-pass}
@@ -35,17 +36,17 @@ use Rattle.promises.proofs.Laws.{told-zero}
 -- Read
 
 -- a slip is accepted exactly when it is as document 01 asks
-pub slip-exactly : EverySlipRead (λ slip r. (r .number ≡ 0) ↔ PlainSlip slip)
+pub slip-exactly : EverySlipRead (λ slip r. (r .number ≡ 0) ↔ PlainSlip Euro slip)
 slip-exactly κs a z w call =
     let zero = told-zero _ z call in
-    let plainly = accepted-plainly (a .0 .now) in
+    let plainly = accepted-plainly Euro (a .0 .now) in
     (λ h. plainly .0 (zero .0 h), λ p. zero .1 (plainly .1 p))
 
 -- of an accepted slip's reference each check group that has parts there ends in its check digit
 pub slip-groups-pass :
     EverySlipRead (λ slip r. r .number ≡ 0 → (n : ℕ) → modelNumber (fieldText slip 11) ≡ At n → (g : Group) → List·Memᴰ g (modelOf n .groups) →
     let here = present g (partsOf (fieldText slip 12)) in (here ≡ [] → ⊥) → passes (g .rule) (joined here) ≡ true)
-slip-groups-pass κs a z w call h = accepted-groups-pass (a .0 .now) (told-zero _ z call .0 h)
+slip-groups-pass κs a z w call h = accepted-groups-pass Euro (a .0 .now) (told-zero _ z call .0 h)
 
 -- the part that is told of a field is the field
 pub slip-field-handed : EverySlipField (λ slip n part. take (part .length) (drop (part .start) slip) ≡ fieldOf slip n)

@@ -9,11 +9,13 @@ use borrow.Fn.Kinds.{PK, RK, Out, Dens, resT, endedOf}
 use Rattle.text.specs.declared.Part.{Part}
 use Rattle.boundary.specs.declared.Told.{Told}
 use Rattle.boundary.specs.declared.Valued.{Valued}
+use Rattle.desk_ledger.specs.declared.Ledger.{Ledger}
 use Rattle.desk_record.specs.declared.Record.{Record}
 use Rattle.desk_judge.specs.declared.Ended.{Ended}
 use Rattle.desk_checks.proofs as checks
 use Rattle.desk_wet.proofs as wet
 use Rattle.desk_slips.proofs as slips
+use Rattle.desk_ledger.proofs as ledgers
 use Rattle.desk_judge.proofs as judge
 use Rattle.desk_writers.proofs as writers
 
@@ -84,6 +86,21 @@ abbrev pub EverySlipWrite : (ℕ → List ℕ → List ℕ → List ℕ → Valu
 EverySlipWrite C =
     Every _ slips.lanecockle_slip_write.Kinds.ps slips.lanecockle_slip_write.Kinds.r slips.lanecockle_slip_write.Reads.Post
     (λ κs a z w. C (a .0) (a .1 .0 .now) (a .1 .1 .0 .now) (a .1 .1 .1 .0 .now) z (w .1 .1 .1 .0))
+
+-- ---------------------------------------------------------------------------
+-- Slips of either currency
+
+-- slip, answer
+abbrev pub EveryLedgerRead : (List ℕ → Ledger → Type 0) → Type 0
+EveryLedgerRead C = Every _ ledgers.lanecockle_ledger_read.Kinds.ps ledgers.lanecockle_ledger_read.Kinds.r ledgers.lanecockle_ledger_read.Reads.Post (λ κs a z w. C (a .0 .now) z)
+
+-- slip, the field's number, where it stands
+abbrev pub EveryLedgerField : (List ℕ → ℕ → Part → Type 0) → Type 0
+EveryLedgerField C = Every _ ledgers.lanecockle_ledger_field.Kinds.ps ledgers.lanecockle_ledger_field.Kinds.r ledgers.lanecockle_ledger_field.Reads.Post (λ κs a z w. C (a .0 .now) (a .1 .0) z)
+
+-- lipa, cents
+abbrev pub EveryLipaInCents : (ℕ → ℕ → Type 0) → Type 0
+EveryLipaInCents C = Every _ ledgers.lanecockle_lipa_in_cents.Kinds.ps ledgers.lanecockle_lipa_in_cents.Kinds.r ledgers.lanecockle_lipa_in_cents.Reads.Post (λ κs a z w. C (a .0) z)
 
 -- ---------------------------------------------------------------------------
 -- Wage files judged

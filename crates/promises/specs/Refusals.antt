@@ -7,6 +7,7 @@ use Rattle.refusal.specs.declared.Refusal.{Refusal}
 use Rattle.refusal.specs.declared.Refusal.the-variants.{Size, Ends, Date}
 use Rattle.verdict.specs.Verdict.{answerAt}
 use Rattle.text.specs.Split.{split}
+use Rattle.slip_fields.specs.declared.Currency.{Currency}
 use Rattle.slip_fields.specs.Fields.{fieldVerdict}
 use Rattle.slip.specs.Slip.{slipEnds}
 use Rattle.slip.proofs.Theorems.{fieldText, textBefore}
@@ -40,16 +41,16 @@ Known t = (t ≡ accepted) ⊎ ((q : Refusal) × ((t ≡ refusal q) × ((1 ≤ t
 abbrev pub startOf : List ℕ → ℕ → ℕ
 startOf s n = length (joinLines (take (n - 1) (split 10 s)))
 
--- "Order: 1, then 2, then fields 1 to 14"
-pub data SlipRefused (s : List ℕ) (r : Told) : Type 0 where
+-- a slip in currency c: "Order: 1, then 2, then fields 1 to 14"
+pub data SlipRefused (c : Currency) (s : List ℕ) (r : Told) : Type 0 where
   -- more than 483 bytes
-  size : 483 < length s → r ≡ refusal (Size none) → SlipRefused s r
+  size : 483 < length s → r ≡ refusal (Size none) → SlipRefused c s r
   -- else not fourteen line feeds with one last
-  ends : length s ≤ 483 → slipEnds s ≡ false → r ≡ refusal (Ends none) → SlipRefused s r
+  ends : length s ≤ 483 → slipEnds s ≡ false → r ≡ refusal (Ends none) → SlipRefused c s r
   -- else field n, before which every field is right
   field :
-      length s ≤ 483 → slipEnds s ≡ true → (n : ℕ) → 1 ≤ n → n ≤ 14 → ((k : ℕ) → 1 ≤ k → k < n → fieldVerdict k (textBefore s k) (fieldText s k) ≡ 0)
-      → (fieldVerdict n (textBefore s n) (fieldText s n) ≡ 0 → ⊥) → r ≡ toldOf (answerAt n (startOf s n) (fieldVerdict n (textBefore s n) (fieldText s n))) → SlipRefused s r
+      length s ≤ 483 → slipEnds s ≡ true → (n : ℕ) → 1 ≤ n → n ≤ 14 → ((k : ℕ) → 1 ≤ k → k < n → fieldVerdict c k (textBefore s k) (fieldText s k) ≡ 0)
+      → (fieldVerdict c n (textBefore s n) (fieldText s n) ≡ 0 → ⊥) → r ≡ toldOf (answerAt n (startOf s n) (fieldVerdict c n (textBefore s n) (fieldText s n))) → SlipRefused c s r
 
 -- ---------------------------------------------------------------------------
 -- A wage line, where the judge stands

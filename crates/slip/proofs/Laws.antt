@@ -16,8 +16,9 @@ use Rattle.text.specs.declared.Found.the-variants.{At, Nothing}
 use Rattle.text.specs.Split.{split}
 use Rattle.text.proofs.Laws.{to-the-end}
 use Rattle.text.proofs.Pieces.{first-piece}
+use Rattle.slip_fields.specs.declared.Currency.{Currency}
 use Rattle.slip_fields.specs.Fields.{fieldVerdict}
-use Rattle.slip.specs.Slip.{slipEnds, fieldsAnswer, slipAnswer}
+use Rattle.slip.specs.Slip.{slipEnds, fieldsAnswer, slipAnswerIn}
 
 -- ---------------------------------------------------------------------------
 -- The pieces between the bytes c
@@ -97,23 +98,23 @@ abbrev pub part : ℕ → ℕ → List ℕ → List ℕ
 part from to s = take (to - from) (drop from s)
 
 -- the fields before `n` are accepted: the answer is that of the pieces from `at` on, after the field from `before` to `end`
-pub record Reached (s : List ℕ) (n before end at : ℕ) : Type 0 where
+pub record Reached (c : Currency) (s : List ℕ) (n before end at : ℕ) : Type 0 where
   pub within : at ≤ length s
   pub fewer : n ≤ at + 1
   pub ordered : before ≤ end
   pub passed : end ≤ length s
-  pub whole : fieldsAnswer 1 0 [] (split 10 s) ≡ fieldsAnswer n at (part before end s) (split 10 (drop at s))
+  pub whole : fieldsAnswer c 1 0 [] (split 10 s) ≡ fieldsAnswer c n at (part before end s) (split 10 (drop at s))
 
 -- a piece and what follows it
-fields-step : (n start : ℕ) (m p t : List ℕ) → fieldsAnswer n start m (p ∷ split 10 t) ≡ firstOf (answerAt n start (fieldVerdict n m p)) (fieldsAnswer (n + 1) (start + length p + 1) p (split 10 t))
+fields-step : (c : Currency) (n start : ℕ) (m p t : List ℕ) → fieldsAnswer c n start m (p ∷ split 10 t) ≡ firstOf (answerAt n start (fieldVerdict c n m p)) (fieldsAnswer c (n + 1) (start + length p + 1) p (split 10 t))
 unfolding fieldsAnswer
-fields-step n start m p t = rw (first-piece 10 t .2)
+fields-step c n start m p t = rw (first-piece 10 t .2)
 
 -- the first field
-pub reached-first : (s : List ℕ) → Reached s 1 0 0 0
-reached-first s = record { within = omega arith; fewer = omega arith; ordered = omega arith; passed = omega arith; whole = refl }
+pub reached-first : (c : Currency) (s : List ℕ) → Reached c s 1 0 0 0
+reached-first c s = record { within = omega arith; fewer = omega arith; ordered = omega arith; passed = omega arith; whole = refl }
 
-module _ (s : List ℕ) (n before end at : ℕ) (w : Reached s n before end at) where
+module _ (c : Currency) (s : List ℕ) (n before end at : ℕ) (w : Reached c s n before end at) where
   module _ (i : ℕ) (e : firstBad Line (take (length s - at) (drop at s)) ≡ At i) where
     -- the field that a scan found ends within the text
     pub reached-ends : at + i < length s
@@ -124,18 +125,18 @@ module _ (s : List ℕ) (n before end at : ℕ) (w : Reached s n before end at) 
     reached-length = let z : at + i - at ≡ i = omega arith in rw z (length-take-le i (drop at s) (omega (arith, reached-ends, length-drop at s)))
 
     -- the answer is its answer and that of what follows
-    reached-field : fieldsAnswer 1 0 [] (split 10 s) ≡ firstOf (answerAt n at (fieldVerdict n (part before end s) (part at (at + i) s))) (fieldsAnswer (n + 1) (at + i + 1) (part at (at + i) s) (split 10 (drop (at + i + 1) s)))
+    reached-field : fieldsAnswer c 1 0 [] (split 10 s) ≡ firstOf (answerAt n at (fieldVerdict c n (part before end s) (part at (at + i) s))) (fieldsAnswer c (n + 1) (at + i + 1) (part at (at + i) s) (split 10 (drop (at + i + 1) s)))
     reached-field =
         let z : at + i - at ≡ i = omega arith in
         let y : at + (i + 1) ≡ at + i + 1 = omega arith in
         let m = part before end s in
         let p = part at (at + i) s in
         let d : split 10 (drop at s) ≡ p ∷ split 10 (drop (at + i + 1) s) = next-piece s at i (w .within) e .1 ∙ rw (z, y) in
-        w .whole ∙ (ap (fieldsAnswer n at m) d ∙ (fields-step n at m p (drop (at + i + 1) s) ∙ rw reached-length))
+        w .whole ∙ (ap (fieldsAnswer c n at m) d ∙ (fields-step c n at m p (drop (at + i + 1) s) ∙ rw reached-length))
 
-    module _ (r : Answer) (j : r ≡ answerAt n at (fieldVerdict n (part before end s) (part at (at + i) s))) where
+    module _ (r : Answer) (j : r ≡ answerAt n at (fieldVerdict c n (part before end s) (part at (at + i) s))) where
       -- accepted: on to the next field
-      pub reached-next : r ≡ Accepted → Reached s (n + 1) at (at + i) (at + i + 1)
+      pub reached-next : r ≡ Accepted → Reached c s (n + 1) at (at + i) (at + i + 1)
       reached-next a =
           record {
             within = omega (arith, reached-ends);
@@ -146,31 +147,29 @@ module _ (s : List ℕ) (n before end at : ℕ) (w : Reached s n before end at) 
           }
 
       -- refused: that is the answer
-      pub reached-refusal : (q : Refusal) → r ≡ Refused q → Refused q ≡ fieldsAnswer 1 0 [] (split 10 s)
+      pub reached-refusal : (q : Refusal) → r ≡ Refused q → Refused q ≡ fieldsAnswer c 1 0 [] (split 10 s)
       reached-refusal q a = sym (reached-field ∙ rw (sym j ∙ a))
 
   -- no further line feed: every field was accepted
-  pub reached-last : firstBad Line (take (length s - at) (drop at s)) ≡ Nothing → Accepted ≡ fieldsAnswer 1 0 [] (split 10 s)
+  pub reached-last : firstBad Line (take (length s - at) (drop at s)) ≡ Nothing → Accepted ≡ fieldsAnswer c 1 0 [] (split 10 s)
   unfolding fieldsAnswer
   reached-last e = sym (w .whole ∙ rw (last-piece s at e))
 
 -- ---------------------------------------------------------------------------
 -- The slip, and a field of it
 
-module _ (s : List ℕ) where
+module _ (c : Currency) (s : List ℕ) where
   -- 1
-  pub too-long : 483 < length s → Refused (Size none) ≡ slipAnswer s
-  unfolding slipAnswer
+  pub too-long : 483 < length s → Refused (Size none) ≡ slipAnswerIn c s
+  unfolding slipAnswerIn
   too-long h = left (leb (length s) 483) _ _ _ (lt-leb (length s) 483 h) refl
 
   -- then 2
-  pub ends-wrong : length s ≤ 483 → slipEnds s ≡ false → Refused (Ends none) ≡ slipAnswer s
-  unfolding slipAnswer
+  pub ends-wrong : length s ≤ 483 → slipEnds s ≡ false → Refused (Ends none) ≡ slipAnswerIn c s
+  unfolding slipAnswerIn
   ends-wrong h e = entered (leb (length s) 483) _ _ _ (le-leb (length s) 483 h) (left (slipEnds s) _ _ _ e refl)
 
   -- then the fields
-  pub fields-judged : (r : Answer) → length s ≤ 483 → slipEnds s ≡ true → r ≡ fieldsAnswer 1 0 [] (split 10 s) → r ≡ slipAnswer s
-  unfolding slipAnswer
+  pub fields-judged : (r : Answer) → length s ≤ 483 → slipEnds s ≡ true → r ≡ fieldsAnswer c 1 0 [] (split 10 s) → r ≡ slipAnswerIn c s
+  unfolding slipAnswerIn
   fields-judged r h e f = entered (leb (length s) 483) _ _ _ (le-leb (length s) 483 h) (entered (slipEnds s) _ _ _ e f)
-
--- where a field stands, which is handed out or not

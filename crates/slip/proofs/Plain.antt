@@ -4,12 +4,11 @@
 use Rattle.refusal.proofs.Basics.{_≡_, refl, sym, subst, _∙_, arith, ℕ, _+_, _-_, _≤_, length, getD, eqb-true, eqb-false, List, [], List·Memᴰ, Bool, true, false, eqb, _↔_, _⊎_, inl, inr, both-true}
 use Rattle.refusal.specs.declared.Answer.the-variants.{Accepted}
 use Rattle.classes.specs.declared.Class.the-variants.{Digits, Letters}
-use Rattle.text.specs.Bytes.{allOf, countOf, eur}
+use Rattle.text.specs.Bytes.{allOf, countOf}
 use Rattle.text.specs.Split.{joined}
 use Rattle.text.specs.declared.Found.the-variants.{At, Nothing}
 use Rattle.check_digits.specs.CheckDigit.{passes}
 use Rattle.characters.specs.Characters.{firstWrong, characters}
-use Rattle.account.specs.Answers.{isIban}
 use Rattle.models.specs.declared.Group.{Group}
 use Rattle.models.specs.Models.{modelOf}
 use Rattle.model_text.specs.Texts.{modelNumber}
@@ -18,16 +17,17 @@ use Rattle.parts.specs.Parts.{partsOf, formed}
 use Rattle.groups.specs.Groups.{present, partsRight}
 use Rattle.groups.proofs.Theorems.{groups-right-every}
 use Rattle.reference.proofs.Theorems.{RightReference}
-use Rattle.slip_fields.specs.Fields.{hrvhub30, mostOf, fieldVerdict}
+use Rattle.slip_fields.specs.declared.Currency.{Currency}
+use Rattle.slip_fields.specs.Fields.{hrvhub30, currencyText, mostOf, fieldVerdict}
 use Rattle.slip_fields.proofs.Plain as field
-use Rattle.slip.specs.Slip.{slipAnswer, pieceOf}
+use Rattle.slip.specs.Slip.{slipAnswerIn, pieceOf}
 use Rattle.slip.proofs.Theorems.{fieldText, textBefore, Right, accepted-exactly}
 
 -- ---------------------------------------------------------------------------
 -- Accepted exactly when
 
--- a slip as document 01 asks for it
-pub record PlainSlip (s : List ℕ) : Type 0 where
+-- a slip in currency c as document 01 asks for it, and document 02, W1
+pub record PlainSlip (c : Currency) (s : List ℕ) : Type 0 where
   -- "Above 483 bytes is 1"
   pub short : length s ≤ 483
   -- "exactly fourteen LF with one last"
@@ -35,9 +35,9 @@ pub record PlainSlip (s : List ℕ) : Type 0 where
   pub last : getD s (length s - 1) 0 ≡ 10
   -- "1 is `HRVHUB30`"
   pub first : fieldText s 1 ≡ hrvhub30
-  -- "2 is `EUR`"
-  pub second : fieldText s 2 ≡ eur
-  -- "3: exactly fifteen digits, cents"
+  -- "2 is `EUR`"; W1: "currency `HRK`"
+  pub second : fieldText s 2 ≡ currencyText c
+  -- "3: exactly fifteen digits, cents"; W1: "amount in lipa"
   pub third : (allOf Digits (fieldText s 3) ≡ true) × (length (fieldText s 3) ≡ 15)
   -- "4 to 9 and 14: text of at most 30, 27, 27, 25, 25, 27 and 35 characters; may be empty here"
   pub fourth : (firstWrong (fieldText s 4) ≡ Nothing) × (characters (fieldText s 4) ≤ 30)
@@ -46,8 +46,8 @@ pub record PlainSlip (s : List ℕ) : Type 0 where
   pub seventh : (firstWrong (fieldText s 7) ≡ Nothing) × (characters (fieldText s 7) ≤ 25)
   pub eighth : (firstWrong (fieldText s 8) ≡ Nothing) × (characters (fieldText s 8) ≤ 25)
   pub ninth : (firstWrong (fieldText s 9) ≡ Nothing) × (characters (fieldText s 9) ≤ 27)
-  -- "10: A to Z and digits; 21 characters; `HR` and nineteen digits; IBAN check"
-  pub tenth : isIban (fieldText s 10) ≡ true
+  -- "10: A to Z and digits; 21 characters; `HR` and nineteen digits; IBAN check"; W1: "or seven digits, a hyphen and ten digits"
+  pub tenth : field.RightPayee c (fieldText s 10)
   -- "11: `HR` and two digits, else 5 (never 3 or 4); then 7": those of a model that is handled
   pub eleventh : HandledModel (fieldText s 11)
   -- "12: digits and hyphens, at most 22 characters, obeying the model of field 11"
@@ -65,16 +65,16 @@ from-on P a p f n l u = go (eqb n a) refl
     go true e = subst P (sym (eqb-true n a e)) p
     go false e = let d = eqb-false n a e in f n (omega arith) u
 
-module _ (s : List ℕ) where
+module _ (c : Currency) (s : List ℕ) where
   -- field n is right
   abbrev RightField : ℕ → Type 0
-  RightField n = fieldVerdict n (textBefore s n) (fieldText s n) ≡ 0
+  RightField n = fieldVerdict c n (textBefore s n) (fieldText s n) ≡ 0
 
   -- a text field is right exactly when it is permitted characters, and not too many
   text-field : (n : ℕ) → ((4 ≤ n) × (n ≤ 9)) ⊎ (n ≡ 14) → RightField n ↔ ((firstWrong (fieldText s n) ≡ Nothing) × (characters (fieldText s n) ≤ mostOf n))
-  text-field n h = field.text-exactly (textBefore s n) (fieldText s n) n h
+  text-field n h = field.text-exactly c (textBefore s n) (fieldText s n) n h
 
-  right-plain : Right s → PlainSlip s
+  right-plain : Right c s → PlainSlip c s
   unfolding pieceOf
   right-plain w =
       let f : (n : ℕ) → 1 ≤ n → n ≤ 14 → RightField n = w .fields in
@@ -82,23 +82,23 @@ module _ (s : List ℕ) where
         short = w .short;
         ends = w .ends;
         last = w .last;
-        first = field.first-exactly _ _ .0 (f 1 (omega arith) (omega arith));
-        second = field.second-exactly _ _ .0 (f 2 (omega arith) (omega arith));
-        third = field.third-exactly _ _ .0 (f 3 (omega arith) (omega arith));
+        first = field.first-exactly _ _ _ .0 (f 1 (omega arith) (omega arith));
+        second = field.second-exactly _ _ _ .0 (f 2 (omega arith) (omega arith));
+        third = field.third-exactly _ _ _ .0 (f 3 (omega arith) (omega arith));
         fourth = text-field 4 (inl (omega arith, omega arith)) .0 (f 4 (omega arith) (omega arith));
         fifth = text-field 5 (inl (omega arith, omega arith)) .0 (f 5 (omega arith) (omega arith));
         sixth = text-field 6 (inl (omega arith, omega arith)) .0 (f 6 (omega arith) (omega arith));
         seventh = text-field 7 (inl (omega arith, omega arith)) .0 (f 7 (omega arith) (omega arith));
         eighth = text-field 8 (inl (omega arith, omega arith)) .0 (f 8 (omega arith) (omega arith));
         ninth = text-field 9 (inl (omega arith, omega arith)) .0 (f 9 (omega arith) (omega arith));
-        tenth = field.tenth-exactly _ _ .0 (f 10 (omega arith) (omega arith));
-        eleventh = field.eleventh-exactly _ _ .0 (f 11 (omega arith) (omega arith));
-        twelfth = field.twelfth-exactly _ _ .0 (f 12 (omega arith) (omega arith));
-        thirteenth = field.thirteenth-exactly _ _ .0 (f 13 (omega arith) (omega arith));
+        tenth = field.tenth-exactly _ _ _ .0 (f 10 (omega arith) (omega arith));
+        eleventh = field.eleventh-exactly _ _ _ .0 (f 11 (omega arith) (omega arith));
+        twelfth = field.twelfth-exactly _ _ _ .0 (f 12 (omega arith) (omega arith));
+        thirteenth = field.thirteenth-exactly _ _ _ .0 (f 13 (omega arith) (omega arith));
         fourteenth = text-field 14 (inr refl) .0 (f 14 (omega arith) (omega arith));
       }
 
-  plain-right : PlainSlip s → Right s
+  plain-right : PlainSlip c s → Right c s
   unfolding pieceOf
   plain-right w =
       record {
@@ -106,26 +106,26 @@ module _ (s : List ℕ) where
         ends = w .ends;
         last = w .last;
         fields =
-            from-on RightField 1 (field.first-exactly _ _ .1 (w .first))
-            (from-on RightField 2 (field.second-exactly _ _ .1 (w .second))
-            (from-on RightField 3 (field.third-exactly _ _ .1 (w .third))
+            from-on RightField 1 (field.first-exactly _ _ _ .1 (w .first))
+            (from-on RightField 2 (field.second-exactly _ _ _ .1 (w .second))
+            (from-on RightField 3 (field.third-exactly _ _ _ .1 (w .third))
             (from-on RightField 4 (text-field 4 (inl (omega arith, omega arith)) .1 (w .fourth))
             (from-on RightField 5 (text-field 5 (inl (omega arith, omega arith)) .1 (w .fifth))
             (from-on RightField 6 (text-field 6 (inl (omega arith, omega arith)) .1 (w .sixth))
             (from-on RightField 7 (text-field 7 (inl (omega arith, omega arith)) .1 (w .seventh))
             (from-on RightField 8 (text-field 8 (inl (omega arith, omega arith)) .1 (w .eighth))
             (from-on RightField 9 (text-field 9 (inl (omega arith, omega arith)) .1 (w .ninth))
-            (from-on RightField 10 (field.tenth-exactly _ _ .1 (w .tenth))
-            (from-on RightField 11 (field.eleventh-exactly _ _ .1 (w .eleventh))
-            (from-on RightField 12 (field.twelfth-exactly _ _ .1 (w .twelfth))
-            (from-on RightField 13 (field.thirteenth-exactly _ _ .1 (w .thirteenth))
+            (from-on RightField 10 (field.tenth-exactly _ _ _ .1 (w .tenth))
+            (from-on RightField 11 (field.eleventh-exactly _ _ _ .1 (w .eleventh))
+            (from-on RightField 12 (field.twelfth-exactly _ _ _ .1 (w .twelfth))
+            (from-on RightField 13 (field.thirteenth-exactly _ _ _ .1 (w .thirteenth))
             (from-on RightField 14 (text-field 14 (inr refl) .1 (w .fourteenth))
             (λ n l u. absurd (omega arith)))))))))))))));
       }
 
-  -- a slip is accepted exactly when it is as document 01 asks
-  pub accepted-plainly : (slipAnswer s ≡ Accepted) ↔ PlainSlip s
-  accepted-plainly = (λ e. right-plain (accepted-exactly s .0 e), λ w. accepted-exactly s .1 (plain-right w))
+  -- a slip is accepted in a currency exactly when it is as the documents ask
+  pub accepted-plainly : (slipAnswerIn c s ≡ Accepted) ↔ PlainSlip c s
+  accepted-plainly = (λ e. right-plain (accepted-exactly c s .0 e), λ w. accepted-exactly c s .1 (plain-right w))
 
   -- ---------------------------------------------------------------------------
   -- Check groups
@@ -133,7 +133,7 @@ module _ (s : List ℕ) where
   -- "A check group joins those of its parts that are present and ends in its check digit; with none present it is not checked": so does every
   -- group of an accepted slip's model, over the parts of field 12
   pub accepted-groups-pass :
-      slipAnswer s ≡ Accepted → (n : ℕ) → modelNumber (fieldText s 11) ≡ At n → (g : Group) → List·Memᴰ g (modelOf n .groups) →
+      slipAnswerIn c s ≡ Accepted → (n : ℕ) → modelNumber (fieldText s 11) ≡ At n → (g : Group) → List·Memᴰ g (modelOf n .groups) →
       let here = present g (partsOf (fieldText s 12)) in (here ≡ [] → ⊥) → passes (g .rule) (joined here) ≡ true
   accepted-groups-pass e n q g m =
       let w = accepted-plainly .0 e .twelfth in

@@ -7,6 +7,8 @@ use Rattle.refusal.specs.declared.Answer.the-variants.{Accepted, Refused}
 use Rattle.refusal.specs.declared.Refusal.the-variants.{Size, Ends}
 use Rattle.text.specs.Bytes.{countOf}
 use Rattle.text.specs.Split.{split}
+use Rattle.slip_fields.specs.declared.Currency.{Currency}
+use Rattle.slip_fields.specs.declared.Currency.the-variants.{Euro}
 use Rattle.slip_fields.specs.Fields.{fieldVerdict}
 
 -- ---------------------------------------------------------------------------
@@ -19,18 +21,22 @@ slipEnds s = eqb (countOf 10 s) 14 && eqb (getD s (length s - 1) 0) 10
 -- ---------------------------------------------------------------------------
 -- Fields in order
 
--- the pieces from field n on, which starts at a byte, after the field m; what follows the last line feed is no field
-unfoldable pub fieldsAnswer : ℕ → ℕ → List ℕ → List (List ℕ) → Answer
-fieldsAnswer n start m [] = Accepted
-fieldsAnswer n start m (p ∷ []) = Accepted
-fieldsAnswer n start m (p ∷ (q ∷ ps)) = firstOf (answerAt n start (fieldVerdict n m p)) (fieldsAnswer (n + 1) (start + length p + 1) p (q ∷ ps))
+-- the pieces of a slip in currency c from field n on, which starts at a byte, after the field m; what follows the last line feed is no field
+unfoldable pub fieldsAnswer : Currency → ℕ → ℕ → List ℕ → List (List ℕ) → Answer
+fieldsAnswer c n start m [] = Accepted
+fieldsAnswer c n start m (p ∷ []) = Accepted
+fieldsAnswer c n start m (p ∷ (q ∷ ps)) = firstOf (answerAt n start (fieldVerdict c n m p)) (fieldsAnswer c (n + 1) (start + length p + 1) p (q ∷ ps))
 
 -- "Above 483 bytes is 1; empty is 2. Order: 1, then 2, then fields 1 to 14"
-unfoldable pub slipAnswer : List ℕ → Answer
-slipAnswer s =
+unfoldable pub slipAnswerIn : Currency → List ℕ → Answer
+slipAnswerIn c s =
     cond (leb (length s) 483)
-    (cond (slipEnds s) (fieldsAnswer 1 0 [] (split 10 s)) (Refused (Ends none)))
+    (cond (slipEnds s) (fieldsAnswer c 1 0 [] (split 10 s)) (Refused (Ends none)))
     (Refused (Size none))
+
+-- document 01's slip: "2 is `EUR`"
+abbrev pub slipAnswer : List ℕ → Answer
+slipAnswer s = slipAnswerIn Euro s
 
 -- the piece at a place, counted from 0; nothing past the end
 unfoldable pub pieceOf : ℕ → List (List ℕ) → List ℕ

@@ -6,7 +6,7 @@ use Rattle.classes.specs.Classes.{isDigit, permits}
 use Rattle.text.specs.Bytes.{allOf, bytesVerdict, same}
 use Rattle.text.specs.Digits.{twoDigits}
 use Rattle.classes.specs.declared.Class.{Class}
-use Rattle.classes.specs.declared.Class.the-variants.{Account, Reference, Line}
+use Rattle.classes.specs.declared.Class.the-variants.{Account, AccountForm, Reference, Line}
 use Rattle.text.specs.declared.Found.{Found}
 use Rattle.text.specs.declared.Found.the-variants.{Nothing}
 use Rattle.classes.proofs.Laws.{digit-bounds}
@@ -14,12 +14,23 @@ use Rattle.text.proofs.Laws.{isNothing, all-passes, passes-all}
 use Rattle.characters.specs.Answers.{charactersVerdict}
 use Rattle.characters.proofs.Theorems as texts
 use Rattle.account.specs.Answers.{ibanVerdict}
+use Rattle.account_form.specs.AccountForm.{accountFormVerdict}
 use Rattle.model_text.specs.Texts.{modelVerdict}
 use Rattle.model_text.proofs.Theorems.{model-accepted-exactly}
 use Rattle.reference.specs.Answers.{referenceVerdict}
 use Rattle.reference.proofs.Theorems.{reference-accepted-exactly}
-use Rattle.slip_fields.specs.Fields.{wordVerdict, sizedVerdict}
+use Rattle.slip_fields.specs.declared.Currency.{Currency}
+use Rattle.slip_fields.specs.declared.Currency.the-variants.{Euro, Kuna}
+use Rattle.slip_fields.specs.Fields.{wordVerdict, sizedVerdict, payeeVerdict}
 use Rattle.text.proofs.Same.{same-equal}
+
+-- ---------------------------------------------------------------------------
+-- Choices
+
+-- what follows of either answer where it accepts follows of the choice between them
+pub either : {A : Type 0} (t : Bool) (x y : ℕ) → (x ≡ 0 → A) → (y ≡ 0 → A) → cond t x y ≡ 0 → A
+either true x y p q e = p e
+either false x y p q e = q e
 
 -- ---------------------------------------------------------------------------
 -- No line feed
@@ -102,10 +113,30 @@ sized-alone k a s e = let h = sized-exactly k a a s .0 e in (h .0, ⊎-elim (λ 
 -- Accounts
 
 -- an accepted account is 21 letters and digits
-pub account-is : (s : List ℕ) → ibanVerdict s ≡ 0 → (bytesVerdict Account s ≡ 0) × (length s ≡ 21)
+account-is : (s : List ℕ) → ibanVerdict s ≡ 0 → (bytesVerdict Account s ≡ 0) × (length s ≡ 21)
 account-is s e =
     let h = both-pass (bytesVerdict Account s) _ e in
     (h .0, eqb-true (length s) 21 (test-holds _ 4 refl (both-pass _ _ (h .1) .0)))
+
+-- an accepted account of the account form is 18 letters, digits and hyphens
+account-form-is : (s : List ℕ) → accountFormVerdict s ≡ 0 → (bytesVerdict AccountForm s ≡ 0) × (length s ≡ 18)
+account-form-is s e =
+    let h = both-pass (bytesVerdict AccountForm s) _ e in
+    (h .0, eqb-true (length s) 18 (test-holds _ 4 refl (both-pass _ _ (h .1) .0)))
+
+-- an accepted payee has no line feed, and at most 21 bytes
+pub payee-is : (c : Currency) (s : List ℕ) → payeeVerdict c s ≡ 0 → (allOf Line s ≡ true) × (length s ≤ 21)
+payee-is c s = go c
+  where
+    iban : ibanVerdict s ≡ 0 → (allOf Line s ≡ true) × (length s ≤ 21)
+    iban e = let h = account-is s e in (class-free Account refl s (h .0), omega (arith, h .1))
+
+    form : accountFormVerdict s ≡ 0 → (allOf Line s ≡ true) × (length s ≤ 21)
+    form e = let h = account-form-is s e in (class-free AccountForm refl s (h .0), omega (arith, h .1))
+
+    go : (c : Currency) → payeeVerdict c s ≡ 0 → (allOf Line s ≡ true) × (length s ≤ 21)
+    go Euro = iban
+    go Kuna = either (isDigit (getD s 0 0)) _ _ form iban
 
 -- ---------------------------------------------------------------------------
 -- Models

@@ -4,84 +4,101 @@ use Rattle.refusal.proofs.Basics.{_≡_, refl, ap, arith, ℕ, _+_, _≤_, leng
 use Rattle.verdict.specs.Verdict.{Within}
 use Rattle.verdict.proofs.Verdicts.{choice-within, then-within, only-within}
 use Rattle.classes.specs.Classes.{permits}
-use Rattle.text.specs.Bytes.{allOf, same, eur}
+use Rattle.text.specs.Bytes.{allOf, same}
 use Rattle.classes.specs.declared.Class.{Class}
-use Rattle.classes.specs.declared.Class.the-variants.{Digits, Account, Reference, Line, Letters}
+use Rattle.classes.specs.declared.Class.the-variants.{Digits, Reference, Line, Letters}
 use Rattle.text.proofs.Laws.{bytes-within, found-within, all-passes}
 use Rattle.characters.specs.Characters.{firstWrong, characters}
 use Rattle.characters.proofs.Laws.{wrong-below}
 use Rattle.account.proofs.Theorems.{iban-within}
+use Rattle.account_form.proofs.Theorems.{account-or-iban-within}
 use Rattle.model_text.proofs.Theorems.{model-within}
 use Rattle.reference.proofs.Theorems.{reference-within}
-use Rattle.slip_fields.specs.Fields.{hrvhub30, sizedVerdict, mostOf, fieldVerdict}
+use Rattle.slip_fields.specs.declared.Currency.{Currency}
+use Rattle.slip_fields.specs.declared.Currency.the-variants.{Euro, Kuna}
+use Rattle.slip_fields.specs.Fields.{hrvhub30, currencyText, payeeVerdict, sizedVerdict, mostOf, fieldVerdict}
 use Rattle.slip_fields.specs.Sizes.{sizeOf}
 use Rattle.slip_fields.proofs.Accepted as accepted
 
 -- ---------------------------------------------------------------------------
 -- No line feed
 
--- what follows of either answer where it accepts follows of the choice between them
-either : {A : Type 0} (t : Bool) (x y : ℕ) → (x ≡ 0 → A) → (y ≡ 0 → A) → cond t x y ≡ 0 → A
-either true x y p q e = p e
-either false x y p q e = q e
-
 -- an amount or a purpose has none
 sized-free : (k : Class) → permits k 10 ≡ false → (a b : ℕ) (s : List ℕ) → sizedVerdict k a b s ≡ 0 → allOf Line s ≡ true
 sized-free k n a b s e = accepted.class-free k n s (accepted.sized-is k a b s e .0)
 
+-- nor has the word of a currency
+currency-free : (c : Currency) → allOf Line (currencyText c) ≡ true
+unfolding allOf
+currency-free Euro = refl
+currency-free Kuna = refl
+
 -- no line feed stands in an accepted field
-pub no-line-feed : (n : ℕ) (m s : List ℕ) → fieldVerdict n m s ≡ 0 → allOf Line s ≡ true
+pub no-line-feed : (c : Currency) (n : ℕ) (m s : List ℕ) → fieldVerdict c n m s ≡ 0 → allOf Line s ≡ true
 unfolding fieldVerdict allOf
-no-line-feed n m s =
-    either (eqb n 1) _ _ (accepted.word-free hrvhub30 s refl)
-    (either (eqb n 2) _ _ (accepted.word-free eur s refl)
-    (either (eqb n 3) _ _ (sized-free Digits refl 15 15 s)
-    (either (eqb n 10) _ _ (λ e. accepted.class-free Account refl s (accepted.account-is s e .0))
-    (either (eqb n 11) _ _ (accepted.model-free s)
-    (either (eqb n 12) _ _ (λ e. accepted.class-free Reference refl s (accepted.reference-is m s e .0))
-    (either (eqb n 13) _ _ (sized-free Letters refl 0 4 s)
+no-line-feed c n m s =
+    accepted.either (eqb n 1) _ _ (accepted.word-free hrvhub30 s refl)
+    (accepted.either (eqb n 2) _ _ (accepted.word-free (currencyText c) s (currency-free c))
+    (accepted.either (eqb n 3) _ _ (sized-free Digits refl 15 15 s)
+    (accepted.either (eqb n 10) _ _ (λ e. accepted.payee-is c s e .0)
+    (accepted.either (eqb n 11) _ _ (accepted.model-free s)
+    (accepted.either (eqb n 12) _ _ (λ e. accepted.class-free Reference refl s (accepted.reference-is m s e .0))
+    (accepted.either (eqb n 13) _ _ (sized-free Letters refl 0 4 s)
     (accepted.text-free (mostOf n) s)))))))
 
 -- ---------------------------------------------------------------------------
 -- The first three fields
 
 -- "1 is `HRVHUB30`"
-pub first-is-hrvhub30 : (m s : List ℕ) → fieldVerdict 1 m s ≡ 0 → s ≡ hrvhub30
+pub first-is-hrvhub30 : (c : Currency) (m s : List ℕ) → fieldVerdict c 1 m s ≡ 0 → s ≡ hrvhub30
 unfolding fieldVerdict
-first-is-hrvhub30 m s e = accepted.word-is hrvhub30 s e
+first-is-hrvhub30 c m s e = accepted.word-is hrvhub30 s e
 
 -- and that is accepted
-pub hrvhub30-accepted : (m : List ℕ) → fieldVerdict 1 m hrvhub30 ≡ 0
+pub hrvhub30-accepted : (c : Currency) (m : List ℕ) → fieldVerdict c 1 m hrvhub30 ≡ 0
 unfolding fieldVerdict
-hrvhub30-accepted m = rw (accepted.same-itself hrvhub30)
+hrvhub30-accepted c m = rw (accepted.same-itself hrvhub30)
 
--- "2 is `EUR`"
-pub second-is-eur : (m s : List ℕ) → fieldVerdict 2 m s ≡ 0 → s ≡ eur
+-- "2 is `EUR`"; in a kuna slip `HRK`
+pub second-is-currency : (c : Currency) (m s : List ℕ) → fieldVerdict c 2 m s ≡ 0 → s ≡ currencyText c
 unfolding fieldVerdict
-second-is-eur m s e = accepted.word-is eur s e
+second-is-currency c m s e = accepted.word-is (currencyText c) s e
 
 -- and that is accepted
-pub eur-accepted : (m : List ℕ) → fieldVerdict 2 m eur ≡ 0
+pub currency-accepted : (c : Currency) (m : List ℕ) → fieldVerdict c 2 m (currencyText c) ≡ 0
 unfolding fieldVerdict
-eur-accepted m = rw (accepted.same-itself eur)
+currency-accepted c m = rw (accepted.same-itself (currencyText c))
 
 -- "3: exactly fifteen digits"
-pub third-is-digits : (m s : List ℕ) → fieldVerdict 3 m s ≡ 0 → (allOf Digits s ≡ true) × (length s ≡ 15)
+pub third-is-digits : (c : Currency) (m s : List ℕ) → fieldVerdict c 3 m s ≡ 0 → (allOf Digits s ≡ true) × (length s ≡ 15)
 unfolding fieldVerdict
-third-is-digits m s e = accepted.sized-alone Digits 15 s e
+third-is-digits c m s e = accepted.sized-alone Digits 15 s e
 
 -- and those are accepted
-pub digits-accepted : (m s : List ℕ) → allOf Digits s ≡ true → length s ≡ 15 → fieldVerdict 3 m s ≡ 0
+pub digits-accepted : (c : Currency) (m s : List ℕ) → allOf Digits s ≡ true → length s ≡ 15 → fieldVerdict c 3 m s ≡ 0
 unfolding fieldVerdict
-digits-accepted m s e l = rw (all-passes Digits s e, l)
+digits-accepted c m s e l = rw (all-passes Digits s e, l)
 
 -- ---------------------------------------------------------------------------
 -- "obeying the model of field 11"
 
 -- the field before matters to field 12 alone
-pub before-matters-to-12-alone : (n : ℕ) (m m′ s : List ℕ) → (n ≡ 12 → ⊥) → fieldVerdict n m s ≡ fieldVerdict n m′ s
+pub before-matters-to-12-alone : (c : Currency) (n : ℕ) (m m′ s : List ℕ) → (n ≡ 12 → ⊥) → fieldVerdict c n m s ≡ fieldVerdict c n m′ s
 unfolding fieldVerdict
-before-matters-to-12-alone n m m′ s h = rw (ne-eqb n 12 h)
+before-matters-to-12-alone c n m m′ s h = rw (ne-eqb n 12 h)
+
+-- ---------------------------------------------------------------------------
+-- Document 02, W1: "All else is as in 01"
+
+-- the currency matters to fields 2 and 10 alone
+pub currency-matters-to-2-and-10-alone : (c c′ : Currency) (n : ℕ) (m s : List ℕ) → (n ≡ 2 → ⊥) → (n ≡ 10 → ⊥) → fieldVerdict c n m s ≡ fieldVerdict c′ n m s
+unfolding fieldVerdict
+currency-matters-to-2-and-10-alone c c′ n m s g h = rw (ne-eqb n 2 g, ne-eqb n 10 h)
+
+-- the word of another currency is 5
+pub other-currency-refused : (m : List ℕ) → (fieldVerdict Euro 2 m (currencyText Kuna) ≡ 5) × (fieldVerdict Kuna 2 m (currencyText Euro) ≡ 5)
+unfolding fieldVerdict same
+other-currency-refused m = (refl, refl)
 
 -- ---------------------------------------------------------------------------
 -- Sizes
@@ -95,14 +112,19 @@ within false x y j k l p q e = q e
 as-long : (s w : List ℕ) → s ≡ w → length s ≤ length w
 as-long s w e = let h = ap length e in omega arith
 
+-- the word of a currency has three bytes
+currency-size : (c : Currency) → length (currencyText c) ≡ 3
+currency-size Euro = refl
+currency-size Kuna = refl
+
 -- an accepted field has at most the bytes of its size
-pub field-size : (n : ℕ) (m s : List ℕ) → fieldVerdict n m s ≡ 0 → length s ≤ sizeOf n
+pub field-size : (c : Currency) (n : ℕ) (m s : List ℕ) → fieldVerdict c n m s ≡ 0 → length s ≤ sizeOf n
 unfolding fieldVerdict sizeOf
-field-size n m s =
+field-size c n m s =
     within (eqb n 1) _ _ _ _ _ (λ e. as-long s hrvhub30 (accepted.word-is hrvhub30 s e))
-    (within (eqb n 2) _ _ _ _ _ (λ e. as-long s eur (accepted.word-is eur s e))
+    (within (eqb n 2) _ _ _ _ _ (λ e. omega (arith, as-long s (currencyText c) (accepted.word-is (currencyText c) s e), currency-size c))
     (within (eqb n 3) _ _ _ _ _ (λ e. accepted.sized-is Digits 15 15 s e .1 15 (omega arith) (omega arith))
-    (within (eqb n 10) _ _ _ _ _ (λ e. omega (arith, accepted.account-is s e .1))
+    (within (eqb n 10) _ _ _ _ _ (λ e. accepted.payee-is c s e .1)
     (within (eqb n 11) _ _ _ _ _ (λ e. omega (arith, accepted.model-is s e .four))
     (within (eqb n 12) _ _ _ _ _ (λ e. accepted.reference-is m s e .1)
     (within (eqb n 13) _ _ _ _ _ (λ e. accepted.sized-is Letters 0 4 s e .1 4 (omega arith) (omega arith))
@@ -117,13 +139,13 @@ total-size = refl
 -- A 3's byte
 
 -- lies within the field
-pub field-within : (n : ℕ) (m s : List ℕ) → Within (length s) (fieldVerdict n m s)
+pub field-within : (c : Currency) (n : ℕ) (m s : List ℕ) → Within (length s) (fieldVerdict c n m s)
 unfolding fieldVerdict
-field-within n m s =
+field-within c n m s =
     choose (eqb n 1) _ _ (only-within _ (same hrvhub30 s) 5 (omega arith))
-    (choose (eqb n 2) _ _ (only-within _ (same eur s) 5 (omega arith))
+    (choose (eqb n 2) _ _ (only-within _ (same (currencyText c) s) 5 (omega arith))
     (choose (eqb n 3) _ _ (sized Digits 15 15)
-    (choose (eqb n 10) _ _ (iban-within s)
+    (choose (eqb n 10) _ _ (payee-within c)
     (choose (eqb n 11) _ _ (model-within (length s) s)
     (choose (eqb n 12) _ _ (reference-within m s)
     (choose (eqb n 13) _ _ (sized Letters 0 4)
@@ -131,6 +153,10 @@ field-within n m s =
   where
     choose : (b : Bool) (v w : ℕ) → Within (length s) v → Within (length s) w → Within (length s) (cond b v w)
     choose = choice-within (length s)
+
+    payee-within : (c : Currency) → Within (length s) (payeeVerdict c s)
+    payee-within Euro = iban-within s
+    payee-within Kuna = account-or-iban-within s
 
     sized : (k : Class) (a b : ℕ) → Within (length s) (sizedVerdict k a b s)
     sized k a b = then-within (length s) _ _ (bytes-within k s) (only-within (length s) (eqb (length s) a || eqb (length s) b) 4 (omega arith))

@@ -6,6 +6,7 @@ use Rattle.refusal.specs.declared.Answer.{Answer}
 use Rattle.refusal.specs.Refusal.{firstOf}
 use Rattle.verdict.specs.Verdict.{answerIn}
 use Rattle.verdict.proofs.Verdicts.{first-joined}
+use Rattle.slip_fields.specs.declared.Currency.the-variants.{Euro}
 use Rattle.slip_fields.specs.Fields.{fieldVerdict}
 use Rattle.slip_given.specs.Given.{givenAnswer}
 
@@ -25,12 +26,12 @@ unfolding givenAnswer
 given-append n m [] qs = rw add-zero
 given-append n m (p ∷ ps) qs =
     let e : n + suc (length ps) ≡ n + 1 + length ps = omega arith in
-    rw (given-append (n + 1) p ps qs, e) (first-joined (answerIn n (fieldVerdict n m p)) _ _)
+    rw (given-append (n + 1) p ps qs, e) (first-joined (answerIn n (fieldVerdict Euro n m p)) _ _)
 
 -- one field
-pub one-given : (n : ℕ) (m s : List ℕ) (x : Answer) → x ≡ answerIn n (fieldVerdict n m s) → x ≡ givenAnswer n m (s ∷ [])
+pub one-given : (n : ℕ) (m s : List ℕ) (x : Answer) → x ≡ answerIn n (fieldVerdict Euro n m s) → x ≡ givenAnswer n m (s ∷ [])
 unfolding givenAnswer
-one-given n m s x e = e ∙ alone (answerIn n (fieldVerdict n m s))
+one-given n m s x e = e ∙ alone (answerIn n (fieldVerdict Euro n m s))
   where
     alone : (a : Answer) → a ≡ firstOf a Answer.Accepted
     alone Answer.Accepted = refl

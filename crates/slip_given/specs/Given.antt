@@ -4,6 +4,7 @@ use Rattle.refusal.specs.Refusal.{firstOf}
 use Rattle.verdict.specs.Verdict.{answerIn}
 use Rattle.refusal.specs.declared.Answer.{Answer}
 use Rattle.refusal.specs.declared.Answer.the-variants as answer
+use Rattle.slip_fields.specs.declared.Currency.the-variants.{Euro}
 use Rattle.slip_fields.specs.Fields.{fieldVerdict}
 
 -- the fields of one call
@@ -20,4 +21,4 @@ eleven a b c d e f g h i j k = a ∷ (b ∷ (c ∷ (d ∷ (e ∷ (f ∷ (g ∷ f
 -- "It refuses as the reader does, in field order, the byte of a 3 counted within its field and 0 otherwise": from field n on, after m
 unfoldable pub givenAnswer : ℕ → List ℕ → List (List ℕ) → Answer
 givenAnswer n m [] = answer.Accepted
-givenAnswer n m (p ∷ ps) = firstOf (answerIn n (fieldVerdict n m p)) (givenAnswer (n + 1) p ps)
+givenAnswer n m (p ∷ ps) = firstOf (answerIn n (fieldVerdict Euro n m p)) (givenAnswer (n + 1) p ps)

@@ -1,4 +1,4 @@
-// The fields 4 to 14 that a writer of slips is given, judged in their order.
+// The fields 4 to 14 that a writer of slips is given, judged in their order: "only euro slips are written" (document 02, W1).
 //
 // Document 01, "The slip's fourteen fields": the writer refuses as the reader does, so each field is judged by the same
 // name, `slip_fields::judge_field`; a refusal is told of the field, the byte of a 3 counted within it.
@@ -7,12 +7,13 @@ ghost use mathlib.Core.List.{[], _∷_};
 ghost use Prim.Native.Nat.{_≤_};
 ghost use Rattle.slip_given.specs.Given.{givenAnswer, three, four, eleven};
 use refusal::Answer;
+use slip_fields::Currency;
 
 // Field n, after the field `before` it: a refusal is told of the field.
 fn judge_one(n: usize, before: &[u8], s: &[u8]) -> Answer
     ensures { λ r. ⌜ r ≡ givenAnswer n (now (before .entry)) (now (s .entry) ∷ []) ⌝ }
 {
-    verdict::answer_in(slip_fields::judge_field(n, before, s), n)
+    verdict::answer_in(slip_fields::judge_field(Currency::Euro, n, before, s), n)
 }
 
 // Three fields from field n on.

@@ -4,11 +4,12 @@ use Rattle.refusal.proofs.Basics.{_≡_, arith, ℕ, length, List}
 use Rattle.refusal.specs.declared.Answer.the-variants.{Accepted}
 use Rattle.text.specs.Split.{split}
 use Rattle.slip_fields.proofs.Theorems.{third-is-digits}
-use Rattle.slip.specs.Slip.{slipAnswer, pieceOf}
+use Rattle.slip_fields.specs.declared.Currency.{Currency}
+use Rattle.slip.specs.Slip.{slipAnswerIn, pieceOf}
 use Rattle.slip.proofs.Theorems.{accepted-exactly}
 
 -- ---------------------------------------------------------------------------
 -- An accepted slip's third field
 
-pub third-size : (s : List ℕ) → slipAnswer s ≡ Accepted → length (pieceOf 2 (split 10 s)) ≡ 15
-third-size s e = third-is-digits _ _ (accepted-exactly s .0 e .fields 3 (omega arith) (omega arith)) .1
+pub third-size : (c : Currency) (s : List ℕ) → slipAnswerIn c s ≡ Accepted → length (pieceOf 2 (split 10 s)) ≡ 15
+third-size c s e = third-is-digits _ _ _ (accepted-exactly c s .0 e .fields 3 (omega arith) (omega arith)) .1

@@ -9,10 +9,11 @@ use Rattle.text.specs.declared.Found.the-variants.{At, Nothing}
 use Rattle.text.specs.declared.Part.{Part}
 use Rattle.text.specs.Split.{split}
 use Rattle.text.proofs.Laws.{to-the-end}
-use Rattle.slip.specs.Slip.{slipAnswer, pieceOf}
+use Rattle.slip_fields.specs.declared.Currency.{Currency}
+use Rattle.slip.specs.Slip.{slipAnswerIn, pieceOf}
 use Rattle.text.proofs.Pieces.{first-piece}
 use Rattle.slip.proofs.Laws.{split-at, split-whole}
-use Rattle.slip_handed.specs.Handed.{pieceStart, piecePart, isHanded, fieldPart, fieldOf}
+use Rattle.slip_handed.specs.Handed.{pieceStart, piecePart, isHanded, fieldPartIn, fieldIn}
 
 -- ---------------------------------------------------------------------------
 -- Where a piece stands
@@ -95,19 +96,19 @@ piece-stands (suc k) s = go (firstBad Line s) refl (λ t. piece-stands k t)
 -- ---------------------------------------------------------------------------
 -- Fields
 
-module _ (s : List ℕ) (n : ℕ) where
-  pub not-handed : isHanded s n ≡ false → record { start = 0; length = 0 } ≡ fieldPart s n
-  unfolding fieldPart
+module _ (c : Currency) (s : List ℕ) (n : ℕ) where
+  pub not-handed : isHanded c s n ≡ false → record { start = 0; length = 0 } ≡ fieldPartIn c s n
+  unfolding fieldPartIn
   not-handed e = rw e
 
-  pub handed : (p : Part) → 4 ≤ n → n ≤ 14 → isAccepted (slipAnswer s) ≡ true → p ≡ piecePart (n - 1) (split 10 s) → p ≡ fieldPart s n
-  unfolding fieldPart
-  handed p g h e f = entered (isHanded s n) _ _ p (rw (le-leb 4 n g, le-leb n 14 h, e)) f
+  pub handed : (p : Part) → 4 ≤ n → n ≤ 14 → isAccepted (slipAnswerIn c s) ≡ true → p ≡ piecePart (n - 1) (split 10 s) → p ≡ fieldPartIn c s n
+  unfolding fieldPartIn
+  handed p g h e f = entered (isHanded c s n) _ _ p (rw (le-leb 4 n g, le-leb n 14 h, e)) f
 
   -- it is the field
-  pub field-stands : Stands s (fieldOf s n) (fieldPart s n)
-  unfolding fieldPart fieldOf
-  field-stands = go (isHanded s n)
+  pub field-stands : Stands s (fieldIn c s n) (fieldPartIn c s n)
+  unfolding fieldPartIn fieldIn
+  field-stands = go (isHanded c s n)
     where
       go : (b : Bool) → Stands s (cond b (pieceOf (n - 1) (split 10 s)) []) (cond b (piecePart (n - 1) (split 10 s)) (record { start = 0; length = 0 }))
       go true = piece-stands (n - 1) s

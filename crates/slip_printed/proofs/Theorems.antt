@@ -1,15 +1,22 @@
--- All that is printed of a slip stands in a room of 6,100 bytes.
+-- All that `slipfile` prints of a slip stands in a room of 6,100 bytes, and all that `ledger` prints in one of 6,200.
 -- Assumes nothing.
 use Rattle.refusal.proofs.Basics.{_≡_, refl, arith, ℕ, zero, suc, _+_, _-_, _*_, _≤_, length, take, length-append, List, [], _∷_, _++_, suc-mul}
 use Rattle.refusal.specs.declared.Answer.{Answer}
 use Rattle.refusal.specs.declared.Answer.the-variants.{Accepted, Refused}
 use Rattle.text.specs.Split.{split}
-use Rattle.slip.specs.Slip.{slipAnswer, pieceOf}
+use Rattle.slip_fields.specs.declared.Currency.{Currency}
+use Rattle.slip_fields.specs.declared.Currency.the-variants.{Euro, Kuna}
+use Rattle.slip.specs.Slip.{slipAnswerIn, slipAnswer, pieceOf}
+use Rattle.units.specs.Units.{lipaInCents}
+use Rattle.ledger_slip.specs.declared.LedgerSlip.{LedgerSlip}
+use Rattle.ledger_slip.specs.declared.LedgerSlip.the-variants as ledger
+use Rattle.ledger_slip.specs.Ledger.{ledgerOf}
 use Rattle.slip.proofs.Plain.{accepted-plainly}
 use Rattle.slip_handed.proofs.Laws.{piece-stands}
 use Rattle.printed.specs.Printed.{decimal, Puts}
 use Rattle.printed.proofs.Theorems.{both-at-most, decimal-at-most, refused-at-most, printed-whole}
-use Rattle.slip_printed.specs.SlipPrinted.{acceptedLine, fieldLine, fieldLines, printedFor, slipPrinted}
+use Rattle.slip_printed.specs.SlipPrinted.{acceptedLine, euroLine, kunaLine, centsLine, fieldLine, fieldLines, printedFor, slipPrinted, ledgerLines, ledgerPrinted}
+use Rattle.slip_printed.proofs.Laws.{KnownLedger, ledger-known}
 
 -- ---------------------------------------------------------------------------
 -- How long it is
@@ -40,12 +47,39 @@ unfolding slipPrinted
 slip-at-most s = go (slipAnswer s) refl
   where
     go : (a : Answer) → slipAnswer s ≡ a → length (printedFor a s) ≤ 6100
-    go Accepted e = let b = both-at-most acceptedLine (fieldLines s 3 12) 9 6060 (omega arith) (lines-at-most s 3 12 (accepted-plainly s .0 e .short)) in omega arith
+    go Accepted e = let b = both-at-most acceptedLine (fieldLines s 3 12) 9 6060 (omega arith) (lines-at-most s 3 12 (accepted-plainly Euro s .0 e .short)) in omega arith
     go (Refused r) e = let b = refused-at-most r in omega arith
 
--- ---------------------------------------------------------------------------
--- What the program prints
+-- with a kuna slip's cents
+cents-at-most : (lipa : ℕ) → length (centsLine lipa) ≤ 27
+unfolding centsLine
+cents-at-most lipa =
+    let d = decimal-at-most (lipaInCents lipa) in
+    let a = length-append (decimal (lipaInCents lipa)) (10 ∷ []) in
+    omega arith
 
--- in a room of 6,100 bytes the call leaves all of it at the front
+pub ledger-at-most : (s : List ℕ) → length (ledgerPrinted s) ≤ 6200
+unfolding ledgerPrinted
+ledger-at-most s = go (ledgerOf s) (ledger-known s (ledgerOf s) refl)
+  where
+    fields : (c : Currency) → slipAnswerIn c s ≡ Accepted → length (fieldLines s 3 12) ≤ 6060
+    fields c e = lines-at-most s 3 12 (accepted-plainly c s .0 e .short)
+
+    go : (l : LedgerSlip) → KnownLedger s l → length (ledgerLines l s) ≤ 6200
+    go (ledger.Euro cents) k = let b = both-at-most euroLine (fieldLines s 3 12) 14 6060 (omega arith) (fields Euro (k .0)) in omega arith
+    go (ledger.Kuna lipa) k =
+        let b = both-at-most kunaLine (fieldLines s 3 12) 14 6060 (omega arith) (fields Kuna (k .0)) in
+        let d = both-at-most (kunaLine ++ fieldLines s 3 12) (centsLine (lipa .number)) 6074 27 b (cents-at-most (lipa .number)) in
+        omega arith
+    go (ledger.Refused r) k = let b = refused-at-most r in omega arith
+
+-- ---------------------------------------------------------------------------
+-- What the programs print
+
+-- in a room of 6,100 bytes `slipfile`'s call leaves all of it at the front
 pub slip-printed-whole : (s out : List ℕ) (r : ℕ) (after : List ℕ) → Puts (slipPrinted s) 0 out r after → 6100 ≤ length out → take r after ≡ slipPrinted s
 slip-printed-whole s out r after p h = let b = slip-at-most s in printed-whole (slipPrinted s) out r after p (omega arith)
+
+-- in a room of 6,200 bytes `ledger`'s does
+pub ledger-printed-whole : (s out : List ℕ) (r : ℕ) (after : List ℕ) → Puts (ledgerPrinted s) 0 out r after → 6200 ≤ length out → take r after ≡ ledgerPrinted s
+ledger-printed-whole s out r after p h = let b = ledger-at-most s in printed-whole (ledgerPrinted s) out r after p (omega arith)

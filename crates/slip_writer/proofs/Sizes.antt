@@ -4,6 +4,7 @@ use Rattle.verdict.specs.Verdict.{answerIn}
 use Rattle.refusal.specs.declared.Answer.{Answer}
 use Rattle.refusal.specs.declared.Answer.the-variants.{Accepted}
 use Rattle.verdict.proofs.Verdicts.{answer-accepted, first-both}
+use Rattle.slip_fields.specs.declared.Currency.the-variants.{Euro}
 use Rattle.slip_fields.specs.Fields.{fieldVerdict}
 use Rattle.slip_fields.specs.Sizes.{sizeOf}
 use Rattle.slip_fields.proofs.Theorems.{field-size}
@@ -13,9 +14,9 @@ use Rattle.slip_writer.proofs.Laws.{lines-length, slip-length}
 
 -- of accepted fields the first is accepted, and so are those after it
 pub given-first :
-    (n : ℕ) (m p : List ℕ) (ps : List (List ℕ)) → givenAnswer n m (p ∷ ps) ≡ Accepted → (fieldVerdict n m p ≡ 0) × (givenAnswer (n + 1) p ps ≡ Accepted)
+    (n : ℕ) (m p : List ℕ) (ps : List (List ℕ)) → givenAnswer n m (p ∷ ps) ≡ Accepted → (fieldVerdict Euro n m p ≡ 0) × (givenAnswer (n + 1) p ps ≡ Accepted)
 unfolding givenAnswer
-given-first n m p ps e = let h = first-both (answerIn n (fieldVerdict n m p)) _ e in (answer-accepted _ _ _ (h .0), h .1)
+given-first n m p ps e = let h = first-both (answerIn n (fieldVerdict Euro n m p)) _ e in (answer-accepted _ _ _ (h .0), h .1)
 
 -- the most bytes of k fields from field n on, with their line feeds
 abbrev pub sizes : ℕ → ℕ → ℕ
@@ -27,7 +28,7 @@ pub given-size : (n : ℕ) (m : List ℕ) (ps : List (List ℕ)) → givenAnswer
 given-size n m [] e = unfold joinLines in omega arith
 given-size n m (p ∷ ps) e =
     let h = given-first n m p ps e in
-    omega (arith, lines-length p ps, field-size n m p (h .0), given-size (n + 1) p ps (h .1))
+    omega (arith, lines-length p ps, field-size Euro n m p (h .0), given-size (n + 1) p ps (h .1))
 
 -- the fields 4 to 14
 pub sizes-eleven : sizes 4 11 ≡ 454

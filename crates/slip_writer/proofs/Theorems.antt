@@ -10,11 +10,12 @@ use Rattle.verdict.proofs.Verdicts.{answer-accepted, first-both}
 use Rattle.text.specs.Digits.{digitsOf, valueOf, digitsText}
 use Rattle.text.specs.Split.{split}
 use Rattle.text.specs.Bytes.{countOf, eur}
+use Rattle.slip_fields.specs.declared.Currency.the-variants.{Euro}
 use Rattle.slip_fields.specs.Fields.{hrvhub30, fieldVerdict}
-use Rattle.slip_fields.proofs.Theorems.{no-line-feed, first-is-hrvhub30, second-is-eur, third-is-digits, hrvhub30-accepted, eur-accepted, digits-accepted, before-matters-to-12-alone}
+use Rattle.slip_fields.proofs.Theorems.{no-line-feed, first-is-hrvhub30, second-is-currency, third-is-digits, hrvhub30-accepted, currency-accepted, digits-accepted, before-matters-to-12-alone}
 use Rattle.room.proofs.Digits.{digits-length, text-digits, number-back, value-below, digits-again}
-use Rattle.slip.specs.Slip.{slipEnds, fieldsAnswer, slipAnswer, pieceOf}
-use Rattle.slip_handed.specs.Handed.{fieldOf, amountOf}
+use Rattle.slip.specs.Slip.{slipEnds, fieldsAnswer, slipAnswerIn, slipAnswer, pieceOf}
+use Rattle.slip_handed.specs.Handed.{fieldIn, fieldOf, amountOf}
 use Rattle.slip_given.specs.Given.{givenAnswer}
 use Rattle.slip_writer.specs.declared.Written.{Written}
 use Rattle.slip_writer.specs.declared.Written.the-variants.{Bytes}
@@ -30,36 +31,36 @@ use Rattle.slip_writer.proofs.Lines.{split-joined, count-joined, last-j
 -- accepted fields have no line feed
 given-lines : (n : ℕ) (m : List ℕ) (ps : List (List ℕ)) → givenAnswer n m ps ≡ Accepted → EachLine ps
 given-lines n m [] e = no-line
-given-lines n m (p ∷ ps) e = let h = given-first n m p ps e in more (no-line-feed n m p (h .0)) (given-lines (n + 1) p ps (h .1))
+given-lines n m (p ∷ ps) e = let h = given-first n m p ps e in more (no-line-feed Euro n m p (h .0)) (given-lines (n + 1) p ps (h .1))
 
 -- an accepted field, and then accepted ones
 first-given :
-    (n : ℕ) (m p : List ℕ) (ps : List (List ℕ)) → fieldVerdict n m p ≡ 0 → givenAnswer (n + 1) p ps ≡ Accepted → givenAnswer n m (p ∷ ps) ≡ Accepted
+    (n : ℕ) (m p : List ℕ) (ps : List (List ℕ)) → fieldVerdict Euro n m p ≡ 0 → givenAnswer (n + 1) p ps ≡ Accepted → givenAnswer n m (p ∷ ps) ≡ Accepted
 unfolding givenAnswer
 first-given n m p ps e g = rw (e, g)
 
 -- what the writer accepts the reader accepts, with nothing behind the last line feed
 given-read :
-    (n start : ℕ) (m : List ℕ) (ps : List (List ℕ)) → givenAnswer n m ps ≡ Accepted → fieldsAnswer n start m (ps ++ ([] ∷ [])) ≡ Accepted
+    (n start : ℕ) (m : List ℕ) (ps : List (List ℕ)) → givenAnswer n m ps ≡ Accepted → fieldsAnswer Euro n start m (ps ++ ([] ∷ [])) ≡ Accepted
 unfolding fieldsAnswer
 given-read n start m [] e = refl
 given-read n start m (p ∷ []) e = rw (given-first n m p [] e .0)
 given-read n start m (p ∷ (q ∷ ps)) e = let h = given-first n m p (q ∷ ps) e in rw (h .0) (given-read (n + 1) (start + length p + 1) p (q ∷ ps) (h .1))
 
 -- what the reader accepts the writer accepts
-read-given : (n start : ℕ) (m : List ℕ) (ps : List (List ℕ)) → fieldsAnswer n start m ps ≡ Accepted → givenAnswer n m (slipLines ps) ≡ Accepted
+read-given : (n start : ℕ) (m : List ℕ) (ps : List (List ℕ)) → fieldsAnswer Euro n start m ps ≡ Accepted → givenAnswer n m (slipLines ps) ≡ Accepted
 unfolding fieldsAnswer givenAnswer
 read-given n start m [] e = refl
 read-given n start m (p ∷ []) e = refl
 read-given n start m (p ∷ (q ∷ ps)) e =
-    let h = first-both (answerAt n start (fieldVerdict n m p)) _ e in
-    rw (answer-accepted (fieldVerdict n m p) n _ (h .0)) (read-given (n + 1) (start + length p + 1) p (q ∷ ps) (h .1))
+    let h = first-both (answerAt n start (fieldVerdict Euro n m p)) _ e in
+    rw (answer-accepted (fieldVerdict Euro n m p) n _ (h .0)) (read-given (n + 1) (start + length p + 1) p (q ∷ ps) (h .1))
 
 -- the field before field 4 says nothing of it
 given-four : (m m′ : List ℕ) (ps : List (List ℕ)) → givenAnswer 4 m ps ≡ givenAnswer 4 m′ ps
 unfolding givenAnswer
 given-four m m′ [] = refl
-given-four m m′ (p ∷ ps) = rw (before-matters-to-12-alone 4 m m′ p (omega arith))
+given-four m m′ (p ∷ ps) = rw (before-matters-to-12-alone Euro 4 m m′ p (omega arith))
 
 -- ---------------------------------------------------------------------------
 -- What the writer counts
@@ -99,9 +100,9 @@ module _ (cents : ℕ) (fields : List (List ℕ)) (given : givenAnswer 4 [] fiel
   all-given : givenAnswer 1 [] (fourteen cents fields) ≡ Accepted
   all-given =
       let d = digitsText 15 cents in
-      first-given 1 [] hrvhub30 (eur ∷ (d ∷ fields)) (hrvhub30-accepted [])
-      (first-given 2 hrvhub30 eur (d ∷ fields) (eur-accepted hrvhub30)
-      (first-given 3 eur d fields (digits-accepted eur d (text-digits 15 cents) (digits-length 15 cents)) (given-four d [] fields ∙ given)))
+      first-given 1 [] hrvhub30 (eur ∷ (d ∷ fields)) (hrvhub30-accepted Euro [])
+      (first-given 2 hrvhub30 eur (d ∷ fields) (currency-accepted Euro hrvhub30)
+      (first-given 3 eur d fields (digits-accepted Euro eur d (text-digits 15 cents) (digits-length 15 cents)) (given-four d [] fields ∙ given)))
 
   -- no line feed stands in any of them
   all-lines : EachLine (fourteen cents fields)
@@ -124,7 +125,7 @@ module _ (cents : ℕ) (fields : List (List ℕ)) (given : givenAnswer 4 [] fiel
   slip-ends = rw (count-joined all-lines, all, last-joined hrvhub30 (eur ∷ (digitsText 15 cents ∷ fields)))
 
   slip-accepted : slipAnswer (slipText cents fields) ≡ Accepted
-  unfolding slipAnswer
+  unfolding slipAnswerIn
   slip-accepted = rw (le-leb (length (slipText cents fields)) 483 slip-small, slip-ends, slip-split) (given-read 1 0 [] (fourteen cents fields) all-given)
 
   -- its third field
@@ -134,7 +135,7 @@ module _ (cents : ℕ) (fields : List (List ℕ)) (given : givenAnswer 4 [] fiel
 
   -- its fields 4 to 14
   slip-texts : (k : ℕ) → 4 ≤ k → k ≤ 14 → fieldOf (slipText cents fields) k ≡ getD fields (k - 4) []
-  unfolding fieldOf pieceOf
+  unfolding fieldIn pieceOf
   slip-texts k l u =
       let e : k - 1 ≡ suc (suc (suc (k - 4))) = omega arith in
       rw (le-leb 4 k l, le-leb k 14 u, slip-accepted, slip-split, e) (List·getD-append fields ([] ∷ []) [] (k - 4) (omega arith))
@@ -157,17 +158,17 @@ written-is-accepted cents fields room n all e =
 -- of an accepted slip
 record Read (s : List ℕ) : Type 0 where
   ends : slipEnds s ≡ true
-  fields : fieldsAnswer 1 0 [] (split 10 s) ≡ Accepted
+  fields : fieldsAnswer Euro 1 0 [] (split 10 s) ≡ Accepted
 
 slip-read : (s : List ℕ) → slipAnswer s ≡ Accepted → Read s
-unfolding slipAnswer
+unfolding slipAnswerIn
 slip-read s e = small (leb (length s) 483) e
   where
-    ends : (t : Bool) → slipEnds s ≡ t → cond t (fieldsAnswer 1 0 [] (split 10 s)) (Refused (Refusal.Ends none)) ≡ Accepted → Read s
+    ends : (t : Bool) → slipEnds s ≡ t → cond t (fieldsAnswer Euro 1 0 [] (split 10 s)) (Refused (Refusal.Ends none)) ≡ Accepted → Read s
     ends true g e = record { ends = g; fields = e }
     ends false g e = let z : _≡_ {A = ℕ} 0 1 = cc in absurd (omega arith)
 
-    small : (t : Bool) → cond t (cond (slipEnds s) (fieldsAnswer 1 0 [] (split 10 s)) (Refused (Refusal.Ends none))) (Refused (Refusal.Size none)) ≡ Accepted → Read s
+    small : (t : Bool) → cond t (cond (slipEnds s) (fieldsAnswer Euro 1 0 [] (split 10 s)) (Refused (Refusal.Ends none))) (Refused (Refusal.Size none)) ≡ Accepted → Read s
     small true e = ends (slipEnds s) refl e
     small false e = let z : _≡_ {A = ℕ} 0 1 = cc in absurd (omega arith)
 
@@ -203,7 +204,7 @@ module _ (s : List ℕ) (accepted : slipAnswer s ≡ Accepted) (ls : List (List 
 
   -- a field is a line
   field-line : (i : ℕ) → i < 11 → fieldOf s (4 + i) ≡ getD ls (suc (suc (suc i))) []
-  unfolding fieldOf
+  unfolding fieldIn
   field-line i h =
       let e : 4 + i - 1 ≡ suc (suc (suc i)) = omega arith in
       rw (le-leb 4 (4 + i) (omega arith), le-leb (4 + i) 14 (omega arith), accepted, e) (piece-line (suc (suc (suc i))) (omega arith))
@@ -226,13 +227,13 @@ lines-again s a (p ∷ (q ∷ (r ∷ fields))) l n g w =
     let h₁ = given-first 1 [] p (q ∷ (r ∷ fields)) g in
     let h₂ = given-first 2 p q (r ∷ fields) (h₁ .1) in
     let h₃ = given-first 3 q r fields (h₂ .1) in
-    let d = third-is-digits q r (h₃ .0) in
+    let d = third-is-digits Euro q r (h₃ .0) in
     let amount : pieceOf 2 (split 10 s) ≡ r = piece-line s a (p ∷ (q ∷ (r ∷ fields))) l n 2 (omega arith) in
     let texts : slipFields s ≡ fields =
     listed-ext (fieldOf s) (λ (i : ℕ). getD fields i []) 4 0 11 (λ i h. field-line s a (p ∷ (q ∷ (r ∷ fields))) l n i h ∙ rw zero-add)
     ∙ listed-drop fields 0 11 (omega arith) in
     record {
-      same = rw (amount, texts) (slip-lines p q r s (valueOf (digitsOf r)) fields (first-is-hrvhub30 [] p (h₁ .0)) (second-is-eur p q (h₂ .0)) (rw (d .1) at (digits-again r (d .0))) w);
+      same = rw (amount, texts) (slip-lines p q r s (valueOf (digitsOf r)) fields (first-is-hrvhub30 Euro [] p (h₁ .0)) (second-is-currency Euro p q (h₂ .0)) (rw (d .1) at (digits-again r (d .0))) w);
       small = rw amount (value-below 15 r (d .0) (d .1));
       given = rw texts (given-four [] r fields ∙ h₃ .1);
     }

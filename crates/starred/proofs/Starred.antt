@@ -16,7 +16,7 @@ use Rattle.groups.specs.Groups.{groupRight, groupsRight}
 use Rattle.reference.specs.Answers.{referenceVerdict}
 use Rattle.characters.specs.Characters.{firstWrong, characters}
 use Rattle.slip_fields.specs.Fields.{fieldVerdict}
-use Rattle.slip.specs.Slip.{fieldsAnswer, slipAnswer}
+use Rattle.slip.specs.Slip.{fieldsAnswer, slipAnswerIn, slipAnswer}
 use Rattle.slip_writer.specs.Writer.{joinLines, slipText}
 
 -- ---------------------------------------------------------------------------
@@ -121,5 +121,5 @@ starred =
 
 -- the claim
 starred-cases-hold : allHold starred ≡ true
-unfolding starred allHold holds HR dashed digitsText firstBad bytesVerdict allOf digitsOf valueFrom split weighted carriedOver checkDigit passes ibanPasses oibPasses modelOf specialOf partsOf partsFit formed joined groupRight groupsRight printed slipText joinLines same firstWrong characters fieldVerdict countOf fieldsAnswer slipAnswer
+unfolding starred allHold holds HR dashed digitsText firstBad bytesVerdict allOf digitsOf valueFrom split weighted carriedOver checkDigit passes ibanPasses oibPasses modelOf specialOf partsOf partsFit formed joined groupRight groupsRight printed slipText joinLines same firstWrong characters fieldVerdict countOf fieldsAnswer slipAnswerIn
 starred-cases-hold = refl

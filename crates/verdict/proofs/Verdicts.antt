@@ -1,6 +1,6 @@
 -- Laws of verdicts: what a chain of rules answers, when it refuses nothing, and where its byte lies.
 -- Assumes nothing.
-use Rattle.refusal.proofs.Basics.{_≡_, refl, sym, _∙_, arith, ℕ, _-_, _≤_, _<_, ne-eqb, eqb-true, Bool, true, false, cond, false≢true, eqb, leb}
+use Rattle.refusal.proofs.Basics.{_≡_, refl, sym, _∙_, arith, ℕ, _-_, _≤_, _<_, ne-eqb, eqb-true, Bool, true, false, cond, _&&_, false≢true, eqb, leb, _↔_, both-true, and-second}
 use Rattle.refusal.specs.declared.Answer.{Answer}
 use Rattle.refusal.specs.declared.Answer.the-variants.{Accepted, Refused}
 use Rattle.refusal.specs.declared.Refusal.{Refusal}
@@ -44,6 +44,17 @@ pass-both v w e h = rw (e, h)
 pub test-holds : (b : Bool) (n : ℕ) → eqb n 0 ≡ false → onlyIf b n ≡ 0 → b ≡ true
 test-holds true n z e = refl
 test-holds false n z e = absurd (false≢true (sym z ∙ rw e))
+
+-- a test's rule, where it holds
+pub test-exactly : (b : Bool) (n : ℕ) → eqb n 0 ≡ false → (onlyIf b n ≡ 0) ↔ (b ≡ true)
+test-exactly b n z = (test-holds b n z, λ e. rw e)
+
+-- two rules, where both refuse nothing
+pub both-exactly : (v w : ℕ) (a b : Bool) → (v ≡ 0) ↔ (a ≡ true) → (w ≡ 0) ↔ (b ≡ true) → (andThen v w ≡ 0) ↔ ((a && b) ≡ true)
+both-exactly v w a b p q = (
+  λ e. let h = both-pass v w e in sym (and-second a b true (p .0 (h .0)) (sym (q .0 (h .1)))),
+  λ e. let h = both-true a b e in pass-both v w (p .1 (h .0)) (q .1 (h .1)),
+)
 
 -- an answer refuses nothing where its verdict does
 pub answer-accepted : (v field byte : ℕ) → answerOf v field byte ≡ Accepted → v ≡ 0

@@ -42,13 +42,16 @@ returns-12 c = rw (c .before .enum-told12 .given .1) (c .is-place-byte .ensures)
 returns-13 : tie.Need-returns-13
 returns-13 c = rw (c .before .enum-told13 .given .1) (c .described .ensures)
 
+returns-14 : tie.Need-returns-14
+returns-14 c = rw (c .before .enum-told14 .given .1, ← (c .is-account-byte2 .ensures))
+
 pub permitted-spec : {M : Type 1} → statement M
 permitted-spec =
     tie.close (tie.spec
     (λ c. search needs) (λ c κs. search needs) (λ c. search needs) (λ c κs. search needs) (λ c. search needs) (λ c κs. search needs)
     (λ c. search needs) (λ c κs. search needs) (λ c. search needs) (λ c κs. search needs) (λ c. search needs) (λ c. search needs)
     (λ c. search needs) (λ c. search needs) (λ c κs. search needs) (λ c. search needs) (λ c. search needs) (λ c. search needs)
-    (λ c κs. search needs) (λ c. search needs) (λ c κs. search needs)
+    (λ c κs. search needs) (λ c. search needs) (λ c κs. search needs) (λ c. search needs) (λ c κs. search needs)
     returns
     returns-2
     returns-3
@@ -61,4 +64,5 @@ permitted-spec =
     returns-10
     returns-11
     returns-12
-    returns-13)
+    returns-13
+    returns-14)

@@ -8,7 +8,7 @@ use Rattle.slip.proofs.judge_one.Tie as tie
 add-answer-of : tie.Need-add-answer-of
 add-answer-of c =
     let a = c .before .before .before .before .args in
-    let w = byte-within (length (a .s .now)) (c .before .judge-field .result) (rw (c .before .judge-field .ensures) (field-within (a .n) (a .before .now) (a .s .now))) in
+    let w = byte-within (length (a .s .now)) (c .before .judge-field .result) (rw (c .before .judge-field .ensures) (field-within (a .currency) (a .n) (a .before .now) (a .s .now))) in
     omega (arith, w, c .byte-of .ensures)
 
 returns : tie.Need-returns

@@ -11,7 +11,7 @@ returns c = rw (c .before .before .match .keys1) (c .judge-word .ensures)
 
 returns-2 : tie.Need-returns-2
 unfolding fieldVerdict
-returns-2 c = rw (c .before .before .match .keys2) (c .judge-word2 .ensures)
+returns-2 c = rw (c .before .match .keys2) (c .judge-currency .ensures)
 
 returns-3 : tie.Need-returns-3
 unfolding fieldVerdict
@@ -19,7 +19,7 @@ returns-3 c = rw (c .before .match .keys3) (c .judge-sized .ensures)
 
 returns-4 : tie.Need-returns-4
 unfolding fieldVerdict
-returns-4 c = rw (c .before .match .keys4) (c .iban .ensures)
+returns-4 c = rw (c .before .match .keys4) (c .judge-payee .ensures)
 
 returns-5 : tie.Need-returns-5
 unfolding fieldVerdict
@@ -43,8 +43,8 @@ returns-8 c =
 pub judge-field-spec : {M : Type 1} → statement M
 judge-field-spec =
     tie.close (tie.spec
-    (λ c. search needs) (λ c κs. search needs) (λ c. search needs) (λ c κs. search needs) (λ c κs. search needs) (λ c κs. search needs)
-    (λ c κs. search needs) (λ c κs. search needs) (λ c κs. search needs) (λ c κs. search needs) (λ c κs. search needs)
+    (λ c. search needs) (λ c κs. search needs) (λ c κs. search needs) (λ c κs. search needs) (λ c κs. search needs) (λ c κs. search needs)
+    (λ c κs. search needs) (λ c κs. search needs) (λ c κs. search needs) (λ c κs. search needs)
     returns
     returns-2
     returns-3

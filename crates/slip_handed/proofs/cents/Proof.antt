@@ -1,25 +1,21 @@
--- `slip::cents` meets its contract: an accepted slip's third field has fifteen digits. Assumes nothing.
-use Rattle.refusal.proofs.Basics.{_≡_, sym, ap, _∙_, needs, arith, ℕ, take, List}
+-- `slip_handed::cents` meets its contract: an accepted slip's third field has fifteen digits. Assumes nothing.
+use Rattle.refusal.proofs.Basics.{sym, ap, _∙_, needs, arith, ℕ, take, List}
 use Rattle.text.specs.Split.{split}
 use Rattle.sums.specs.Sums.{numberOf}
 use Rattle.sums.proofs.Theorems.{number-of-all}
+use Rattle.slip_fields.specs.declared.Currency.the-variants.{Euro}
 use Rattle.slip.specs.Slip.{pieceOf}
 use Rattle.slip_handed.specs.declared.Amount.the-variants.{Cents}
-use Rattle.slip_handed.proofs.Laws.{piece-stands}
 use Rattle.slip_handed.proofs.Amounts.{third-size}
 use Rattle.slip_handed.proofs.cents.Statement.{statement}
 use Rattle.slip_handed.proofs.cents.Tie as tie
 
-bytes-requires : tie.Need-bytes-requires
-bytes-requires c κs = rw (c .piece .ensures) (piece-stands 2 (c .before .before .before .before .before .args .s .now) .0)
-
 returns : tie.Need-returns
 returns c =
-    let s = c .before .before .before .before .before .before .before .args .s .now in
-    let a = sym (c .before .before .before .before .before .read .ensures) ∙ c .before .before .before .enum-told .given .1 in
-    let p : c .before .bytes .result .now ≡ pieceOf 2 (split 10 s) = c .before .bytes .ensures ∙ rw (c .before .before .piece .ensures) (piece-stands 2 s .1) in
-    let q = ap (λ (l : List ℕ). numberOf (take 18 l)) p in
-    let z = third-size s a in
+    let s = c .before .before .before .before .before .before .args .s .now in
+    let a = sym (c .before .before .before .before .read .ensures) ∙ c .before .before .enum-told .given .1 in
+    let q = ap (λ (l : List ℕ). numberOf (take 18 l)) (c .before .piece-text .ensures) in
+    let z = third-size Euro s a in
     rw a (ap Cents (c .number .ensures ∙ (q ∙ number-of-all (pieceOf 2 (split 10 s)) (omega arith))))
 
 returns-2 : tie.Need-returns-2
@@ -28,4 +24,4 @@ returns-2 c = rw (sym (c .before .before .before .read .ensures) ∙ c .before .
 pub cents-spec : {M : Type 1} → statement M
 cents-spec =
     tie.close
-    (tie.spec (λ c κs. search needs) (λ c. search needs) (λ c κs. search needs) bytes-requires (λ c κs. search needs) (λ c. search needs) returns returns-2)
+    (tie.spec (λ c κs. search needs) (λ c. search needs) (λ c κs. search needs) (λ c κs. search needs) (λ c. search needs) returns returns-2)

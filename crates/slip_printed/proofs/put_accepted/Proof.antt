@@ -11,7 +11,7 @@ put-fields-requires c κs = let p = c .before .before .before .put-amount .ensur
 returns : tie.Need-returns
 returns c =
     let s = c .before .before .before .before .before .before .before .before .before .before .before .before .before .before .before in
-    rw (amount-line (s .args .s .now) (s .args .cents) (s .pre .0) (s .pre .1))
+    rw (amount-line (s .args .currency) (s .args .s .now) (s .args .amount) (s .pre .0) (s .pre .1))
     (puts-then (c .before .before .before .before .before .before .before .before .before .before .put .ensures) (puts-then (c .before .before .before .before .before .before .put-amount .ensures) (c .before .before .put-fields .ensures)))
 
 pub put-accepted-spec : {M : Type 1} → statement M

@@ -5,7 +5,7 @@ use Rattle.slip_printed.proofs.put_amount.Statement.{statement}
 use Rattle.slip_printed.proofs.put_amount.Tie as tie
 
 returns : tie.Need-returns
-returns c = rw (← (fifteen (c .before .before .before .before .before .before .before .before .before .args .cents)), ← (c .before .before .before .before .before .before .put-digits .ensures)) (c .before .before .put-field .ensures)
+returns c = rw (← (fifteen (c .before .before .before .before .before .before .before .before .before .args .amount)), ← (c .before .before .before .before .before .before .put-digits .ensures)) (c .before .before .put-field .ensures)
 
 pub put-amount-spec : {M : Type 1} → statement M
 put-amount-spec =

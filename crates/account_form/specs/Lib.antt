@@ -1,0 +1,2 @@
+-- The definitions of the crate `account_form`.
+pub mod AccountForm

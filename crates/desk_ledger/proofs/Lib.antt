@@ -1,0 +1,2 @@
+-- The laws of the crate `desk_ledger`.
+pub mod One

@@ -1,0 +1,2 @@
+-- The definitions of the crate `desk_ledger`.
+pub mod Ledgers

@@ -1,0 +1,2 @@
+-- The definitions of the crate `ledger_slip`.
+pub mod Ledger
