@@ -1,10 +1,15 @@
-//! IBAN and OIB, as fields 10 of the slip and the OIB places judge them.
+//! IBAN, account and OIB, as fields 10 of the slips and the OIB places judge
+//! them.
 
 use crate::checkdigit::{values, Rule};
 use crate::refusal::{only, Reason, Refusal};
 
 pub const IBAN_LENGTH: usize = 21;
+pub const ACCOUNT_LENGTH: usize = 18;
 pub const OIB_LENGTH: usize = 11;
+
+/// The bank's digits, before the hyphen of an account.
+const BANK_DIGITS: usize = 7;
 
 /// `HR` moved behind the account and written as digits: H is 17, R is 27.
 const COUNTRY: u64 = 17_27;
@@ -43,6 +48,33 @@ fn remainder(account: u64, check: u64) -> u64 {
 
 fn number(digits: &[u8]) -> u64 {
     values(digits).fold(0, |n, d| n * 10 + u64::from(d))
+}
+
+/// Field 10 of a kuna slip: what begins with a digit is an account.
+pub fn iban_or_account(text: &[u8]) -> Result<(), Refusal> {
+    match text.first() {
+        Some(b'0'..=b'9') => account(text),
+        _ => iban(text),
+    }
+}
+
+/// Seven digits, a hyphen and ten digits: 3, 4, 5, and no check.
+fn account(text: &[u8]) -> Result<(), Refusal> {
+    only(text, |b| {
+        b == b'-' || b.is_ascii_uppercase() || b.is_ascii_digit()
+    })?;
+    if text.len() != ACCOUNT_LENGTH {
+        return Err(Reason::Length.into());
+    }
+    let wanted = |(place, byte): (usize, &u8)| match place {
+        BANK_DIGITS => *byte == b'-',
+        _ => byte.is_ascii_digit(),
+    };
+    if text.iter().enumerate().all(wanted) {
+        Ok(())
+    } else {
+        Err(Reason::Form.into())
+    }
 }
 
 pub fn oib(text: &[u8]) -> Result<(), Refusal> {
@@ -102,6 +134,81 @@ mod tests {
         assert_eq!(iban(b"HR12100100518630001600"), refused(Reason::Length));
         assert_eq!(iban(b"HX1210010051863000160"), refused(Reason::Form));
         assert_eq!(iban(b"HR121001005186300016A"), refused(Reason::Form));
+    }
+
+    #[test]
+    fn accounts() {
+        for text in [&b"1001005-1863000160"[..], b"1001005-1700128481"] {
+            assert_eq!(iban_or_account(text), Ok(()));
+            // Where only an IBAN may stand, the hyphen is not permitted.
+            assert_eq!(iban(text), Err(Refusal::at(Reason::Byte, 7)));
+        }
+        assert_eq!(iban_or_account(b"0000000-0000000000"), Ok(()));
+        for (text, place) in [
+            (&b"1001005-186300016a"[..], 17),
+            (b"1001005 1863000160", 7),
+            (b"1 01005-1863000160", 1),
+            (b"1-\xff", 2),
+            (b"1001005-1863000160 ", 18),
+        ] {
+            let expected = Err(Refusal::at(Reason::Byte, place));
+            assert_eq!(iban_or_account(text), expected, "{text:?}");
+        }
+    }
+
+    #[test]
+    fn accounts_of_another_length_or_form() {
+        let told = |text: &str| iban_or_account(text.as_bytes());
+        for text in [
+            "1",
+            "1001005-186300016",
+            "1001005-18630001600",
+            "10010051863000160",
+            "1210010051863000160",
+            "121001005186300016000",
+            "1001005--1863000160",
+        ] {
+            assert_eq!(told(text), refused(Reason::Length), "{text}");
+        }
+        for text in [
+            "1001005A1863000160",
+            "100100518-63000160",
+            "100100-51863000160",
+            "10010051-863000160",
+            "100100518630001600",
+            "1001005-186300-160",
+            "1001005-186300016-",
+            "1001005-186300016A",
+            "1-----------------",
+        ] {
+            assert_eq!(told(text), refused(Reason::Form), "{text}");
+        }
+    }
+
+    /// What does not begin with a digit is judged as an IBAN.
+    #[test]
+    fn ibans_beside_accounts() {
+        for text in [
+            &b""[..],
+            b"HR1210010051863000160",
+            b"HR1310010051863000160",
+            b"SI1210010051863000160",
+            b"HR12-0010051863000160",
+            b"A001005-1863000160",
+            b"-1001005-1863000160",
+            b" 1001005-1863000160",
+            b"/001005-1863000160",
+            b":001005-1863000160",
+            b"O001005A1863000160",
+            b"\xb2001005-1863000160",
+        ] {
+            assert_eq!(iban_or_account(text), iban(text), "{text:?}");
+        }
+        assert_eq!(
+            iban_or_account(b"HR12-0010051863000160"),
+            Err(Refusal::at(Reason::Byte, 4))
+        );
+        assert_eq!(iban_or_account(b""), refused(Reason::Length));
     }
 
     #[test]

@@ -4,6 +4,7 @@
 
 use crate::account::{iban, oib};
 use crate::checkdigit::Rule;
+use crate::ledger::{in_cents, Amount, Entry};
 use crate::reference::Model;
 use crate::refusal::{Reason, Refusal};
 use crate::slip::{Slip, TEXTS};
@@ -69,6 +70,8 @@ impl Desk {
             b"make ini" => Some(made(Rule::Ini.make(fields.text(0)))),
             b"make iso" => Some(made(Rule::Iso.make(fields.text(0)))),
             b"slip" => Some(verdict(Slip::read(&swapped(rest, b'|', b'\n')).map(drop))),
+            b"ledger" => Some(entered(Entry::read(&swapped(rest, b'|', b'\n')))),
+            b"lipa" => Some(format!("cents {}", in_cents(fields.number(0)))),
             b"list iban" => listed(fields.size(0), |room| list_iban(fields.text(1), room)),
             b"list ref" => listed(fields.size(0), |room| {
                 list_reference(fields.text(1), fields.text(2), room)
@@ -215,6 +218,14 @@ fn made(result: Result<u8, Refusal>) -> String {
     }
 }
 
+fn entered(result: Result<Entry, Refusal>) -> String {
+    match result.map(|entry| entry.amount) {
+        Ok(Amount::Cents(cents)) => format!("accepted euro {cents}"),
+        Ok(Amount::Lipa(lipa)) => format!("accepted kuna {lipa} cents {}", in_cents(lipa)),
+        Err(refusal) => told(refusal),
+    }
+}
+
 /// Nothing where the room is more than ten thousand numbers.
 fn listed(room: usize, list: impl Fn(usize) -> Result<Listing, Refusal>) -> Option<String> {
     let room = Some(room).filter(|&n| n <= MOST_NUMBERS)?;
@@ -342,6 +353,48 @@ mod tests {
         ] {
             run(&[(&question, expected)]);
         }
+    }
+
+    #[test]
+    fn ledgers() {
+        let euro = "Ž||||||HR1210010051863000160|HR99||COST|a b|";
+        let kuna = "Ž||||||1001005-1863000160|HR99||COST|a b|";
+        for (question, expected) in [
+            (
+                format!("ledger|HRVHUB30|EUR|000000000012355|{euro}"),
+                "accepted euro 12355",
+            ),
+            (
+                format!("ledger|HRVHUB30|HRK|000000000012355|{euro}"),
+                "accepted kuna 12355 cents 1640",
+            ),
+            (
+                format!("ledger|HRVHUB30|HRK|999999999999999|{kuna}"),
+                "accepted kuna 999999999999999 cents 132722808414626",
+            ),
+            (
+                format!("slip|HRVHUB30|HRK|999999999999999|{kuna}"),
+                "refused 5 line 0 field 2 byte 9 needed 0",
+            ),
+            (
+                format!("ledger|HRVHUB30|EUR|000000000012355|{kuna}"),
+                "refused 3 line 0 field 10 byte 44 needed 0",
+            ),
+            (
+                format!("ledger|HRVHUB30|HRK|000000000012355|{kuna}|"),
+                "refused 2 line 0 field 0 byte 0 needed 0",
+            ),
+        ] {
+            run(&[(&question, expected)]);
+        }
+        run(&[
+            ("ledger", "refused 2 line 0 field 0 byte 0 needed 0"),
+            ("lipa|12355", "cents 1640"),
+            ("lipa|123.55|1", "cents 1640"),
+            ("lipa", "cents 0"),
+            ("lipa|18446744073709551615", "cents 2448303679568591362"),
+            ("lipa|18446744073709551616", "cents 2448303679568591362"),
+        ]);
     }
 
     #[test]

@@ -10,8 +10,10 @@ use std::sync::mpsc;
 use std::thread;
 use std::time::Duration;
 
+mod ledgers;
 mod slips;
 mod wages;
+pub use ledgers::compare_ledgers;
 pub use slips::compare_slips;
 pub use wages::compare_wages;
 

@@ -8,9 +8,11 @@ use crate::refusal::Reason;
 use crate::wet::{divide, list, WHOLE_ROOM};
 use std::io::{self, Write};
 
+mod ledgers;
 mod slips;
 mod wagecases;
 mod wages;
+pub use ledgers::{ledger_slip, lipa, right_kuna_slip};
 pub use slips::{right_slip, slip, spoil_slip};
 pub use wagecases::{spoilt_line, wage_cases};
 pub use wages::{
@@ -81,7 +83,7 @@ pub fn cases(seed: u64, count: usize, mut output: impl Write) -> io::Result<()> 
 }
 
 fn case(dice: &mut Dice) -> Vec<u8> {
-    match dice.below(133) {
+    match dice.below(158) {
         0..=11 => {
             let text = account(dice);
             join(&[b"iban", &spoilt(dice, text)])
@@ -106,6 +108,8 @@ fn case(dice: &mut Dice) -> Vec<u8> {
         }
         96..=116 => slips::slip_case(dice),
         117..=128 => slips::write_case(dice),
+        129..=149 => ledgers::ledger_case(dice),
+        150..=153 => ledgers::lipa_case(dice),
         _ => stray(dice),
     }
 }
@@ -488,7 +492,7 @@ fn room_for(dice: &mut Dice, line: &[u8]) -> usize {
 
 /// A line whose verb is none, or stands alone.
 fn stray(dice: &mut Dice) -> Vec<u8> {
-    const VERBS: [&str; 18] = [
+    const VERBS: [&str; 21] = [
         "iban",
         "oib",
         "ref",
@@ -507,6 +511,9 @@ fn stray(dice: &mut Dice) -> Vec<u8> {
         "write",
         "slips",
         "check",
+        "ledger",
+        "ledgers",
+        "lipa",
     ];
     match dice.below(3) {
         0 => noise(dice, 40),
@@ -609,6 +616,9 @@ mod tests {
             "list ref 7",
             "list ref 15",
             "list ref 16",
+            "ledger accepted",
+            "ledger 2",
+            "lipa cents",
         ] {
             assert!(met.contains(wanted), "{wanted}");
         }

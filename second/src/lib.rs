@@ -1,6 +1,6 @@
 //! The ground of document 01 written a second time: check digits, IBAN, OIB,
 //! the sixteen reference models, the listing of wet texts, the slip and the
-//! wage file.
+//! wage file; and of document 02, W1: slips in kuna.
 //!
 //! It shares only the formats with the first implementation, so that an answer
 //! both give is unlikely to be the same slip of the pen twice.
@@ -10,6 +10,7 @@ pub mod cases;
 pub mod checkdigit;
 pub mod compare;
 pub mod generate;
+pub mod ledger;
 pub mod lent;
 pub mod reference;
 pub mod refusal;

@@ -1,4 +1,4 @@
-use second::{cases, compare, generate, slip, wage, wet};
+use second::{cases, compare, generate, ledger, slip, wage, wet};
 use std::env;
 use std::ffi::{OsStr, OsString};
 use std::io::{self, BufWriter, Read};
@@ -7,12 +7,14 @@ use std::process::ExitCode;
 const USAGE: &str = "usage: second cases < FILE
        second listing < LINE
        second slipfile < SLIP
+       second ledger < SLIP
        second wagefile < DAY AND FILE
        second gen SEED N
        second genwage SEED LINES
        second genwagecases SEED N
        second compare PROGRAM SEED COUNT
        second compareslip PROGRAM SEED COUNT
+       second compareledger PROGRAM SEED COUNT
        second comparewage PROGRAM SEED COUNT";
 
 fn main() -> ExitCode {
@@ -37,6 +39,7 @@ fn run(arguments: &[OsString]) -> io::Result<ExitCode> {
         }
         ["listing"] => wet::program(io::stdin().lock(), output())?,
         ["slipfile"] => slip::program(io::stdin().lock(), output())?,
+        ["ledger"] => ledger::program(io::stdin().lock(), output())?,
         ["wagefile"] => wage::program(io::stdin().lock(), output())?,
         ["gen", seed, count] => {
             generate::cases(number(seed)?, number(count)? as usize, output())?;
@@ -47,53 +50,50 @@ fn run(arguments: &[OsString]) -> io::Result<ExitCode> {
         ["genwagecases", seed, count] => {
             generate::wage_cases(number(seed)?, number(count)? as usize, output())?;
         }
-        ["compare", _, seed, count] => {
-            let program: &OsStr = &arguments[1];
+        ["compare" | "compareslip" | "compareledger" | "comparewage", _, seed, count] => {
             let (seed, count) = (number(seed)?, number(count)? as usize);
-            let outcome = compare::compare(program, &env::current_exe()?, seed, count)?;
-            println!(
-                "compare: {} inputs, {} differ",
-                outcome.inputs, outcome.differ
-            );
-            if outcome.differ > 0 {
-                return Ok(ExitCode::FAILURE);
-            }
-        }
-        ["compareslip", _, seed, count] => {
-            let program: &OsStr = &arguments[1];
-            let (seed, count) = (number(seed)?, number(count)? as usize);
-            let (outcome, written) =
-                compare::compare_slips(program, &env::current_exe()?, seed, count)?;
-            println!(
-                "compare-slip: {} inputs, {} differ, {written} written again",
-                outcome.inputs, outcome.differ
-            );
-            if outcome.differ > 0 {
-                return Ok(ExitCode::FAILURE);
-            }
-        }
-        ["comparewage", _, seed, count] => {
-            let program: &OsStr = &arguments[1];
-            let (seed, count) = (number(seed)?, number(count)? as usize);
-            let (outcome, answers) =
-                compare::compare_wages(program, &env::current_exe()?, seed, count)?;
-            let answers: Vec<String> = answers
-                .iter()
-                .map(|(number, times)| format!("{number}: {times}"))
-                .collect();
-            println!(
-                "compare-wage: {} inputs, {} differ; answers {}",
-                outcome.inputs,
-                outcome.differ,
-                answers.join(", ")
-            );
-            if outcome.differ > 0 {
-                return Ok(ExitCode::FAILURE);
-            }
+            return compared(words[0], &arguments[1], seed, count);
         }
         _ => return Err(io::Error::new(io::ErrorKind::InvalidInput, USAGE)),
     }
     Ok(ExitCode::SUCCESS)
+}
+
+/// Runs a program and its twin side by side, and says what came of it.
+fn compared(word: &str, program: &OsStr, seed: u64, count: usize) -> io::Result<ExitCode> {
+    let second = env::current_exe()?;
+    let (name, outcome, more) = match word {
+        "compareslip" => {
+            let (outcome, written) = compare::compare_slips(program, &second, seed, count)?;
+            (
+                "compare-slip",
+                outcome,
+                format!(", {written} written again"),
+            )
+        }
+        "compareledger" => {
+            let (outcome, accepted) = compare::compare_ledgers(program, &second, seed, count)?;
+            let [euro, kuna] = accepted;
+            let more = format!(", accepted {euro} euro and {kuna} kuna");
+            ("compare-ledger", outcome, more)
+        }
+        "comparewage" => {
+            let (outcome, answers) = compare::compare_wages(program, &second, seed, count)?;
+            let answers: Vec<String> = answers
+                .iter()
+                .map(|(number, times)| format!("{number}: {times}"))
+                .collect();
+            let more = format!("; answers {}", answers.join(", "));
+            ("compare-wage", outcome, more)
+        }
+        _ => {
+            let outcome = compare::compare(program, &second, seed, count)?;
+            ("compare", outcome, String::new())
+        }
+    };
+    let (inputs, differ) = (outcome.inputs, outcome.differ);
+    println!("{name}: {inputs} inputs, {differ} differ{more}");
+    Ok(ExitCode::from(u8::from(differ > 0)))
 }
 
 fn number(word: &str) -> io::Result<u64> {

@@ -1,13 +1,13 @@
-//! The slip of 000, narrowed by 01: fourteen fields, each ended by LF.
+//! The slip of 000, narrowed by 01: fourteen fields, each ended by LF. Those of
+//! 001, in kuna, differ in fields 2 and 10; `ledger` reads both kinds.
 
-use crate::account::iban;
+use crate::account::{iban, iban_or_account};
 use crate::checkdigit::values;
 use crate::reference::Model;
 use crate::refusal::{only, Reason, Refusal};
 use std::io::{self, Read, Write};
 
 const HEADER: &[u8] = b"HRVHUB30";
-const CURRENCY: &[u8] = b"EUR";
 const FIELDS: usize = 14;
 const AMOUNT_DIGITS: usize = 15;
 const PURPOSE_LETTERS: usize = 4;
@@ -19,7 +19,8 @@ pub const LARGEST: usize = 483;
 /// The least amount that fifteen digits cannot hold.
 pub const TOO_MUCH: u64 = 1_000_000_000_000_000;
 
-/// What a slip says: the amount and fields 4 to 14. Fields 1 and 2 say nothing.
+/// What a euro slip says: the amount and fields 4 to 14. Fields 1 and 2 say
+/// nothing.
 #[derive(Clone, Copy, Debug, PartialEq, Eq)]
 pub struct Slip<'a> {
     pub cents: u64,
@@ -29,26 +30,7 @@ pub struct Slip<'a> {
 impl<'a> Slip<'a> {
     /// Reads a slip: 1, 2, then field by field, bytes counted in the slip.
     pub fn read(input: &'a [u8]) -> Result<Slip<'a>, Refusal> {
-        if input.len() > LARGEST {
-            return Err(Reason::Size.into());
-        }
-        let pieces: Vec<&[u8]> = input.split(|&b| b == b'\n').collect();
-        // The last piece is what follows the last LF.
-        let Some((&[], fields)) = pieces.split_last() else {
-            return Err(Reason::LineEnds.into());
-        };
-        let fields: &[&[u8]; FIELDS] = fields.try_into().map_err(|_| Reason::LineEnds)?;
-
-        let mut starts = [0; FIELDS];
-        for k in 1..FIELDS {
-            starts[k] = starts[k - 1] + fields[k - 1].len() + 1;
-        }
-        let [header, currency, digits, texts @ ..] = *fields;
-        let [of_header, of_currency, of_digits, of_texts @ ..] = starts;
-        word(header, HEADER).map_err(|r| r.in_field(1, of_header))?;
-        word(currency, CURRENCY).map_err(|r| r.in_field(2, of_currency))?;
-        let cents = amount(digits).map_err(|r| r.in_field(3, of_digits))?;
-        judge(&texts, &of_texts)?;
+        let (cents, texts) = Divided::at_line_ends(input)?.judged(Currency::Euro)?;
         Ok(Slip { cents, texts })
     }
 
@@ -57,10 +39,10 @@ impl<'a> Slip<'a> {
         if self.cents >= TOO_MUCH {
             return Err(Refusal::from(Reason::Length).in_field(3, 0));
         }
-        judge(&self.texts, &[0; TEXTS])?;
+        judge(Currency::Euro, &self.texts, &[0; TEXTS])?;
         let digits = format!("{:0AMOUNT_DIGITS$}", self.cents);
         let mut slip = Vec::new();
-        for field in [HEADER, CURRENCY, digits.as_bytes()]
+        for field in [HEADER, Currency::Euro.word(), digits.as_bytes()]
             .iter()
             .chain(&self.texts)
         {
@@ -74,15 +56,81 @@ impl<'a> Slip<'a> {
     }
 }
 
+/// What a slip's amount is counted in.
+#[derive(Clone, Copy, Debug, PartialEq, Eq)]
+pub enum Currency {
+    Euro,
+    Kuna,
+}
+
+impl Currency {
+    /// Field 2.
+    pub const fn word(self) -> &'static [u8] {
+        match self {
+            Currency::Euro => b"EUR",
+            Currency::Kuna => b"HRK",
+        }
+    }
+
+    /// Field 10.
+    fn recipient(self, text: &[u8]) -> Result<(), Refusal> {
+        match self {
+            Currency::Euro => iban(text),
+            Currency::Kuna => iban_or_account(text),
+        }
+    }
+}
+
+/// The fourteen fields of a slip, and where each begins.
+pub struct Divided<'a> {
+    pub fields: [&'a [u8]; FIELDS],
+    starts: [usize; FIELDS],
+}
+
+impl<'a> Divided<'a> {
+    /// 1, then 2.
+    pub fn at_line_ends(input: &'a [u8]) -> Result<Divided<'a>, Refusal> {
+        if input.len() > LARGEST {
+            return Err(Reason::Size.into());
+        }
+        let pieces: Vec<&[u8]> = input.split(|&b| b == b'\n').collect();
+        // The last piece is what follows the last LF.
+        let Some((&[], fields)) = pieces.split_last() else {
+            return Err(Reason::LineEnds.into());
+        };
+        let fields: [&[u8]; FIELDS] = fields.try_into().map_err(|_| Reason::LineEnds)?;
+        let mut starts = [0; FIELDS];
+        for k in 1..FIELDS {
+            starts[k] = starts[k - 1] + fields[k - 1].len() + 1;
+        }
+        Ok(Divided { fields, starts })
+    }
+
+    /// The amount and fields 4 to 14 of a slip in this currency.
+    pub fn judged(&self, currency: Currency) -> Result<(u64, [&'a [u8]; TEXTS]), Refusal> {
+        let [header, unit, digits, texts @ ..] = self.fields;
+        let [of_header, of_unit, of_digits, of_texts @ ..] = self.starts;
+        word(header, HEADER).map_err(|r| r.in_field(1, of_header))?;
+        word(unit, currency.word()).map_err(|r| r.in_field(2, of_unit))?;
+        let amount = amount(digits).map_err(|r| r.in_field(3, of_digits))?;
+        judge(currency, &texts, &of_texts)?;
+        Ok((amount, texts))
+    }
+}
+
 /// Judges fields 4 to 14, which begin at these bytes.
-fn judge(texts: &[&[u8]; TEXTS], starts: &[usize; TEXTS]) -> Result<(), Refusal> {
+fn judge(
+    currency: Currency,
+    texts: &[&[u8]; TEXTS],
+    starts: &[usize; TEXTS],
+) -> Result<(), Refusal> {
     let model = texts[11 - 4];
     for (number, (text, &start)) in (4..).zip(texts.iter().zip(starts)) {
         match number {
             4 => free(text, 30),
             5 | 6 | 9 => free(text, 27),
             7 | 8 => free(text, 25),
-            10 => iban(text),
+            10 => currency.recipient(text),
             11 => Model::named(text).map(|_| ()),
             12 => Model::named(model).and_then(|m| m.judge(text)),
             13 => purpose(text),
@@ -143,27 +191,39 @@ fn purpose(text: &[u8]) -> Result<(), Refusal> {
 }
 
 /// The program slipfile: a slip in, its fields or the refusal out.
-pub fn program(mut input: impl Read, mut output: impl Write) -> io::Result<()> {
-    // A byte beyond the largest slip tells as much as a megabyte. The rest is
-    // read all the same: who writes it should not find the pipe broken.
+pub fn program(input: impl Read, mut output: impl Write) -> io::Result<()> {
+    match Slip::read(&taken(input)?) {
+        Err(refusal) => writeln!(output, "{refusal}")?,
+        Ok(slip) => {
+            writeln!(output, "accepted")?;
+            print(&mut output, slip.cents, &slip.texts)?;
+        }
+    }
+    output.flush()
+}
+
+/// What a program looks at. A byte beyond the largest slip tells as much as a
+/// megabyte. The rest is read all the same: who writes it should not find the
+/// pipe broken.
+pub fn taken(mut input: impl Read) -> io::Result<Vec<u8>> {
     let mut slip = Vec::new();
     input
         .by_ref()
         .take(LARGEST as u64 + 1)
         .read_to_end(&mut slip)?;
     io::copy(&mut input, &mut io::sink())?;
-    match Slip::read(&slip) {
-        Err(refusal) => writeln!(output, "{refusal}")?,
-        Ok(slip) => {
-            writeln!(output, "accepted\n3={:0AMOUNT_DIGITS$}", slip.cents)?;
-            for (number, text) in (4..).zip(slip.texts) {
-                write!(output, "{number}=")?;
-                output.write_all(text)?;
-                output.write_all(b"\n")?;
-            }
-        }
+    Ok(slip)
+}
+
+/// Fields 3 to 14, a line each.
+pub fn print(mut output: impl Write, amount: u64, texts: &[&[u8]; TEXTS]) -> io::Result<()> {
+    writeln!(output, "3={amount:0AMOUNT_DIGITS$}")?;
+    for (number, text) in (4..).zip(texts) {
+        write!(output, "{number}=")?;
+        output.write_all(text)?;
+        output.write_all(b"\n")?;
     }
-    output.flush()
+    Ok(())
 }
 
 #[cfg(test)]

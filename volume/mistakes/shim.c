@@ -161,6 +161,9 @@ lanecockle_part right_lanecockle_slip_field(const uint8_t *, size_t, size_t);
 lanecockle_valued right_lanecockle_slip_cents(const uint8_t *, size_t);
 lanecockle_valued right_lanecockle_slip_write(uint64_t, const uint8_t *, size_t, const size_t *, size_t, uint8_t *,
                                               size_t);
+lanecockle_ledger right_lanecockle_ledger_read(const uint8_t *, size_t);
+lanecockle_part right_lanecockle_ledger_field(const uint8_t *, size_t, size_t);
+uint64_t right_lanecockle_lipa_in_cents(uint64_t);
 
 lanecockle_told lanecockle_slip_read(const uint8_t *slip, size_t length)
 {
@@ -169,6 +172,8 @@ lanecockle_told lanecockle_slip_read(const uint8_t *slip, size_t length)
         told.field = 13;
     if (is("slip-size") && length == 483)
         memset(&told, 0, sizeof told), told.number = 1;
+    if (is("slip-kuna") && told.field == 2 && right_lanecockle_ledger_read(slip, length).told.number == 0)
+        memset(&told, 0, sizeof told);
     return told;
 }
 
@@ -181,6 +186,8 @@ lanecockle_part lanecockle_slip_field(const uint8_t *slip, size_t length, size_t
         part.start = 13, part.length = 15;
     if (is("slip-part-long") && number == 14 && part.length > 0)
         part.length++;
+    if (is("slip-kuna-part"))
+        part = right_lanecockle_ledger_field(slip, length, number);
     return part;
 }
 
@@ -189,6 +196,8 @@ lanecockle_valued lanecockle_slip_cents(const uint8_t *slip, size_t length)
     lanecockle_valued cents = right_lanecockle_slip_cents(slip, length);
     if (is("slip-cents"))
         cents.value = (uint32_t)cents.value;
+    if (is("slip-kuna-cents") && cents.told.field == 2)
+        cents.value = right_lanecockle_ledger_read(slip, length).converted;
     return cents;
 }
 
@@ -217,6 +226,68 @@ lanecockle_valued lanecockle_slip_write(uint64_t cents, const uint8_t *text, siz
     if (is("slip-write-amount") && written.told.number == 0 && cents >= 100000000000000)
         out[13] ^= 1;
     return written;
+}
+
+/* Slips of either kind */
+
+/* Whether lipa lie just above the middle between two cents. */
+static int barely_up(uint64_t lipa) { return lipa % 15069 == 3658; }
+
+/* Twenty thousand times the lipa, and half a cent, in 64 bits. */
+static uint64_t wrapped(uint64_t lipa) { return (lipa * 20000 + 75345) / 150690; }
+
+/* An account one byte short in a kuna slip that is refused for it. */
+static int short_account(const uint8_t *slip, lanecockle_told told)
+{
+    const uint8_t *field = slip + told.byte;
+    return told.number == 4 && told.field == 10 && memcmp(slip + 9, "HRK", 3) == 0 && *field >= '0' && *field <= '9' &&
+           (const uint8_t *)memchr(field, '\n', 22) == field + 17;
+}
+
+lanecockle_ledger lanecockle_ledger_read(const uint8_t *slip, size_t length)
+{
+    lanecockle_ledger read = right_lanecockle_ledger_read(slip, length);
+    int kuna = read.currency == LANECOCKLE_KUNA;
+    if (is("ledger-currency") && read.told.number == 0)
+        read.currency = LANECOCKLE_EURO + LANECOCKLE_KUNA - read.currency;
+    if (is("ledger-border") && kuna && barely_up(read.lipa))
+        read.converted--;
+    if (is("ledger-wraps") && kuna)
+        read.converted = wrapped(read.lipa);
+    if (is("ledger-euro-converted") && read.currency == LANECOCKLE_EURO)
+        read.converted = right_lanecockle_lipa_in_cents(read.cents);
+    if (is("ledger-lipa-as-cents") && kuna)
+        read.cents = read.lipa, read.lipa = 0;
+    if (is("ledger-short-account") && short_account(slip, read.told))
+        memset(&read, 0, sizeof read), read.currency = LANECOCKLE_KUNA;
+    if (is("ledger-hyphen") && read.told.number == 5 && read.told.field == 10 && memcmp(slip + 9, "HRK", 3) == 0)
+        read.told.number = 3;
+    if (is("ledger-reads-behind"))
+        peek(slip, (ptrdiff_t)length);
+    return read;
+}
+
+lanecockle_part lanecockle_ledger_field(const uint8_t *slip, size_t length, size_t number)
+{
+    lanecockle_part part = right_lanecockle_ledger_field(slip, length, number);
+    if (is("ledger-part-of-3") && number == 3)
+        part.start = 13, part.length = 15;
+    if (is("ledger-part-account") && number == 10 && part.length == 18)
+        part.length = 21;
+    if (is("ledger-part-euro") && number == 14 && right_lanecockle_slip_read(slip, length).number == 0)
+        part.length = 0;
+    return part;
+}
+
+uint64_t lanecockle_lipa_in_cents(uint64_t lipa)
+{
+    if (is("lipa-border") && barely_up(lipa))
+        return right_lanecockle_lipa_in_cents(lipa) - 1;
+    if (is("lipa-wraps"))
+        return wrapped(lipa);
+    if (is("lipa-double"))
+        return (uint64_t)((double)lipa / 7.5345 + 0.5);
+    return right_lanecockle_lipa_in_cents(lipa);
 }
 
 /* Wage files judged */

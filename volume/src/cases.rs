@@ -1,6 +1,6 @@
 //! The cases of second/README.md, answered through the static library.
 
-use crate::ffi::{Record, Told, Valued};
+use crate::ffi::{Ledger, Record, Told, Valued};
 use crate::lane::{self, Lent};
 use crate::lent::Given;
 use std::io::{self, Write};
@@ -52,6 +52,11 @@ impl Desk {
             b"make ini" => return Some(valued(lane::make_digit(INI, fields.text(0)), "digit")),
             b"make iso" => return Some(valued(lane::make_digit(ISO, fields.text(0)), "digit")),
             b"slip" => lane::slip_read(&fields.0.join(&b'\n')),
+            b"ledger" => return Some(entered(lane::ledger_read(&fields.0.join(&b'\n')))),
+            b"lipa" => {
+                let cents = lane::lipa_in_cents(fields.number(0));
+                return Some(format!("cents {cents}").into_bytes());
+            }
             b"list iban" | b"list ref" => return list(&verb, &fields),
             b"write" => return self.write_slip(&fields),
             b"300" | b"301" | b"309" | b"399" => return self.write_line(&verb, &fields),
@@ -169,6 +174,19 @@ fn answer(told: Told) -> Vec<u8> {
 fn valued(valued: Valued, word: &str) -> Vec<u8> {
     let value = format!(" {word} {}", valued.value);
     [answer(valued.told), value.into_bytes()].concat()
+}
+
+/// The unit that a slip has, and of a kuna slip its cents too; each number as
+/// it was answered.
+fn entered(read: Ledger) -> Vec<u8> {
+    let (cents, lipa, converted) = (read.cents, read.lipa, read.converted);
+    let amount = match read.currency {
+        0 => String::new(),
+        1 => format!(" euro {cents}"),
+        2 => format!(" kuna {lipa} cents {converted}"),
+        other => format!(" currency {other}"),
+    };
+    [answer(read.told), amount.into_bytes()].concat()
 }
 
 fn lent(given: &Given) -> Lent<'_> {

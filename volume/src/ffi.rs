@@ -37,6 +37,17 @@ pub struct Part {
     pub length: usize,
 }
 
+/// What a slip of either kind comes to.
+#[repr(C)]
+#[derive(Clone, Copy, Debug, Default, PartialEq, Eq)]
+pub struct Ledger {
+    pub told: Told,
+    pub currency: usize,
+    pub cents: u64,
+    pub lipa: u64,
+    pub converted: u64,
+}
+
 /// Exact cents: `high` times 10^18, and `low`.
 #[repr(C)]
 #[derive(Clone, Copy, Debug, Default, PartialEq, Eq)]
@@ -108,6 +119,10 @@ extern "C" {
         out: *mut u8,
         room: usize,
     ) -> Valued;
+
+    pub fn lanecockle_ledger_read(slip: *const u8, length: usize) -> Ledger;
+    pub fn lanecockle_ledger_field(slip: *const u8, length: usize, number: usize) -> Part;
+    pub fn lanecockle_lipa_in_cents(lipa: u64) -> u64;
 
     pub fn lanecockle_judge_begin(day: u64) -> Record;
     pub fn lanecockle_judge_step(record: Record, line: *const u8, length: usize) -> Record;

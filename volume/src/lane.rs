@@ -84,6 +84,18 @@ pub fn slip_write(cents: u64, fields: Lent, out: &mut [u8]) -> Valued {
     }
 }
 
+pub fn ledger_read(slip: &[u8]) -> Ledger {
+    unsafe { lanecockle_ledger_read(slip.as_ptr(), slip.len()) }
+}
+
+pub fn ledger_field(slip: &[u8], number: usize) -> Part {
+    unsafe { lanecockle_ledger_field(slip.as_ptr(), slip.len(), number) }
+}
+
+pub fn lipa_in_cents(lipa: u64) -> u64 {
+    unsafe { lanecockle_lipa_in_cents(lipa) }
+}
+
 pub fn judge_begin(day: u64) -> Record {
     unsafe { lanecockle_judge_begin(day) }
 }

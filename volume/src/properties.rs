@@ -2,6 +2,7 @@
 
 mod accounts;
 mod digits;
+mod ledgers;
 mod lines;
 mod listings;
 mod records;
@@ -23,6 +24,7 @@ pub fn run(plan: &Plan) {
     listings::run(plan);
     slips::run(plan);
     slipwrites::run(plan);
+    ledgers::run(plan);
     lines::run(plan);
     records::run(plan);
     wagewrites::run(plan);

@@ -67,62 +67,81 @@ fn written_again(printed: &[u8]) -> Option<Vec<u8>> {
 fn hand_picked() -> Vec<Vec<u8>> {
     const RIGHT: &[u8] = b"HRVHUB30\nEUR\n000000000000100\n\xc5\xbd\n\n\n\xc4\x8c\n\n\n\
         HR1210010051863000160\nHR00\n1-2\nCOST\nx\n";
+    picked_about(RIGHT, |input| Slip::read(input).is_ok())
+}
+
+/// The case file's slips, whichever reader is asked there, and what a case line
+/// cannot hold: about a right slip, and about one of the largest size that is
+/// accepted.
+pub(super) fn picked_about(right: &[u8], accepted: impl Fn(&[u8]) -> bool) -> Vec<Vec<u8>> {
     let mut inputs: Vec<Vec<u8>> = CASES
         .split(|&b| b == b'\n')
-        .filter_map(|line| line.strip_prefix(b"slip|"))
+        .filter_map(|line| {
+            let slip = line.strip_prefix(b"slip|");
+            slip.or_else(|| line.strip_prefix(b"ledger|"))
+        })
         .map(|text| swapped(text, b'|', b'\n'))
         .collect();
-    inputs.push(RIGHT.to_vec());
+    let full = inputs
+        .iter()
+        .find(|input| input.len() == LARGEST && accepted(input))
+        .expect("the case file has one")
+        .clone();
+    inputs.push(right.to_vec());
+    inputs.extend(other_bytes(right));
+    inputs.extend(other_sizes(right));
+    // A slip of 483 bytes in front of what must be read too.
+    for more in [1, 2, 29, 541, MEGABYTE] {
+        for filler in [b'\n', b'x', b'\0'] {
+            let mut long = full.clone();
+            long.resize(LARGEST + more, filler);
+            inputs.push(long);
+        }
+    }
+    inputs
+}
 
-    // Every byte alone; every cut of a slip; strangers in place of and before
-    // each of its bytes.
-    inputs.extend((0..=255).map(|byte| vec![byte]));
-    for place in 0..RIGHT.len() {
-        inputs.push(RIGHT[..place].to_vec());
+/// Every byte alone; every cut of a slip; strangers in place of and before each
+/// of its bytes.
+fn other_bytes(right: &[u8]) -> Vec<Vec<u8>> {
+    let mut inputs: Vec<Vec<u8>> = (0..=255).map(|byte| vec![byte]).collect();
+    for place in 0..right.len() {
+        inputs.push(right[..place].to_vec());
         for byte in [b'|', b'\0', b'\n', b'\r', 0xff, 0xc5] {
-            let mut other = RIGHT.to_vec();
+            let mut other = right.to_vec();
             other[place] = byte;
             inputs.push(other);
-            let mut other = RIGHT.to_vec();
+            let mut other = right.to_vec();
             other.insert(place, byte);
             inputs.push(other);
         }
     }
-    inputs.push(swapped(RIGHT, b'\n', b'|'));
-    inputs.push(swapped(RIGHT, b'\n', b'\r'));
-    inputs.push(swapped(RIGHT, b'\n', b'\0'));
-    inputs.push([RIGHT, RIGHT].concat());
-    inputs.push(RIGHT.to_ascii_lowercase());
+    inputs.push(swapped(right, b'\n', b'|'));
+    inputs.push(swapped(right, b'\n', b'\r'));
+    inputs.push(swapped(right, b'\n', b'\0'));
+    inputs.push([right, right].concat());
+    inputs.push(right.to_ascii_lowercase());
+    inputs
+}
 
-    // A right slip and more, about the largest size, the usual sizes of a
-    // buffer, and a megabyte: all of it must be read and none forgotten.
+/// A right slip and more, about the largest size, the usual sizes of a buffer,
+/// and a megabyte: all of it must be read and none forgotten.
+fn other_sizes(right: &[u8]) -> Vec<Vec<u8>> {
+    let mut inputs = Vec::new();
     for size in [
         LARGEST, 256, 512, 1024, 2048, 4096, 8192, 65536, 131072, MEGABYTE,
     ] {
         for size in [size - 1, size, size + 1, size + 2] {
             for filler in [b'\n', b'x', b'\0', b' '] {
-                let mut long = RIGHT.to_vec();
+                let mut long = right.to_vec();
                 long.resize(size, filler);
                 inputs.push(long);
                 inputs.push(vec![filler; size]);
             }
             // Fourteen line feeds, the last at the end.
-            let mut long = RIGHT[..RIGHT.len() - 1].to_vec();
+            let mut long = right[..right.len() - 1].to_vec();
             long.resize(size - 1, b'x');
             long.push(b'\n');
-            inputs.push(long);
-        }
-    }
-    // A slip of 483 bytes in front of what must be read too.
-    let full = inputs
-        .iter()
-        .find(|input| input.len() == LARGEST && Slip::read(input).is_ok())
-        .expect("the case file has one")
-        .clone();
-    for more in [1, 2, 29, 541, MEGABYTE] {
-        for filler in [b'\n', b'x', b'\0'] {
-            let mut long = full.clone();
-            long.resize(LARGEST + more, filler);
             inputs.push(long);
         }
     }

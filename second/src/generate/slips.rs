@@ -11,7 +11,7 @@ use crate::slip::{Slip, LARGEST, TEXTS, TOO_MUCH};
 const LETTERS: [&str; 10] = ["Č", "č", "Ć", "ć", "Đ", "đ", "Š", "š", "Ž", "ž"];
 const PLAIN: &[u8] = b"ABCDEFGHIJKLMNOPQRSTUVWXYZabcdefghijklmnopqrstuvwxyz0123456789 ,.:-+?'/()";
 /// Neighbours of what is permitted, and bytes that are no text.
-const STRANGE: &[u8] =
+pub(super) const STRANGE: &[u8] =
     b"!\"#$%&*;<=>@[\\]^_`{}~\r\t\0\x7f\x80\x86\x8c\x8d\xa0\xbd\xbe\xc3\xc6\xe2\xff";
 /// Characters near the ten letters, halves of letters, and halves that do not
 /// belong together.
@@ -37,6 +37,9 @@ const PURPOSES: [&str; 6] = ["COST", "OTHR", "SALA", "GDDS", "AAAA", "ZZZZ"];
 
 /// Fields 1 to 14, each without its line feed.
 pub type Fields = Vec<Vec<u8>>;
+
+/// Makes a wrong field of this number, by what stands in all of them.
+pub(super) type Wrong = fn(&mut Dice, usize, &Fields) -> Vec<u8>;
 
 /// A case line with the verb `slip`.
 pub fn slip_case(dice: &mut Dice) -> Vec<u8> {
@@ -71,11 +74,17 @@ pub fn write_case(dice: &mut Dice) -> Vec<u8> {
 
 /// A slip, right or wrong, with real line feeds.
 pub fn slip(dice: &mut Dice) -> Vec<u8> {
-    let mut fields = right_slip(dice);
+    let fields = right_slip(dice);
+    by_fate(dice, fields, wrong)
+}
+
+/// The slip of these fields as it is, with wrong fields, damaged or cut, or
+/// another of about the largest size, or noise.
+pub(super) fn by_fate(dice: &mut Dice, mut fields: Fields, wrong: Wrong) -> Vec<u8> {
     match dice.below(100) {
         0..=23 => ended(&fields),
         24..=59 => {
-            spoil_slip(dice, &mut fields);
+            spoil(dice, &mut fields, wrong);
             ended(&fields)
         }
         60..=87 => {
@@ -91,7 +100,7 @@ pub fn slip(dice: &mut Dice) -> Vec<u8> {
             slip.truncate(place);
             slip
         }
-        91..=97 => about_the_largest(dice, fields),
+        91..=97 => about_the_largest(dice, fields, wrong),
         _ => {
             let mut slip = noise(dice, 60);
             for _ in 0..dice.between(11, 16) {
@@ -103,7 +112,7 @@ pub fn slip(dice: &mut Dice) -> Vec<u8> {
     }
 }
 
-fn ended(fields: &Fields) -> Vec<u8> {
+pub(super) fn ended(fields: &Fields) -> Vec<u8> {
     fields
         .iter()
         .flat_map(|f| [f, &b"\n"[..]].concat())
@@ -187,7 +196,7 @@ fn fill_up(fields: &mut Fields) {
     fields[13 - 1] = b"COST".to_vec();
 }
 
-fn about_the_largest(dice: &mut Dice, mut fields: Fields) -> Vec<u8> {
+fn about_the_largest(dice: &mut Dice, mut fields: Fields, wrong: Wrong) -> Vec<u8> {
     fill_up(&mut fields);
     if dice.one_in(3) {
         let number = dice.between(1, 14);
@@ -218,6 +227,10 @@ fn about_the_largest(dice: &mut Dice, mut fields: Fields) -> Vec<u8> {
 
 /// Spoils one to three of the fourteen fields.
 pub fn spoil_slip(dice: &mut Dice, fields: &mut Fields) {
+    spoil(dice, fields, wrong);
+}
+
+fn spoil(dice: &mut Dice, fields: &mut Fields, wrong: Wrong) {
     // A wrong field hides those behind it, so mostly one alone, and more often
     // one that can be wrong in many ways.
     for _ in 0..*dice.pick(&[1, 1, 1, 2, 3]) {
@@ -230,7 +243,7 @@ pub fn spoil_slip(dice: &mut Dice, fields: &mut Fields) {
 }
 
 /// A field that is mostly wrong, and else at the edge of what is right.
-fn wrong(dice: &mut Dice, number: usize, fields: &Fields) -> Vec<u8> {
+pub(super) fn wrong(dice: &mut Dice, number: usize, fields: &Fields) -> Vec<u8> {
     let old = fields[number - 1].clone();
     let word = |word: &&str| word.as_bytes().to_vec();
     match number {

@@ -1,7 +1,8 @@
 //! Valid inputs, some thousand different ones of each sort.
 
-use second::generate::{reference, right_account, right_slip, wet, Dice};
+use second::generate::{lipa, reference, right_account, right_kuna_slip, right_slip, wet, Dice};
 use second::reference::{Model, MODELS};
+use second::slip::TOO_MUCH;
 
 pub const COUNT: usize = 4096;
 
@@ -36,6 +37,17 @@ pub fn slip(dice: &mut Dice) -> Vec<u8> {
     let mut slip = right_slip(dice).join(&b'\n');
     slip.push(b'\n');
     slip
+}
+
+pub fn kuna_slip(dice: &mut Dice) -> Vec<u8> {
+    let mut slip = right_kuna_slip(dice).join(&b'\n');
+    slip.push(b'\n');
+    slip
+}
+
+/// An amount of a kuna slip.
+pub fn amount(dice: &mut Dice) -> u64 {
+    lipa(dice, TOO_MUCH - 1)
 }
 
 /// What a writer of slips is given.

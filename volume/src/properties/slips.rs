@@ -1,4 +1,4 @@
-//! Slips read: the answer, the part of each field, the cents.
+//! Slips read by the euro reader: the answer, the part of each field, the cents.
 
 use super::MILLION;
 use crate::dice::{bytes, mishap, Dice};
@@ -8,7 +8,7 @@ use crate::lane;
 use crate::maker::Maker;
 use crate::trial::{told, Inputs, Plan, Trial};
 use second::generate;
-use second::slip::Slip;
+use second::slip::{Slip, TEXTS};
 
 pub fn run(plan: &Plan) {
     let (mut lender, mut maker) = (Lender::new(4096), Maker::new());
@@ -25,9 +25,10 @@ fn one(trial: &mut Trial, lender: &mut Lender, slip: &[u8]) {
     let inputs: Inputs = &[("slip", &slip)];
     let ours = lane::slip_read(lent);
     trial.same("slip_read", ours, told(&theirs), inputs);
+    let texts = theirs.as_ref().ok().map(|slip| &slip.texts);
     for number in (0..=15).chain([usize::MAX]) {
         let part = lane::slip_field(lent, number);
-        let expected = part_of(slip, &theirs, number);
+        let expected = part_of(slip, texts, number);
         if part != expected {
             let inputs: Inputs = &[("slip", &slip), ("field", &number)];
             trial.same("slip_field", part, expected, inputs);
@@ -42,10 +43,10 @@ fn one(trial: &mut Trial, lender: &mut Lender, slip: &[u8]) {
 }
 
 /// Where second has the field, which lies in the same bytes.
-fn part_of<E>(slip: &[u8], read: &Result<Slip, E>, number: usize) -> Part {
-    match (read, number) {
-        (Ok(read), 4..=14) => {
-            let text = read.texts[number - 4];
+pub fn part_of(slip: &[u8], texts: Option<&[&[u8]; TEXTS]>, number: usize) -> Part {
+    match (texts, number) {
+        (Some(texts), 4..=14) => {
+            let text = texts[number - 4];
             Part {
                 start: text.as_ptr() as usize - slip.as_ptr() as usize,
                 length: text.len(),
@@ -55,10 +56,12 @@ fn part_of<E>(slip: &[u8], read: &Result<Slip, E>, number: usize) -> Part {
     }
 }
 
-/// From second's dice, or written by Lanecockle and then damaged.
+/// From second's dice, now and then in kuna, or written by Lanecockle and then
+/// damaged.
 fn slip(maker: &mut Maker, dice: &mut Dice) -> Vec<u8> {
     match dice.below(10) {
-        0..=5 => generate::slip(dice),
+        0..=4 => generate::slip(dice),
+        5 => generate::ledger_slip(dice),
         6 if dice.one_in(6) => bytes(dice, 500),
         6..=8 => {
             let slip = maker.right_slip(dice);
