@@ -1,6 +1,7 @@
 -- The theorems of docs/PROMISES.md about the calls of the static library.
 pub mod Checks
 pub mod Laws
+pub mod Ledgers
 pub mod Listings
 pub mod Numbers
 pub mod Refusals

@@ -11,6 +11,8 @@ use Rattle.fillings.specs.declared.Listed.{Listed}
 use Rattle.fillings.specs.declared.Listed.the-variants as listed
 use Rattle.slip_handed.specs.declared.Amount.{Amount}
 use Rattle.slip_handed.specs.declared.Amount.the-variants as amount
+use Rattle.ledger_slip.specs.declared.LedgerSlip.{LedgerSlip}
+use Rattle.ledger_slip.specs.declared.LedgerSlip.the-variants as ledger
 use Rattle.slip_writer.specs.declared.Written.{Written}
 use Rattle.slip_writer.specs.declared.Written.the-variants as written
 use Rattle.condition.specs.declared.Ending.{Ending}
@@ -24,9 +26,10 @@ use Rattle.boundary.proofs.Theorems.{number-in-table}
 use Rattle.desk_checks.specs.Made.{madeOf}
 use Rattle.desk_wet.specs.Listed.{listedOf}
 use Rattle.desk_slips.specs.Slips.{centsTold, writtenOf}
+use Rattle.desk_ledger.specs.Ledgers.{ledgerTold}
 use Rattle.desk_record.specs.Record.{recordOf}
 use Rattle.desk_judge.specs.Wages.{endedOf}
-use Rattle.promises.specs.Calls.{EveryCheckDigits, EveryMakeDigit, EveryIban, EveryOib, EveryReference, EveryListIban, EveryListReference, EveryFilled, EverySlipRead, EverySlipCents, EverySlipWrite, EveryJudgeBegin, EveryJudgeStep, EveryJudgeLines, EveryJudgeEnd, EveryWageFile, EveryWriteLabel, EveryWriteOrder, EveryWriteGroup, EveryWriteClosing}
+use Rattle.promises.specs.Calls.{EveryCheckDigits, EveryMakeDigit, EveryIban, EveryOib, EveryReference, EveryListIban, EveryListReference, EveryFilled, EverySlipRead, EverySlipCents, EverySlipWrite, EveryLedgerRead, EveryJudgeBegin, EveryJudgeStep, EveryJudgeLines, EveryJudgeEnd, EveryWageFile, EveryWriteLabel, EveryWriteOrder, EveryWriteGroup, EveryWriteClosing}
 use Rattle.promises.specs.Refusals.{Known}
 
 -- ---------------------------------------------------------------------------
@@ -39,7 +42,7 @@ either-known : (b : Bool) (t u : Told) → Known t → Known u → Known (cond b
 either-known true t u k l = k
 either-known false t u k l = l
 
--- an answer, a digit made, a listing, an amount, a slip written, an end, a judge's record
+-- an answer, a digit made, a listing, an amount, a slip of either currency, a slip written, an end, a judge's record
 answer-known : (x : Answer) → Known (toldOf x)
 unfolding toldOf
 answer-known Accepted = inl refl
@@ -59,6 +62,12 @@ cents-known : (x : Amount) → Known (centsTold x .told)
 unfolding centsTold
 cents-known (amount.Cents n) = inl refl
 cents-known (amount.Refused r) = refusal-known r
+
+ledger-known : (x : LedgerSlip) → Known (ledgerTold x .told)
+unfolding ledgerTold
+ledger-known (ledger.Euro c) = inl refl
+ledger-known (ledger.Kuna l) = inl refl
+ledger-known (ledger.Refused r) = refusal-known r
 
 written-known : (x : Written) → Known (writtenOf x .told)
 unfolding writtenOf
@@ -112,6 +121,9 @@ slip-read-known κs a z w call = rw call (answer-known _)
 
 pub slip-cents-known : EverySlipCents (λ slip r. Known (r .told))
 slip-cents-known κs a z w call = rw call (cents-known _)
+
+pub ledger-read-known : EveryLedgerRead (λ slip l. Known (l .told))
+ledger-read-known κs a z w call = rw call (ledger-known _)
 
 -- where it is asked first whether the fields are lent whole
 sized-known : (b : Bool) (x : Written) → Known (cond b (writtenOf x) (valued (refusal (Size none)) 0) .told)

@@ -125,7 +125,7 @@ slip-refused c s h = short (leb (length s) 483) refl h
     short false e g = size (leb-false (length s) 483 e) refl
 
 -- "Order: 1, then 2, then fields 1 to 14"
-pub slip-refused-first : EverySlipRead (λ slip r. (r .number ≡ 0 → ⊥) → SlipRefused c slip r)
+pub slip-refused-first : EverySlipRead (λ slip r. (r .number ≡ 0 → ⊥) → SlipRefused Euro slip r)
 unfolding toldOf
 slip-refused-first κs a z w call h = rw call (slip-refused Euro (a .0 .now) (λ e. h (ap (λ (t : Told). t .number) call ∙ ap (λ (x : Answer). toldOf x .number) e)))
 

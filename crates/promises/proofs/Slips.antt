@@ -53,7 +53,7 @@ pub slip-field-handed : EverySlipField (λ slip n part. take (part .length) (dro
 slip-field-handed κs a z w call = rw call (part-is-field (a .0 .now) (a .1 .0))
 
 -- the amount that is told of an accepted slip
-cents-told : (s : List ℕ) → slipAnswer s ≡ Accepted → centsTold (slipCents s) ≡ valued accepted (amountOf s)
+pub cents-told : (s : List ℕ) → slipAnswer s ≡ Accepted → centsTold (slipCents s) ≡ valued accepted (amountOf s)
 unfolding centsTold
 cents-told s e = rw e
 
