@@ -110,6 +110,16 @@ ledger-refused-first κs a z w call h =
     let told = read-told s z call in
     rw told (slip-refused (currencyOf s) s (λ e. h (told-zero _ (z .told) told .1 e)))
 
+-- a refusal tells no currency and no amount
+refused-empty : (x : LedgerSlip) → (ledgerTold x .told .number ≡ 0 → ⊥) → ledgerTold x ≡ record { told = ledgerTold x .told; currency = 0; cents = 0; lipa = 0; converted = 0 }
+unfolding ledgerTold
+refused-empty (ledger.Euro cents) h = absurd (h refl)
+refused-empty (ledger.Kuna lipa) h = absurd (h refl)
+refused-empty (ledger.Refused r) h = refl
+
+pub ledger-refused-empty : EveryLedgerRead (λ slip l. (l .told .number ≡ 0 → ⊥) → l ≡ record { told = l .told; currency = 0; cents = 0; lipa = 0; converted = 0 })
+ledger-refused-empty κs a z w call h = rw call (refused-empty (ledgerOf (a .0 .now)) (λ e. h (ap (λ (l : Ledger). l .told .number) call ∙ e)))
+
 -- the part that is told of a field is the field
 pub ledger-field-handed : EveryLedgerField (λ slip n part. take (part .length) (drop (part .start) slip) ≡ ledgerField slip n)
 ledger-field-handed κs a z w call = rw call (field-stands (currencyOf (a .0 .now)) (a .0 .now) (a .1 .0) .1)

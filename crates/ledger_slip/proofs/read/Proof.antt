@@ -1,11 +1,9 @@
 -- `ledger_slip::read` meets its contract: an accepted slip's third field has fifteen digits. Assumes nothing.
-use Rattle.refusal.proofs.Basics.{sym, ap, _∙_, needs, arith, ℕ, take, List}
-use Rattle.text.specs.Split.{split}
-use Rattle.sums.specs.Sums.{numberOf}
-use Rattle.sums.proofs.Theorems.{number-of-all}
+use Rattle.refusal.proofs.Basics.{sym, ap, _∙_, needs}
+use Rattle.sums.specs.Sums.{numberIn}
 use Rattle.slip_fields.specs.declared.Currency.{Currency}
-use Rattle.slip.specs.Slip.{slipAnswerIn, pieceOf}
-use Rattle.slip_handed.proofs.Amounts.{third-size}
+use Rattle.slip.specs.Slip.{slipAnswerIn}
+use Rattle.slip_handed.proofs.Amounts.{amount-read}
 use Rattle.ledger_slip.specs.Ledger.{currencyOf, amountIn, ledgerOf}
 use Rattle.ledger_slip.proofs.read.Statement.{statement}
 use Rattle.ledger_slip.proofs.read.Tie as tie
@@ -16,9 +14,7 @@ returns c =
     let s = c .before .before .before .before .before .before .before .before .args .s .now in
     let k = c .before .before .before .before .before .before .currency .ensures in
     let a = sym (c .before .before .before .before .before .read-in .ensures ∙ ap (λ (x : Currency). slipAnswerIn x s) k) ∙ c .before .before .before .enum-told .given .1 in
-    let q = ap (λ (l : List ℕ). numberOf (take 18 l)) (c .before .before .piece-text .ensures) in
-    let z = third-size (currencyOf s) s a in
-    let n = c .before .number .ensures ∙ (q ∙ number-of-all (pieceOf 2 (split 10 s)) (omega arith)) in
+    let n = c .before .number .ensures ∙ (ap numberIn (c .before .before .piece-text .ensures) ∙ amount-read (currencyOf s) s a) in
     rw a (c .amount .ensures ∙ (ap (λ (x : Currency). amountIn x (c .before .number .result)) k ∙ ap (amountIn (currencyOf s)) n))
 
 returns-2 : tie.Need-returns-2
