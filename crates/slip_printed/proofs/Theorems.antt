@@ -8,15 +8,13 @@ use Rattle.slip_fields.specs.declared.Currency.{Currency}
 use Rattle.slip_fields.specs.declared.Currency.the-variants.{Euro, Kuna}
 use Rattle.slip.specs.Slip.{slipAnswerIn, slipAnswer, pieceOf}
 use Rattle.units.specs.Units.{lipaInCents}
-use Rattle.ledger_slip.specs.declared.LedgerSlip.{LedgerSlip}
-use Rattle.ledger_slip.specs.declared.LedgerSlip.the-variants as ledger
-use Rattle.ledger_slip.specs.Ledger.{ledgerOf}
+use Rattle.slip_handed.specs.Handed.{amountOf}
+use Rattle.ledger_slip.specs.Ledger.{currencyOf, amountIn, ledgerFrom, ledgerOf}
 use Rattle.slip.proofs.Plain.{accepted-plainly}
 use Rattle.slip_handed.proofs.Laws.{piece-stands}
 use Rattle.printed.specs.Printed.{decimal, Puts}
 use Rattle.printed.proofs.Theorems.{both-at-most, decimal-at-most, refused-at-most, printed-whole}
 use Rattle.slip_printed.specs.SlipPrinted.{acceptedLine, euroLine, kunaLine, centsLine, fieldLine, fieldLines, printedFor, slipPrinted, ledgerLines, ledgerPrinted}
-use Rattle.slip_printed.proofs.Laws.{KnownLedger, ledger-known}
 
 -- ---------------------------------------------------------------------------
 -- How long it is
@@ -59,19 +57,20 @@ cents-at-most lipa =
     omega arith
 
 pub ledger-at-most : (s : List ℕ) → length (ledgerPrinted s) ≤ 6200
-unfolding ledgerPrinted
-ledger-at-most s = go (ledgerOf s) (ledger-known s (ledgerOf s) refl)
+unfolding ledgerPrinted ledgerOf amountIn
+ledger-at-most s = go (currencyOf s) (slipAnswerIn (currencyOf s) s) refl
   where
-    fields : (c : Currency) → slipAnswerIn c s ≡ Accepted → length (fieldLines s 3 12) ≤ 6060
-    fields c e = lines-at-most s 3 12 (accepted-plainly c s .0 e .short)
-
-    go : (l : LedgerSlip) → KnownLedger s l → length (ledgerLines l s) ≤ 6200
-    go (ledger.Euro cents) k = let b = both-at-most euroLine (fieldLines s 3 12) 14 6060 (omega arith) (fields Euro (k .0)) in omega arith
-    go (ledger.Kuna lipa) k =
-        let b = both-at-most kunaLine (fieldLines s 3 12) 14 6060 (omega arith) (fields Kuna (k .0)) in
-        let d = both-at-most (kunaLine ++ fieldLines s 3 12) (centsLine (lipa .number)) 6074 27 b (cents-at-most (lipa .number)) in
+    go : (c : Currency) (a : Answer) → slipAnswerIn (currencyOf s) s ≡ a → length (ledgerLines (ledgerFrom c (amountOf s) a) s) ≤ 6200
+    go c (Refused r) e = let b = refused-at-most r in omega arith
+    go Euro Accepted e =
+        let l = lines-at-most s 3 12 (accepted-plainly (currencyOf s) s .0 e .short) in
+        let b = both-at-most euroLine (fieldLines s 3 12) 14 6060 (omega arith) l in
         omega arith
-    go (ledger.Refused r) k = let b = refused-at-most r in omega arith
+    go Kuna Accepted e =
+        let l = lines-at-most s 3 12 (accepted-plainly (currencyOf s) s .0 e .short) in
+        let b = both-at-most kunaLine (fieldLines s 3 12) 14 6060 (omega arith) l in
+        let d = both-at-most (kunaLine ++ fieldLines s 3 12) (centsLine (amountOf s)) 6074 27 b (cents-at-most (amountOf s)) in
+        omega arith
 
 -- ---------------------------------------------------------------------------
 -- What the programs print

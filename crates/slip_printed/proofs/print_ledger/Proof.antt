@@ -1,15 +1,9 @@
 -- `slip_printed::print_ledger` meets its contract: the arm says what the slip is. Assumes nothing.
 use Rattle.refusal.proofs.Basics.{sym, _∙_, needs}
+use Rattle.printed.proofs.Laws.{puts-then}
 use Rattle.slip_printed.specs.SlipPrinted.{ledgerPrinted}
-use Rattle.slip_printed.proofs.Laws.{ledger-known}
 use Rattle.slip_printed.proofs.print_ledger.Statement.{statement}
 use Rattle.slip_printed.proofs.print_ledger.Tie as tie
-
-put-accepted-requires : tie.Need-put-accepted-requires
-put-accepted-requires c κs = ledger-known (c .before .before .before .before .before .before .before .before .args .s .now) _ (sym (c .before .before .before .before .before .read .ensures) ∙ c .before .before .before .cents .given .1)
-
-put-kuna-requires : tie.Need-put-kuna-requires
-put-kuna-requires c κs = ledger-known (c .before .before .before .before .before .before .before .args .s .now) _ (sym (c .before .before .before .before .read .ensures) ∙ c .before .before .lipa .given .1)
 
 returns : tie.Need-returns
 unfolding ledgerPrinted
@@ -17,7 +11,7 @@ returns c = rw (sym (c .before .before .before .before .before .before .before .
 
 returns-2 : tie.Need-returns-2
 unfolding ledgerPrinted
-returns-2 c = rw (sym (c .before .before .before .before .before .before .before .read .ensures) ∙ c .before .before .before .before .before .lipa .given .1) (c .before .before .put-kuna .ensures)
+returns-2 c = rw (sym (c .before .before .before .before .before .before .before .before .before .before .before .before .read .ensures) ∙ c .before .before .before .before .before .before .before .before .before .before .lipa .given .1) (puts-then (c .before .before .before .before .before .before .put-accepted2 .ensures) (c .before .before .put-cents .ensures))
 
 returns-3 : tie.Need-returns-3
 unfolding ledgerPrinted
@@ -26,11 +20,8 @@ returns-3 c = rw (sym (c .before .before .before .before .before .before .before
 pub print-ledger-spec : {M : Type 1} → statement M
 print-ledger-spec =
     tie.close (tie.spec
-    (λ c κs. search needs) (λ c. search needs) (λ c. search needs)
-    put-accepted-requires
-    (λ c. search needs)
-    put-kuna-requires
-    (λ c. search needs) (λ c κs. search needs) (λ c. search needs)
+    (λ c κs. search needs) (λ c. search needs) (λ c. search needs) (λ c κs. search needs) (λ c. search needs) (λ c. search needs)
+    (λ c κs. search needs) (λ c κs. search needs) (λ c. search needs) (λ c κs. search needs) (λ c. search needs)
     returns
     (λ c. search needs)
     returns-2

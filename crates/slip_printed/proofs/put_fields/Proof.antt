@@ -8,15 +8,15 @@ use Rattle.slip_printed.proofs.put_fields.Statement.{statement}
 use Rattle.slip_printed.proofs.put_fields.Tie as tie
 
 abbrev Inv-loop : tie.InvT-loop
-Inv-loop currency s out₀ at next₀ n₀ out next n =
-    (length out ≡ length out₀) × (next ≤ length out) × (4 ≤ n) × (n ≤ 15)
-    × ((r : ℕ) (after : List ℕ) → Puts (fieldLines s n (15 - n)) next out r after → Puts (fieldLines s 4 11) at out₀ r after)
+Inv-loop s out₀ at next₀ n₀ out next n =
+    (length out ≡ length out₀) × (next ≤ length out) × (3 ≤ n) × (n ≤ 15)
+    × ((r : ℕ) (after : List ℕ) → Puts (fieldLines s n (15 - n)) next out r after → Puts (fieldLines s 3 12) at out₀ r after)
 
 abbrev μ-loop : tie.MeasureT-loop
-μ-loop currency s out₀ at next₀ n₀ out next n = 15 - n
+μ-loop s out₀ at next₀ n₀ out next n = 15 - n
 
 loop-holds : tie.Need-loop-holds Inv-loop μ-loop
-loop-holds c = (refl, c .before .before .pre .1, omega arith, omega arith, λ r after p. p)
+loop-holds c = (refl, c .before .before .pre, omega arith, omega arith, λ r after p. p)
 
 loop-again : tie.Need-loop-again Inv-loop μ-loop
 loop-again c =
@@ -29,7 +29,7 @@ loop-again c =
       omega arith,
       omega arith,
       λ r after q. l .inv .4 r after
-          (rw (lines-on (a .currency) (a .s .now) (l .n) (omega arith) (omega arith) (c .before .before .before .before .before .before .before .before .before .pre .0), ← (c .before .before .before .field-in .ensures)) (puts-then p q)),
+          (rw (lines-on (a .s .now) (l .n) (omega arith), ← (c .before .before .before .piece-text .ensures)) (puts-then p q)),
     )
 
 returns : tie.Need-returns Inv-loop μ-loop
@@ -44,7 +44,7 @@ put-fields-spec =
     Inv-loop
     μ-loop
     loop-holds
-    (λ c κs. search needs) (λ c κs. search needs) (λ c. omega arith) (λ c. omega arith)
+    (λ c. omega arith) (λ c κs. search needs) (λ c κs. search needs) (λ c. omega arith) (λ c. omega arith)
     loop-again
     (λ c. c .before .loop .inv .0)
     returns)
