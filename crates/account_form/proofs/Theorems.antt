@@ -1,9 +1,9 @@
 -- What is promised of field 10 of a kuna slip: accepted exactly when, and where a 3's byte lies.
 -- Assumes nothing.
-use Rattle.refusal.proofs.Basics.{_≡_, refl, sym, _∙_, arith, ℕ, _≤_, _<_, length, take, drop, getD, eq-eqb, eqb-true, List, [], _∷_, Bool, false≢true, true, false, _&&_, cond, eqb, drop-cons, _↔_, _⊎_, inl, inr, ⊎-elim, both-true, or-first}
+use Rattle.refusal.proofs.Basics.{_≡_, refl, sym, _∙_, arith, ℕ, length, take, drop, getD, eq-eqb, eqb-true, List, [], _∷_, Bool, false≢true, true, false, cond, eqb, drop-cons, _↔_, _⊎_, inl, inr, ⊎-elim, both-true}
 use Rattle.verdict.specs.Verdict.{onlyIf, Within}
 use Rattle.verdict.proofs.Verdicts.{passed, met, both-pass, test-holds, choice-within, then-within, only-within}
-use Rattle.classes.specs.Classes.{isDigit, permits}
+use Rattle.classes.specs.Classes.{isDigit}
 use Rattle.classes.specs.declared.Class.the-variants.{Digits, AccountForm}
 use Rattle.text.specs.Bytes.{allOf, bytesVerdict}
 use Rattle.text.proofs.Laws.{all-apart, all-wider, all-passes, bytes-within}

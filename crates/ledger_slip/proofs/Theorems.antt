@@ -1,18 +1,18 @@
 -- What is promised of slips of either currency: accepted exactly when, never of both, and how the euro reader answers.
 -- Assumes nothing.
-use Rattle.refusal.proofs.Basics.{_≡_, refl, sym, ap, _∙_, arith, ℕ, suc, _-_, _≤_, length, getD, le-leb, eq-eqb, List, [], _∷_, true, false, cond, eqb, _↔_, and-second}
+use Rattle.refusal.proofs.Basics.{_≡_, refl, sym, ap, _∙_, arith, ℕ, _≤_, length, getD, le-leb, List, [], _∷_, _↔_}
 use Rattle.refusal.specs.declared.Answer.{Answer}
 use Rattle.refusal.specs.declared.Answer.the-variants as answer
 use Rattle.refusal.specs.declared.Refusal.{Refusal}
 use Rattle.refusal.specs.declared.Refusal.the-variants.{Form}
-use Rattle.text.specs.Bytes.{same, countOf}
+use Rattle.text.specs.Bytes.{same}
 use Rattle.text.specs.Split.{split}
 use Rattle.text.proofs.Pieces.{pieces-counted}
 use Rattle.slip_fields.specs.declared.Currency.{Currency}
 use Rattle.slip_fields.specs.declared.Currency.the-variants as currency
-use Rattle.slip_fields.specs.Fields.{hrvhub30, currencyText, fieldVerdict}
+use Rattle.slip_fields.specs.Fields.{hrvhub30, currencyText}
 use Rattle.slip_fields.proofs.Theorems.{hrvhub30-accepted, other-currency-refused}
-use Rattle.slip.specs.Slip.{slipEnds, fieldsAnswer, slipAnswerIn, slipAnswer, pieceOf}
+use Rattle.slip.specs.Slip.{fieldsAnswer, slipAnswerIn, slipAnswer, pieceOf}
 use Rattle.slip.proofs.Plain.{PlainSlip, accepted-plainly}
 use Rattle.slip_handed.specs.Handed.{amountOf, fieldOf, fieldPart}
 use Rattle.ledger_slip.specs.declared.LedgerSlip.{LedgerSlip}

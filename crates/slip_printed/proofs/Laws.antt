@@ -1,5 +1,5 @@
 -- Laws of what is printed of a slip. Assumes nothing.
-use Rattle.refusal.proofs.Basics.{_≡_, refl, arith, ℕ, suc, _+_, _-_, _≤_, List, [], _++_, add-one}
+use Rattle.refusal.proofs.Basics.{_≡_, arith, ℕ, suc, _+_, _-_, _≤_, List, [], _++_, add-one}
 use Rattle.text.specs.Split.{split}
 use Rattle.slip.specs.Slip.{pieceOf}
 use Rattle.slip_printed.specs.SlipPrinted.{fieldLine, fieldLines}

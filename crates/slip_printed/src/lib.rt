@@ -1,6 +1,5 @@
 // What the programs `slipfile` and `ledger` print of a slip, put into lent room: `accepted` and its fields 3 to 14, a line each,
 // or its refusal with its place. `ledger` says which currency it was, and a kuna slip's amount in cents too.
-ghost use mathlib.Core.Path.{_≡_};
 ghost use mathlib.Core.List.{_++_};
 ghost use Prim.Native.Nat.{_≤_};
 ghost use lib.ListN.{length};

@@ -1,7 +1,6 @@
 // Cents and lipa, two units that no function adds, and lipa in cents at the fixed 7.53450 kuna for a euro.
 //
 // Document 02, W1: "Lipa and cents are two units and are never added."
-ghost use mathlib.Core.Path.{_≡_};
 ghost use Rattle.units.specs.Units.{Nearest};
 
 // An amount in cents: hundredths of a euro.

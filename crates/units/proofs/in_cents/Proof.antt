@@ -1,5 +1,5 @@
 -- `units::in_cents` meets its contract: whole 75,345s and what remains are the amount, and no product passes 64 bits. Assumes nothing.
-use Rattle.refusal.proofs.Basics.{needs, arith, _<_, _/_, _%_, div-add-mod, mod-lt}
+use Rattle.refusal.proofs.Basics.{needs, arith, _/_, _%_, div-add-mod, mod-lt}
 use Rattle.units.proofs.Theorems.{taken-apart}
 use Rattle.units.proofs.in_cents.Statement.{statement}
 use Rattle.units.proofs.in_cents.Tie as tie
