@@ -1,7 +1,8 @@
 // The slip, read.
 //
-// Document 01, "The slip's fourteen fields", with source 000; document 02, W1, with source 001: a slip in a currency. Every field is judged by one name,
-// `slip_fields::judge_field`; reading goes from line feed to line feed and stops at the first refusal.
+// Document 01, "The slip's fourteen fields", with source 000; document 02, W1, with source 001: a slip in a currency. Every
+// field is judged by one name, `slip_fields::judge_field`; reading goes from line feed to line feed and stops at the first
+// refusal.
 ghost use mathlib.Core.Path.{_≡_};
 ghost use mathlib.Core.List.{[]};
 ghost use Prim.Native.Nat.{_+_, _<_, _^_};

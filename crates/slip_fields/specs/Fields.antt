@@ -1,4 +1,5 @@
--- Document 01, "The slip's fourteen fields", and document 02, W1: what each field must be in a slip's currency. Within a field 3 with its byte, 4, 5, then 6 to 9.
+-- Document 01, "The slip's fourteen fields", and document 02, W1: what each field must be in a slip's currency. Within a field 3 with its
+-- byte, 4, 5, then 6 to 9.
 use Rattle.refusal.specs.Basics.{ℕ, cond, _||_, List, eqb, length, spelt}
 use Rattle.verdict.specs.Verdict.{onlyIf, andThen}
 use Rattle.text.specs.Bytes.{bytesVerdict, same, eur}

@@ -1,7 +1,8 @@
 // The fields of a slip, each judged by its number behind one name, `judge_field`, in the slip's currency.
 //
-// Document 01, "The slip's fourteen fields"; document 02, W1: a kuna slip differs from a euro slip in fields 2 and 10 alone. Within a field 3 with its byte, 4, 5, then 6 to 9; the byte is counted
-// within the field, and whoever knows where the field stands says so.
+// Document 01, "The slip's fourteen fields"; document 02, W1: a kuna slip differs from a euro slip in fields 2 and 10 alone.
+// Within a field 3 with its byte, 4, 5, then 6 to 9; the byte is counted within the field, and whoever knows where the field
+// stands says so.
 ghost use mathlib.Core.Path.{_≡_};
 ghost use Rattle.slip_fields.specs.Fields.{wordVerdict, sizedVerdict, mostOf, currencyText, payeeVerdict, fieldVerdict};
 use classes::Class;

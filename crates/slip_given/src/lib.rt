@@ -1,4 +1,4 @@
-// The fields 4 to 14 that a writer of slips is given, judged in their order: "only euro slips are written" (document 02, W1).
+// The fields 4 to 14 that a writer of slips is given, judged in their order, in euro: "only euro slips are written".
 //
 // Document 01, "The slip's fourteen fields": the writer refuses as the reader does, so each field is judged by the same
 // name, `slip_fields::judge_field`; a refusal is told of the field, the byte of a 3 counted within it.

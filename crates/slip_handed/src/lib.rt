@@ -1,6 +1,7 @@
 // What an accepted slip hands back: its fields, as the parts of the lent bytes where they stand, and its amount.
 //
-// Document 01, "The slip's fourteen fields"; document 02, W1, for a slip in either currency. A refused slip, and an unknown number, give an empty part.
+// Document 01, "The slip's fourteen fields"; document 02, W1, for a slip in either currency. A refused slip, and an unknown
+// number, give an empty part.
 ghost use mathlib.Core.Path.{_≡_};
 ghost use Prim.Native.Nat.{_+_, _≤_};
 ghost use lib.ListN.{length, take, drop};

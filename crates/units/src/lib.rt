@@ -13,7 +13,8 @@ pub struct Lipa {
     pub number: u64,
 }
 
-// The nearest cent. Of whole 7.53450s nothing is left to round, and what remains is small: so nothing overflows, whatever the amount.
+// The nearest cent. Of whole 75,345 lipa, 10,000 cents, nothing is left to round, and what remains is small: so no product
+// passes 64 bits, whatever the amount.
 pub fn in_cents(lipa: Lipa) -> Cents
     ensures { λ r. ⌜ Nearest (lipa .number) (r .number) ⌝ }
 {
