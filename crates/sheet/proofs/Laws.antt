@@ -60,12 +60,9 @@ two-numbered :
 unfolding isStanding
 two-numbered a b s = go (eqb a 49) (eqb b 51) (eqb b 52) refl refl refl
   where
-    abbrev n : Bool → Bool → Bool → ℕ
-    n x y z = cond x (cond y 13 (cond z 14 0)) 0
-
     go :
-        (x y z : Bool) → eqb a 49 ≡ x → eqb b 51 ≡ y → eqb b 52 ≡ z → (n x y z ≡ 0 → ⊥)
-        → (isStanding (n x y z) ≡ true) × (a ∷ (b ∷ (61 ∷ s)) ≡ numberText (n x y z) ++ (61 ∷ drop (textStart (n x y z)) (a ∷ (b ∷ (61 ∷ s)))))
+        (x y z : Bool) → eqb a 49 ≡ x → eqb b 51 ≡ y → eqb b 52 ≡ z → (_≡_ {A = ℕ} (cond x (cond y 13 (cond z 14 0)) 0) 0 → ⊥)
+        → (isStanding (cond x (cond y 13 (cond z 14 0)) 0) ≡ true) × (a ∷ (b ∷ (61 ∷ s)) ≡ numberText (cond x (cond y 13 (cond z 14 0)) 0) ++ (61 ∷ drop (textStart (cond x (cond y 13 (cond z 14 0)) 0)) (a ∷ (b ∷ (61 ∷ s)))))
     go true true z e f g h = (refl, rw (eqb-true a 49 e, eqb-true b 51 f))
     go true false true e f g h = (refl, rw (eqb-true a 49 e, eqb-true b 52 g))
     go true false false e f g h = absurd (h refl)
@@ -206,7 +203,7 @@ module _ (s : List ℕ) (line last at : ℕ) (starts lengths : List ℕ) (w : Re
       pub reached-number : (n ≡ 0 → ⊥) → (n ≤ 14) × (textStart n ≤ i)
       reached-number h =
           let g = right-numbered last (part at (at + i) s) (λ z. h (j ∙ z)) in
-          rw (j, ← reached-length) g
+          rw j (g .0, rw reached-length at (g .1))
 
   module _ (e : firstBad Line (take (length s - at) (drop at s)) ≡ Nothing) where
     -- bytes behind the last line feed: a line without one

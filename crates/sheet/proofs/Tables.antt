@@ -80,7 +80,10 @@ right-on k last p q ps h e = go (isRight last p) refl e
 pub right-last : (k last : ℕ) (p : List ℕ) → 0 < k → badFrom k last (p ∷ []) ≡ 0 → p ≡ []
 unfolding badFrom
 right-last k last [] h e = refl
-right-last k last (b ∷ p) h e = absurd (omega (arith, e))
+right-last k last (b ∷ p) h e =
+    let z : eqb (length (b ∷ p)) 0 ≡ false = ne-eqb (length (b ∷ p)) 0 (λ (y : length (b ∷ p) ≡ 0). omega (arith, y)) in
+    let w : cond (eqb (length (b ∷ p)) 0) 0 k ≡ 0 = e in
+    absurd (omega (arith, rw z at w))
 
 -- no line behind one of a number has that number, or one below it
 none-later : (n k last at : ℕ) (ps : List (List ℕ)) → n ≤ last → 0 < k → badFrom k last ps ≡ 0 → heldFrom n at (linesAmong ps) ≡ Nothing
@@ -155,7 +158,7 @@ module _ (n : ℕ) (high : n ≤ 14) where
       (λ z. none-later n (k + 1) m (at + length p + 1) (q ∷ ps) (omega (arith, z)) (omega arith) (r .1)) ih)
 
 -- a table of no text holds none
-no-entry : (k n : ℕ) → getD (replicate k 0) n 0 ≡ 0
+no-entry : (k n : ℕ) → _≡_ {A = ℕ} (getD (replicate k 0) n 0) 0
 no-entry zero n = refl
 no-entry (suc k) zero = refl
 no-entry (suc k) (suc n) = no-entry k n

@@ -7,10 +7,11 @@ use Rattle.text.specs.Bytes.{allOf}
 use Rattle.text.specs.Split.{split}
 use Rattle.text.specs.Lines.{joinLines, linesAmong, lastPiece, EachLine, none as no-line, more as one-line}
 use Rattle.text.proofs.Lines.{split-joined, split-join}
+use Rattle.characters.specs.Characters.{firstWrong, characters}
 use Rattle.slip_fields.specs.declared.Currency.the-variants.{Euro}
 use Rattle.slip_fields.specs.Fields.{fieldVerdict}
 use Rattle.slip_fields.proofs.Theorems.{no-line-feed}
-use Rattle.slip_fields.proofs.Plain.{text-exactly}
+use Rattle.slip_fields.proofs.Plain.{text-exactly, thirteenth-exactly}
 use Rattle.sheet.specs.declared.Held.{Held}
 use Rattle.sheet.specs.declared.Held.the-variants.{At, Nothing}
 use Rattle.sheet.specs.Sheet.{isStanding, lineNumber, textStart, lineText, isRight, badFrom, badLine, heldFrom, lineHeld}
@@ -171,10 +172,10 @@ module _ (n : ℕ) (above : 0 < n) where
       go true z ih =
           let e = eqb-true (lineNumber p) n z in
           let w : textStart n ≤ length p = rw e at (text-within p (λ (y : lineNumber p ≡ 0). omega (arith, y, e))) in
-          let rest = 10 ∷ joinLines ms in
+          let rest : List ℕ = 10 ∷ joinLines ms in
           (
             omega (arith, w, length-append front (p ++ rest), length-append p rest),
-            rw (e, drop-append-add front (p ++ rest) (textStart n), drop-append-le p rest (textStart n) w, ← (length-drop (textStart n) p)) (take-append-seam (drop (textStart n) p) rest),
+            rw (e, drop-append-add front (p ++ rest) (textStart n), drop-append-le (textStart n) p rest w, ← (length-drop (textStart n) p)) (take-append-seam (drop (textStart n) p) rest),
           )
       go false z ih = rw (size, on) at ih
 
@@ -202,11 +203,12 @@ module _ (n : ℕ) (above : 0 < n) where
 
 -- the empty text does, of a field with standing text
 pub empty-obeys : (n : ℕ) → isStanding n ≡ true → fieldVerdict Euro n [] [] ≡ 0
+unfolding firstWrong characters
 empty-obeys n h = go (one-of n h)
   where
     go : OneOf n → fieldVerdict Euro n [] [] ≡ 0
     go (low a b) = text-exactly Euro [] [] n (inl (a, b)) .1 (refl, omega arith)
-    go (thirteen e) = rw e (unfold fieldVerdict in refl)
+    go (thirteen e) = rw e (thirteenth-exactly Euro [] [] .1 (inl refl))
     go (fourteen e) = text-exactly Euro [] [] n (inr e) .1 (refl, omega arith)
 
 -- so does the text of a field among right ones
