@@ -9,10 +9,9 @@ use Rattle.slip_given.specs.Given.{eleven}
 use Rattle.slip_writer.specs.declared.Written.{Written}
 use Rattle.slip_writer.specs.declared.Written.the-variants as written
 use Rattle.slip_writer.specs.Writer.{slipText, writeAnswer, leftBySlip}
-use Rattle.sheet.specs.Sheet.{badLine}
+use Rattle.standing_text.specs.declared.Sheet.{Sheet}
 use Rattle.standing_text.specs.declared.Sheet.the-variants.{Neither}
-use Rattle.standing_text.specs.declared.Judged.{Judged}
-use Rattle.standing_text.specs.Standing.{sheetsJudged, standingText}
+use Rattle.standing_text.specs.Standing.{bothJudged, standingText}
 use Rattle.standing_slip.specs.declared.StandingSlip.{StandingSlip}
 
 -- ---------------------------------------------------------------------------
@@ -41,18 +40,15 @@ filledFields sizes text farm association = filledFrom 4 (elevenOf sizes text) fa
 -- The call
 
 -- "20 before the writer's"
-abbrev pub slipAfterSheets : Judged → Written → StandingSlip
-slipAfterSheets judged w = go (judged .answer)
-  where
-    go : Answer → StandingSlip
-    go answer.Accepted = record { sheet = Neither; written = w }
-    go (answer.Refused r) = record { sheet = judged .sheet; written = written.Refused r }
+abbrev pub slipAfterSheets : Sheet → Answer → Written → StandingSlip
+slipAfterSheets sheet answer.Accepted w = record { sheet = Neither; written = w }
+slipAfterSheets sheet (answer.Refused r) w = record { sheet = sheet; written = written.Refused r }
 
 -- 1 where the sizes are not the text's, then the sheets, then the writer's answer
 unfoldable pub standingSlip : ℕ → List ℕ → List ℕ → List ℕ → List ℕ → ℕ → StandingSlip
 standingSlip cents sizes text farm association room =
     cond (lentWhole 11 sizes text)
-    (slipAfterSheets (sheetsJudged (badLine farm) (badLine association)) (writeAnswer cents (filledFields sizes text farm association) room))
+    (slipAfterSheets (bothJudged farm association .sheet) (bothJudged farm association .answer) (writeAnswer cents (filledFields sizes text farm association) room))
     (record { sheet = Neither; written = written.Refused (Size none) })
 
 -- what the call answers, and what it leaves in the lent room

@@ -94,9 +94,9 @@ pub fn write(
     let f = sheet::read(farm);
     let a = sheet::read(association);
     let judged = standing_text::judge_sheets(f.bad, a.bad);
+    let sheet = judged.sheet;
     let answer = judged.answer;
     if let Answer::Refused(r) = answer {
-        let sheet = judged.sheet;
         return StandingSlip {
             sheet,
             written: Written::Refused(r),

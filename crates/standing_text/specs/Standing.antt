@@ -40,18 +40,19 @@ suppliedBy Nothing (At p) = record { sheet = Association; answer = Accepted; par
 suppliedBy Nothing Nothing = record { sheet = Neither; answer = Accepted; part = noPart }
 
 -- what both sheets judged leave of an answer: a refusal tells no part
-abbrev pub afterSheets : Judged → Standing → Standing
-afterSheets judged rest = go (judged .answer)
-  where
-    go : Answer → Standing
-    go Accepted = rest
-    go (Refused r) = record { sheet = judged .sheet; answer = Refused r; part = noPart }
+abbrev pub afterSheets : Sheet → Answer → Standing → Standing
+afterSheets sheet Accepted rest = rest
+afterSheets sheet (Refused r) rest = record { sheet = sheet; answer = Refused r; part = noPart }
+
+-- both sheets, "farm's sheet judged first"
+abbrev pub bothJudged : List ℕ → List ℕ → Judged
+bothJudged farm association = sheetsJudged (badLine farm) (badLine association)
 
 -- "28, a field number other than these, first"
 unfoldable pub standingOf : ℕ → List ℕ → List ℕ → Standing
 standingOf n farm association =
     cond (isStanding n)
-    (afterSheets (sheetsJudged (badLine farm) (badLine association)) (suppliedBy (lineHeld n farm) (lineHeld n association)))
+    (afterSheets (bothJudged farm association .sheet) (bothJudged farm association .answer) (suppliedBy (lineHeld n farm) (lineHeld n association)))
     (record { sheet = Neither; answer = Refused (refusal.Field none); part = noPart })
 
 -- the bytes of a part

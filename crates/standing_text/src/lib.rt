@@ -113,14 +113,16 @@ pub fn ask(n: usize, farm: &[u8], association: &[u8]) -> Standing
     let f = sheet::read(farm);
     let a = sheet::read(association);
     let judged = judge_sheets(f.bad, a.bad);
-    match judged.answer {
-        Answer::Accepted => supply(n, f, a),
-        Answer::Refused(r) => Standing {
-            sheet: judged.sheet,
+    let sheet = judged.sheet;
+    let answer = judged.answer;
+    if let Answer::Refused(r) = answer {
+        return Standing {
+            sheet,
             answer: Answer::Refused(r),
             part: none,
-        },
+        };
     }
+    supply(n, f, a)
 }
 
 // Whether the question is accepted, or its refusal.
@@ -128,7 +130,8 @@ pub fn judge(n: usize, farm: &[u8], association: &[u8]) -> Answer
     ensures { λ r. ⌜ r ≡ standingOf n (now (farm .entry)) (now (association .entry)) .answer ⌝ }
 {
     let s = ask(n, farm, association);
-    s.answer
+    let answer = s.answer;
+    answer
 }
 
 // The bytes of a part, as far as the text goes.
