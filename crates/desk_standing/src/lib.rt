@@ -82,12 +82,12 @@ pub extern "C" fn lanecockle_standing_text(field: usize, farm: &[u8], associatio
 
 // Writes a slip as `lanecockle_slip_write` does, each of the fields 4 to 9, 13 and 14 that is given empty taken from the sheets.
 #[no_mangle]
-pub extern "C" fn lanecockle_slip_write_standing(
+pub extern "C" fn lanecockle_slip_write_standing<'a>(
     cents: u64,
-    text: &[u8],
+    text: &'a [u8],
     sizes: &[usize],
-    farm: &[u8],
-    association: &[u8],
+    farm: &'a [u8],
+    association: &'a [u8],
     out: &mut [u8],
 ) -> StandingWritten
     ensures { λ r. ⌜ WritesStandingTold cents (now (sizes .entry)) (now (text .entry)) (now (farm .entry)) (now (association .entry)) (now (out .entry)) r (now (out .exit)) ⌝ }

@@ -44,12 +44,12 @@ fn field<'a>(
 }
 
 // Writes the slip of the eleven fields, filled by what reading both sheets found.
-fn write_filled(
+fn write_filled<'a>(
     cents: u64,
-    text: &[u8],
+    text: &'a [u8],
     sizes: &[usize],
-    farm: &[u8],
-    association: &[u8],
+    farm: &'a [u8],
+    association: &'a [u8],
     f: Lines,
     a: Lines,
     out: &mut [u8],
@@ -75,12 +75,12 @@ fn write_filled(
 
 // Writes a slip of an amount in cents and the fields 4 to 14, which stand one behind the other in `text`, at the front of `out`.
 // Refusals: 1 where the sizes are not the text's; 20 of the sheets; then the writer's.
-pub fn write(
+pub fn write<'a>(
     cents: u64,
-    text: &[u8],
+    text: &'a [u8],
     sizes: &[usize],
-    farm: &[u8],
-    association: &[u8],
+    farm: &'a [u8],
+    association: &'a [u8],
     out: &mut [u8],
 ) -> StandingSlip
     ensures { λ r. ⌜ WritesStanding cents (now (sizes .entry)) (now (text .entry)) (now (farm .entry)) (now (association .entry)) (now (out .entry)) r (now (out .exit)) ⌝ }

@@ -1,0 +1,1 @@
+-- What is promised of a slip written with standing text. Assumes nothing.
