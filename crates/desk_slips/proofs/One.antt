@@ -3,6 +3,9 @@ use Rattle.refusal.proofs.Basics.{sym, _∙_}
 use Rattle.refusal.specs.One.{One}
 use Rattle.desk_slips.proofs as here
 
+pub tell-written-one : One _ here.tell_written.Kinds.ps here.tell_written.Kinds.r here.tell_written.Reads.Post
+tell-written-one κs a z z′ w w′ p q = p ∙ sym q
+
 pub slip-read-one : One _ here.lanecockle_slip_read.Kinds.ps here.lanecockle_slip_read.Kinds.r here.lanecockle_slip_read.Reads.Post
 slip-read-one κs a z z′ w w′ p q = p ∙ sym q
 
