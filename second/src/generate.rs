@@ -16,7 +16,7 @@ mod wages;
 pub use ledgers::{ledger_slip, lipa, right_kuna_slip};
 pub use slips::{right_slip, slip, spoil_slip};
 pub use standing::{
-    given_and_sheets, huge_sheet, right_sheet, sheet, sheets, standing_field,
+    huge_sheet, right_sheet, sheet, sheets, standing_field, texts_given,
 };
 pub use wagecases::{spoilt_line, wage_cases};
 pub use wages::{

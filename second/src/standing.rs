@@ -118,7 +118,7 @@ fn divided(line: &[u8]) -> Option<(usize, &[u8])> {
 #[cfg(test)]
 mod tests {
     use super::*;
-    use crate::generate::{given_and_sheets, sheet, Dice};
+    use crate::generate::{sheet, sheets, texts_given, Dice};
 
     const FARM: &[u8] = "4=ANA ANIĆ\n5=\n13=SALA\n14=Plaća\n".as_bytes();
     const ASSOCIATION: &[u8] = "4=x\n5=ULICA 1\n9=SINJ\n14=".as_bytes();
@@ -288,7 +288,8 @@ mod tests {
         let mut dice = Dice::new(1);
         let mut met = [0; 2];
         for _ in 0..20_000 {
-            let (fields, [farm, association]) = given_and_sheets(&mut dice);
+            let fields = texts_given(&mut dice);
+            let [farm, association] = sheets(&mut dice);
             let sizes: Vec<usize> = fields.iter().map(Vec::len).collect();
             let written =
                 write_standing(7, &fields.concat(), &sizes, &farm, &association, usize::MAX);

@@ -21,7 +21,7 @@ pub fn standing_case(dice: &mut Dice) -> Vec<u8> {
 /// A case line with the verb `write standing`.
 pub fn write_standing_case(dice: &mut Dice) -> Vec<u8> {
     short(dice, |dice| {
-        let (texts, [farm, association]) = given_and_sheets(dice);
+        let (texts, [farm, association]) = (texts_given(dice), sheets(dice));
         let sizes: Vec<usize> = texts.iter().map(Vec::len).collect();
         let written = write_standing(0, &texts.concat(), &sizes, &farm, &association, 0);
         let without_room = written.map_err(|refused| refused.refusal);
@@ -67,8 +67,8 @@ pub fn sheets(dice: &mut Dice) -> [Vec<u8>; 2] {
     })
 }
 
-/// Fields 4 to 14, of those that a sheet can have many empty, and two sheets.
-pub fn given_and_sheets(dice: &mut Dice) -> (Fields, [Vec<u8>; 2]) {
+/// Fields 4 to 14, right or wrong; of those that a sheet can have many are empty.
+pub fn texts_given(dice: &mut Dice) -> Fields {
     let mut fields = right_slip(dice);
     for number in NUMBERS {
         if dice.one_in(2) {
@@ -78,7 +78,7 @@ pub fn given_and_sheets(dice: &mut Dice) -> (Fields, [Vec<u8>; 2]) {
     if dice.one_in(4) {
         spoil_slip(dice, &mut fields);
     }
-    (fields.split_off(3), sheets(dice))
+    fields.split_off(3)
 }
 
 /// A sheet that is mostly wrong in one place.

@@ -1,0 +1,293 @@
+//! Standing text asked for, slips written with it, and both beside the calls that
+//! there were before.
+
+use super::slipwrites::{cents, needed, room_for};
+use super::{HUNDRED_THOUSAND, MILLION};
+use crate::dice::{bytes, mishap, mixed, Dice};
+use crate::ffi::{Part, Standing, StandingWritten, Told};
+use crate::guard::{Lender, Room, Side};
+use crate::lane::{self, Sheets};
+use crate::lent::{Given, Shelf};
+use crate::trial::{told, Inputs, Plan, Trial};
+use second::generate;
+use second::slip::LARGEST;
+use second::standing::{standing_text, write_standing, Owner, Refused, NUMBERS};
+
+/// The most bytes of a sheet here.
+const LONGEST: usize = 131_072;
+
+pub fn run(plan: &Plan) {
+    let mut desk = Desk {
+        farm: Lender::new(LONGEST),
+        association: Lender::new(LONGEST),
+        shelf: Shelf::new(),
+        out: Room::new(4096),
+        other: Room::new(4096),
+    };
+    plan.run("standing text", MILLION, |trial| {
+        let sheets = sheets(&mut trial.dice);
+        asked(trial, &mut desk, &sheets);
+    });
+    plan.run("standing, long sheets", HUNDRED_THOUSAND / 10, |trial| {
+        let sheets = long_sheets(&mut trial.dice);
+        asked(trial, &mut desk, &sheets);
+        written(trial, &mut desk, &sheets);
+    });
+    plan.run("written with standing", MILLION, |trial| {
+        let sheets = sheets(&mut trial.dice);
+        let number = written(trial, &mut desk, &sheets);
+        trial.answered(number);
+    });
+    plan.run("standing beside slip", MILLION, |trial| {
+        let number = match trial.number() % 2 {
+            0 => without_sheets(trial, &mut desk),
+            _ => put_together(trial, &mut desk),
+        };
+        trial.answered(number);
+    });
+}
+
+/// The memory that a trial lends.
+struct Desk {
+    farm: Lender,
+    association: Lender,
+    shelf: Shelf,
+    out: Room,
+    other: Room,
+}
+
+/// Lends both sheets.
+fn lend<'a>(
+    farm: &'a mut Lender,
+    association: &'a mut Lender,
+    dice: &mut Dice,
+    sheets: &[Vec<u8>; 2],
+) -> Sheets<'a> {
+    let [own, common] = sheets;
+    Sheets {
+        farm: farm.lend(own, Side::any(dice)),
+        association: association.lend(common, Side::any(dice)),
+    }
+}
+
+/// Which sheet, in the words of the header.
+fn of_owner(owner: Option<Owner>) -> usize {
+    owner.map_or(0, |owner| owner as usize)
+}
+
+// Against second.
+
+fn asked(trial: &mut Trial, desk: &mut Desk, sheets: &[Vec<u8>; 2]) {
+    let field = generate::standing_field(&mut trial.dice);
+    let lent = lend(
+        &mut desk.farm,
+        &mut desk.association,
+        &mut trial.dice,
+        sheets,
+    );
+    let ours = lane::standing_text(field, lent);
+    let [farm, association] = sheets;
+    let theirs = match standing_text(field, farm, association) {
+        Ok(None) => Standing::default(),
+        Ok(Some(found)) => Standing {
+            told: Told::default(),
+            sheet: found.owner as usize,
+            start: found.start,
+            length: found.text.len(),
+        },
+        Err(Refused { refusal, owner }) => Standing {
+            told: told::<()>(&Err(refusal)),
+            sheet: of_owner(owner),
+            ..Standing::default()
+        },
+    };
+    let inputs: Inputs = &[
+        ("field", &field),
+        ("farm", farm),
+        ("association", association),
+    ];
+    trial.same("standing_text", ours, theirs, inputs);
+    trial.answered(ours.told.number);
+}
+
+fn written(trial: &mut Trial, desk: &mut Desk, sheets: &[Vec<u8>; 2]) -> usize {
+    let dice = &mut trial.dice;
+    let (cents, given) = (cents(dice), given(dice));
+    let [farm, association] = sheets;
+    let write = |room| {
+        let Given { text, sizes } = &given;
+        let written = write_standing(cents, text, sizes, farm, association, room);
+        let owner = written.as_ref().err().and_then(|refused| refused.owner);
+        (written.map_err(|refused| refused.refusal), owner)
+    };
+    let size = match told(&write(0).0).needed {
+        0 => room_for(dice, needed(&given)),
+        needed => room_for(dice, needed),
+    };
+    let side = Side::any(dice);
+    let lent = lend(&mut desk.farm, &mut desk.association, dice, sheets);
+    let (out, before) = desk.out.lend::<u8>(dice, size, side);
+    let ours = lane::slip_write_standing(cents, desk.shelf.lend(&given, side), lent, out);
+    let (theirs, owner) = write(size);
+    let sizes = &given.sizes[..];
+    let inputs: Inputs = &[
+        ("cents", &cents),
+        ("text", &given.text),
+        ("sizes", &sizes),
+        ("farm", farm),
+        ("association", association),
+        ("room", &size),
+    ];
+    let expected = StandingWritten {
+        told: told(&theirs),
+        value: theirs.as_ref().map_or(0, Vec::len),
+        sheet: of_owner(owner),
+    };
+    trial.same("slip_write_standing", ours, expected, inputs);
+    let slip = theirs.unwrap_or_default();
+    trial.same_room("slip_write_standing", out, before, &slip, inputs);
+    ours.told.number
+}
+
+// Lanecockle's calls against each other.
+
+/// Without a line in either sheet a slip is written as it was before.
+fn without_sheets(trial: &mut Trial, desk: &mut Desk) -> usize {
+    let dice = &mut trial.dice;
+    let (cents, given) = (cents(dice), given(dice));
+    let size = room_for(dice, needed(&given));
+    let side = Side::any(dice);
+    let fields = desk.shelf.lend(&given, side);
+    let (out, before) = desk.out.lend::<u8>(dice, size, side);
+    let (other, _) = desk.other.lend::<u8>(dice, size, side);
+    other.copy_from_slice(before);
+    let plain = lane::slip_write(cents, fields, out);
+    let standing = lane::slip_write_standing(cents, fields, Sheets::NONE, other);
+    let sizes = &given.sizes[..];
+    let inputs: Inputs = &[
+        ("cents", &cents),
+        ("text", &given.text),
+        ("sizes", &sizes),
+        ("room", &size),
+    ];
+    let expected = StandingWritten {
+        told: plain.told,
+        value: plain.value,
+        sheet: 0,
+    };
+    let call = "slip_write_standing without sheets";
+    trial.same(call, standing, expected, inputs);
+    trial.same_room(call, other, out, &[], inputs);
+    plain.told.number
+}
+
+/// What is written is what the writer makes of the given fields and the standing
+/// texts, and the reader has them again.
+fn put_together(trial: &mut Trial, desk: &mut Desk) -> usize {
+    let dice = &mut trial.dice;
+    let (mut fields, sheets) = (generate::texts_given(dice), sheets(dice));
+    let cents = cents(dice);
+    let side = Side::any(dice);
+    let lent = lend(&mut desk.farm, &mut desk.association, dice, &sheets);
+    let (out, before) = desk.out.lend::<u8>(dice, LARGEST, side);
+    let given = Given::new(&fields);
+    let written = lane::slip_write_standing(cents, desk.shelf.lend(&given, side), lent, out);
+    let mut malformed = None;
+    for number in NUMBERS {
+        let found = lane::standing_text(number, lent);
+        malformed = malformed.or((found.told.number != 0).then_some(found));
+        let sheet = [&[][..], lent.farm, lent.association][found.sheet];
+        if fields[number - 4].is_empty() && found.told.number == 0 {
+            fields[number - 4] = sheet[found.start..][..found.length].to_vec();
+        }
+    }
+    let sizes = &given.sizes[..];
+    let inputs: Inputs = &[
+        ("cents", &cents),
+        ("text", &given.text),
+        ("sizes", &sizes),
+        ("farm", &sheets[0]),
+        ("association", &sheets[1]),
+    ];
+    let given = Given::new(&fields);
+    let (other, _) = desk.other.lend::<u8>(dice, LARGEST, side);
+    other.copy_from_slice(before);
+    let expected = match malformed {
+        Some(found) => StandingWritten {
+            told: found.told,
+            value: 0,
+            sheet: found.sheet,
+        },
+        None => {
+            let plain = lane::slip_write(cents, desk.shelf.lend(&given, side), other);
+            StandingWritten {
+                told: plain.told,
+                value: plain.value,
+                sheet: 0,
+            }
+        }
+    };
+    let call = "slip_write_standing, put together";
+    trial.same(call, written, expected, inputs);
+    trial.same_room(call, out, other, &[], inputs);
+    if written.told.number == 0 {
+        read_again(trial, &out[..written.value], &fields, inputs);
+    }
+    written.told.number
+}
+
+/// The reader accepts the slip and has each field where it was put.
+fn read_again(trial: &Trial, slip: &[u8], fields: &[Vec<u8>], inputs: Inputs) {
+    trial.same("slip_read", lane::slip_read(slip), Told::default(), inputs);
+    let mut start = 29;
+    for (number, field) in (4..).zip(fields) {
+        let length = field.len();
+        let part = lane::slip_field(slip, number);
+        trial.same("slip_field", part, Part { start, length }, inputs);
+        trial.same("the field", &slip[start..][..length], &field[..], inputs);
+        start += length + 1;
+    }
+}
+
+// Inputs.
+
+/// Mostly from second's dice; else with a mishap, each other's, or any bytes.
+fn sheets(dice: &mut Dice) -> [Vec<u8>; 2] {
+    match dice.below(12) {
+        0 => [generate::right_sheet(dice), bytes(dice, 40)],
+        1 => [bytes(dice, 40), generate::right_sheet(dice)],
+        2..=4 => {
+            let mut sheets = [generate::right_sheet(dice), generate::right_sheet(dice)];
+            let place = dice.below(2);
+            sheets[place] = mishap(dice, std::mem::take(&mut sheets[place]), b'\n');
+            sheets
+        }
+        5 => {
+            let mut sheets = generate::sheets(dice);
+            mixed(dice, &mut sheets);
+            sheets
+        }
+        _ => generate::sheets(dice),
+    }
+}
+
+/// One of the two, or both, of up to 100 kB.
+fn long_sheets(dice: &mut Dice) -> [Vec<u8>; 2] {
+    let mut sheets = generate::sheets(dice);
+    let place = dice.below(3);
+    for (k, sheet) in sheets.iter_mut().enumerate() {
+        if place != k {
+            *sheet = generate::huge_sheet(dice, 100_000);
+        }
+    }
+    sheets
+}
+
+/// Fields 4 to 14 with many empty ones, at times with sizes that are not theirs.
+fn given(dice: &mut Dice) -> Given {
+    let mut given = Given::new(&generate::texts_given(dice));
+    if dice.one_in(8) {
+        given.mangle(dice);
+    }
+    given
+}
