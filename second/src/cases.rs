@@ -454,7 +454,10 @@ mod tests {
         run(&[
             ("standing|4|4=a~14=b~|", "accepted sheet 1 start 2 length 1"),
             ("standing|14|4=a~14=b~", "accepted sheet 1 start 7 length 1"),
-            ("standing|14|14=~|14=b~", "accepted sheet 1 start 3 length 0"),
+            (
+                "standing|14|14=~|14=b~",
+                "accepted sheet 1 start 3 length 0",
+            ),
             ("standing|14||14=b~", "accepted sheet 2 start 3 length 1"),
             ("standing|4||14=b~|4=x", none),
             ("standing|14", none),
@@ -471,9 +474,18 @@ mod tests {
             format!("refused {told} byte 0 {place} {sheet}|")
         };
         for (question, expected) in [
-            (format!("write standing|67|7|14=ab~|14=c~|||||||{tail}"), written),
-            (format!("write standing|1100|7||14=ab~|||||||{tail}|||"), written),
-            (format!("write standing|1101|7||14=ab~|||||||{tail}"), "unknown"),
+            (
+                format!("write standing|67|7|14=ab~|14=c~|||||||{tail}"),
+                written,
+            ),
+            (
+                format!("write standing|1100|7||14=ab~|||||||{tail}|||"),
+                written,
+            ),
+            (
+                format!("write standing|1101|7||14=ab~|||||||{tail}"),
+                "unknown",
+            ),
             (
                 format!("write standing|66|7||14=ab~|||||||{tail}"),
                 "refused 15 line 0 field 0 byte 0 needed 67 bytes 0 sheet 0|",

@@ -1,6 +1,6 @@
 //! Sheets of standing text by dice, and slips' fields beside them.
 
-use super::slips::{characters, limit, right_slip, right_words, spoil_slip, wrong, written_case};
+use super::slips::{characters, limit, right_slip, right_words, spoil_slip, written_case, wrong};
 use super::slips::{Fields, STRANGE};
 use super::{join, noise, Dice};
 use crate::cases::swapped;
@@ -57,7 +57,13 @@ pub fn standing_field(dice: &mut Dice) -> usize {
 /// The farm's sheet and the association's: both right, or one of them or both not
 /// as it should be.
 pub fn sheets(dice: &mut Dice) -> [Vec<u8>; 2] {
-    let right = *dice.pick(&[[true, true], [true, true], [true, false], [false, true], [false; 2]]);
+    let right = *dice.pick(&[
+        [true, true],
+        [true, true],
+        [true, false],
+        [false, true],
+        [false; 2],
+    ]);
     right.map(|right| {
         if right {
             right_sheet(dice)
@@ -94,7 +100,9 @@ pub fn sheet(dice: &mut Dice) -> Vec<u8> {
             let sheet = joined(&lines);
             damaged(dice, sheet)
         }
-        21 => (0..dice.between(1, 12)).map(|_| *dice.pick(b"\n\n=4")).collect(),
+        21 => (0..dice.between(1, 12))
+            .map(|_| *dice.pick(b"\n\n=4"))
+            .collect(),
         22 => noise(dice, 60),
         _ => {
             // The first of the wrong lines is to be told.
@@ -150,7 +158,10 @@ type Line = (Vec<u8>, Vec<u8>);
 
 fn right_lines(dice: &mut Dice) -> Vec<Line> {
     let rarity = *dice.pick(&[1, 2, 2, 2, 4, 20]);
-    let taken: Vec<usize> = NUMBERS.into_iter().filter(|_| dice.one_in(rarity)).collect();
+    let taken: Vec<usize> = NUMBERS
+        .into_iter()
+        .filter(|_| dice.one_in(rarity))
+        .collect();
     taken
         .into_iter()
         .map(|number| (number.to_string().into_bytes(), right_words(dice, number)))
@@ -182,8 +193,25 @@ fn spoil_line(dice: &mut Dice, lines: &mut Vec<Line>) {
         5 => lines[place].0.insert(0, *dice.pick(b"01+- =\n")),
         6 => {
             lines[place].0 = word(dice.pick(&[
-                "", "0", "3", "10", "11", "12", "15", "40", "44", "04", "013", "131", "260",
-                "4294967300", "18446744073709551620", "4\n", "4 ", "IV", "٤",
+                "",
+                "0",
+                "3",
+                "10",
+                "11",
+                "12",
+                "15",
+                "40",
+                "44",
+                "04",
+                "013",
+                "131",
+                "260",
+                "4294967300",
+                "18446744073709551620",
+                "4\n",
+                "4 ",
+                "IV",
+                "٤",
             ]))
         }
         // As many characters as may be, and one more.
@@ -197,7 +225,10 @@ fn spoil_line(dice: &mut Dice, lines: &mut Vec<Line>) {
         9 => lines[place].1.push(*dice.pick(b"=\r\n;~\t\xc5")),
         _ => {
             let fields = right_slip(dice);
-            lines[place] = (number.to_string().into_bytes(), wrong(dice, number, &fields));
+            lines[place] = (
+                number.to_string().into_bytes(),
+                wrong(dice, number, &fields),
+            );
         }
     }
 }
@@ -275,9 +306,12 @@ mod tests {
             let words: Vec<&str> = front.split(' ').collect();
             met.insert(match words[..] {
                 ["refused", "20", _, line, .., "sheet", owner, "start", "0", "length", "0"] => {
-                    format!("20 at {} of {owner}", if line < "4" { line } else { "more" })
+                    format!(
+                        "20 at {} of {owner}",
+                        if line < "4" { line } else { "more" }
+                    )
                 }
-                ["refused", number, .., "length", "0"] => format!("{number}"),
+                ["refused", number, .., "length", "0"] => number.to_string(),
                 ["accepted", "sheet", owner, ..] => format!("{field} of {owner}"),
                 ["refused", "15", ..] => "written 15".to_string(),
                 ["refused", number, _, _, _, field, .., "sheet", owner] => {
