@@ -37,7 +37,14 @@ pub fn run(size: Size, sheet: &mut Sheet) {
         |asked| {
             let (given, room) = (&asked.given, LARGEST);
             let (farm, association) = (&asked.farm, &asked.association);
-            write_standing(given.cents, &given.text, &given.sizes, farm, association, room)
+            write_standing(
+                given.cents,
+                &given.text,
+                &given.sizes,
+                farm,
+                association,
+                room,
+            )
         },
     );
     sheet.operations("slip written with standing text", race, Bar::Ratio);
