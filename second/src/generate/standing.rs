@@ -57,13 +57,12 @@ pub fn standing_field(dice: &mut Dice) -> usize {
 /// The farm's sheet and the association's: both right, or one of them or both not
 /// as it should be.
 pub fn sheets(dice: &mut Dice) -> [Vec<u8>; 2] {
-    let right = *dice.pick(&[
-        [true, true],
-        [true, true],
-        [true, false],
-        [false, true],
-        [false; 2],
-    ]);
+    let right = match dice.below(7) {
+        0 => [true, false],
+        1 => [false, true],
+        2 => [false, false],
+        _ => [true, true],
+    };
     right.map(|right| {
         if right {
             right_sheet(dice)

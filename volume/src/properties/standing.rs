@@ -3,7 +3,7 @@
 
 use super::slipwrites::{cents, needed, room_for};
 use super::{HUNDRED_THOUSAND, MILLION};
-use crate::dice::{bytes, mishap, mixed, Dice};
+use crate::dice::{bytes, mishap, Dice};
 use crate::ffi::{Part, Standing, StandingWritten, Told};
 use crate::guard::{Lender, Room, Side};
 use crate::lane::{self, Sheets};
@@ -251,24 +251,18 @@ fn read_again(trial: &Trial, slip: &[u8], fields: &[Vec<u8>], inputs: Inputs) {
 
 // Inputs.
 
-/// Mostly from second's dice; else with a mishap, each other's, or any bytes.
+/// From second's dice; or two right ones, at times one of them with a mishap, or
+/// any bytes instead of it.
 fn sheets(dice: &mut Dice) -> [Vec<u8>; 2] {
-    match dice.below(12) {
-        0 => [generate::right_sheet(dice), bytes(dice, 40)],
-        1 => [bytes(dice, 40), generate::right_sheet(dice)],
-        2..=4 => {
-            let mut sheets = [generate::right_sheet(dice), generate::right_sheet(dice)];
-            let place = dice.below(2);
-            sheets[place] = mishap(dice, std::mem::take(&mut sheets[place]), b'\n');
-            sheets
-        }
-        5 => {
-            let mut sheets = generate::sheets(dice);
-            mixed(dice, &mut sheets);
-            sheets
-        }
-        _ => generate::sheets(dice),
+    let mut sheets = [generate::right_sheet(dice), generate::right_sheet(dice)];
+    let sheet = &mut sheets[dice.below(2)];
+    match dice.below(16) {
+        0 => *sheet = bytes(dice, 40),
+        1..=3 => *sheet = mishap(dice, std::mem::take(sheet), b'\n'),
+        4..=7 => {}
+        _ => return generate::sheets(dice),
     }
+    sheets
 }
 
 /// One of the two, or both, of up to 100 kB.
