@@ -197,54 +197,20 @@ mod tests {
         ] {
             assert_eq!(malformed(right), 0, "{}", right.escape_ascii());
         }
+        let numbers = "0 1 2 3 10 11 12 15 40 44 04 013 113 133 260 4294967300 \
+            18446744073709551620 +4 -4 4. =4 x ٤"
+            .split(' ')
+            .chain(["", " 4", "4 ", "4\t", "4\n"])
+            .map(|number| format!("{number}=\n"));
+        let texts = "4 4:a 5== 5=a= 5=; 5=€ 13=AAA 13=AAAAA 13=AAAa 13=A-AA"
+            .split(' ')
+            .chain(["13= ", "5=\t", "5=\0", "5=\r", "\r", ""])
+            .map(|line| format!("{line}\n"));
+        let unended = ["4", "4=", "4=a", "x", "\r"].map(str::to_string);
         // Each alone, and behind a right line.
-        for wrong in [
-            "\n",
-            "=\n",
-            "4\n",
-            "4",
-            "4=",
-            "4=a",
-            "x",
-            "\r\n",
-            "4=\r\n",
-            "5==\n",
-            "5=a=\n",
-            "04=\n",
-            "+4=\n",
-            " 4=\n",
-            "4 =\n",
-            "-4=\n",
-            "0=\n",
-            "1=\n",
-            "2=\n",
-            "3=\n",
-            "10=\n",
-            "11=\n",
-            "12=\n",
-            "15=\n",
-            "40=\n",
-            "44=\n",
-            "013=\n",
-            "113=\n",
-            "133=\n",
-            "=4=\n",
-            "٤=\n",
-            "4:a\n",
-            "4\n=\n",
-            "13=AAA\n",
-            "13=AAAAA\n",
-            "13=AAAa\n",
-            "13= \n",
-            "5=\t\n",
-            "5=\0\n",
-            "5=;\n",
-            "260=\n",
-            "4294967300=\n",
-            "18446744073709551620=\n",
-        ] {
+        for wrong in numbers.chain(texts).chain(unended) {
             assert_eq!(malformed(wrong.as_bytes()), 1, "{wrong:?}");
-            let behind = ["4=\n", wrong].concat();
+            let behind = format!("4=\n{wrong}");
             assert_eq!(malformed(behind.as_bytes()), 2, "{wrong:?}");
         }
         for bytes in [&b"5=\xc5\n"[..], b"5=\xbd\n", b"5=\xff\n", b"5=\xc4\xbd\n"] {

@@ -462,6 +462,17 @@ fn room_about(dice: &mut Dice, needed: usize) -> String {
     }
 }
 
+/// What a field from 4 to 14 can be refused with.
+#[cfg(test)]
+pub(super) fn refusals_of(field: usize) -> &'static [u8] {
+    match field {
+        10 => &[3, 4, 5, 6],
+        11 => &[5, 7],
+        12 => &[3, 4, 8, 9],
+        _ => &[3, 4],
+    }
+}
+
 #[cfg(test)]
 mod tests {
     use super::*;
@@ -523,12 +534,7 @@ mod tests {
         .into();
         for verb in ["slip", "write"] {
             for field in 4..=14 {
-                let numbers: &[u8] = match field {
-                    10 => &[3, 4, 5, 6],
-                    11 => &[5, 7],
-                    12 => &[3, 4, 8, 9],
-                    _ => &[3, 4],
-                };
+                let numbers = refusals_of(field);
                 wanted.extend(numbers.iter().map(|n| format!("{verb} {field}: {n}")));
             }
         }

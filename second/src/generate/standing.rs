@@ -257,6 +257,7 @@ fn damaged(dice: &mut Dice, mut sheet: Vec<u8>) -> Vec<u8> {
 mod tests {
     use super::*;
     use crate::cases::Desk;
+    use crate::generate::slips::refusals_of;
     use crate::standing::{standing_text, Owner};
     use std::collections::BTreeSet;
 
@@ -330,12 +331,7 @@ mod tests {
             wanted.insert(format!("written 0: 20 of {owner}"));
         }
         for field in 4..=14 {
-            let numbers: &[u8] = match field {
-                10 => &[3, 4, 5, 6],
-                11 => &[5, 7],
-                12 => &[3, 4, 8, 9],
-                _ => &[3, 4],
-            };
+            let numbers = refusals_of(field);
             wanted.extend(numbers.iter().map(|n| format!("written {field}: {n} of 0")));
         }
         assert_eq!(met, wanted);

@@ -4,13 +4,13 @@
 use super::slipwrites::{cents, needed, room_for};
 use super::{HUNDRED_THOUSAND, MILLION};
 use crate::dice::{bytes, mishap, Dice};
-use crate::ffi::{Part, Standing, StandingWritten, Told};
+use crate::ffi::{Part, Standing, StandingWritten, Told, Valued};
 use crate::guard::{Lender, Room, Side};
 use crate::lane::{self, Sheets};
 use crate::lent::{Given, Shelf};
-use crate::trial::{told, Inputs, Plan, Trial};
+use crate::trial::{told, Inputs, Plan, Shown, Trial};
 use second::generate;
-use second::slip::LARGEST;
+use second::slip::TEXTS;
 use second::standing::{standing_text, write_standing, Owner, Refused, NUMBERS};
 
 /// The most bytes of a sheet here.
@@ -18,8 +18,10 @@ const LONGEST: usize = 131_072;
 
 pub fn run(plan: &Plan) {
     let mut desk = Desk {
-        farm: Lender::new(LONGEST),
-        association: Lender::new(LONGEST),
+        sheets: Pair {
+            farm: Lender::new(LONGEST),
+            association: Lender::new(LONGEST),
+        },
         shelf: Shelf::new(),
         out: Room::new(4096),
         other: Room::new(4096),
@@ -39,34 +41,35 @@ pub fn run(plan: &Plan) {
         trial.answered(number);
     });
     plan.run("standing beside slip", MILLION, |trial| {
-        let number = match trial.number() % 2 {
-            0 => without_sheets(trial, &mut desk),
-            _ => put_together(trial, &mut desk),
+        let sheets = match trial.number() % 3 {
+            0 => Default::default(),
+            _ => sheets(&mut trial.dice),
         };
-        trial.answered(number);
+        beside(trial, &mut desk, &sheets);
     });
 }
 
 /// The memory that a trial lends.
 struct Desk {
-    farm: Lender,
-    association: Lender,
+    sheets: Pair,
     shelf: Shelf,
     out: Room,
     other: Room,
 }
 
-/// Lends both sheets.
-fn lend<'a>(
-    farm: &'a mut Lender,
-    association: &'a mut Lender,
-    dice: &mut Dice,
-    sheets: &[Vec<u8>; 2],
-) -> Sheets<'a> {
-    let [own, common] = sheets;
-    Sheets {
-        farm: farm.lend(own, Side::any(dice)),
-        association: association.lend(common, Side::any(dice)),
+/// The memory of two sheets.
+struct Pair {
+    farm: Lender,
+    association: Lender,
+}
+
+impl Pair {
+    fn lend(&mut self, dice: &mut Dice, sheets: &[Vec<u8>; 2]) -> Sheets<'_> {
+        let [farm, association] = sheets;
+        Sheets {
+            farm: self.farm.lend(farm, Side::any(dice)),
+            association: self.association.lend(association, Side::any(dice)),
+        }
     }
 }
 
@@ -79,12 +82,7 @@ fn of_owner(owner: Option<Owner>) -> usize {
 
 fn asked(trial: &mut Trial, desk: &mut Desk, sheets: &[Vec<u8>; 2]) {
     let field = generate::standing_field(&mut trial.dice);
-    let lent = lend(
-        &mut desk.farm,
-        &mut desk.association,
-        &mut trial.dice,
-        sheets,
-    );
+    let lent = desk.sheets.lend(&mut trial.dice, sheets);
     let ours = lane::standing_text(field, lent);
     let [farm, association] = sheets;
     let theirs = match standing_text(field, farm, association) {
@@ -125,19 +123,11 @@ fn written(trial: &mut Trial, desk: &mut Desk, sheets: &[Vec<u8>; 2]) -> usize {
         needed => room_for(dice, needed),
     };
     let side = Side::any(dice);
-    let lent = lend(&mut desk.farm, &mut desk.association, dice, sheets);
+    let lent = desk.sheets.lend(dice, sheets);
     let (out, before) = desk.out.lend::<u8>(dice, size, side);
     let ours = lane::slip_write_standing(cents, desk.shelf.lend(&given, side), lent, out);
     let (theirs, owner) = write(size);
-    let sizes = &given.sizes[..];
-    let inputs: Inputs = &[
-        ("cents", &cents),
-        ("text", &given.text),
-        ("sizes", &sizes),
-        ("farm", farm),
-        ("association", association),
-        ("room", &size),
-    ];
+    let inputs: Inputs = &shown(&cents, &given, sheets, &size);
     let expected = StandingWritten {
         told: told(&theirs),
         value: theirs.as_ref().map_or(0, Vec::len),
@@ -149,102 +139,95 @@ fn written(trial: &mut Trial, desk: &mut Desk, sheets: &[Vec<u8>; 2]) -> usize {
     ours.told.number
 }
 
+/// What a writer is given.
+fn shown<'a>(
+    cents: &'a u64,
+    given: &'a Given,
+    sheets: &'a [Vec<u8>; 2],
+    room: &'a usize,
+) -> [(&'a str, &'a dyn Shown); 6] {
+    [
+        ("cents", cents),
+        ("text", &given.text),
+        ("sizes", &given.sizes),
+        ("farm", &sheets[0]),
+        ("association", &sheets[1]),
+        ("room", room),
+    ]
+}
+
 // Lanecockle's calls against each other.
 
-/// Without a line in either sheet a slip is written as it was before.
-fn without_sheets(trial: &mut Trial, desk: &mut Desk) -> usize {
+/// What is written is what the plain writer makes of the fields with the standing
+/// texts in their empty places, and so of the fields alone where the sheets are
+/// empty; the reader has them again.
+fn beside(trial: &mut Trial, desk: &mut Desk, sheets: &[Vec<u8>; 2]) {
     let dice = &mut trial.dice;
     let (cents, given) = (cents(dice), given(dice));
-    let size = room_for(dice, needed(&given));
+    let lent = desk.sheets.lend(dice, sheets);
+    let (filled, malformed) = filled(&given, lent);
+    let size = room_for(dice, needed(&filled));
     let side = Side::any(dice);
-    let fields = desk.shelf.lend(&given, side);
     let (out, before) = desk.out.lend::<u8>(dice, size, side);
     let (other, _) = desk.other.lend::<u8>(dice, size, side);
     other.copy_from_slice(before);
-    let plain = lane::slip_write(cents, fields, out);
-    let standing = lane::slip_write_standing(cents, fields, Sheets::NONE, other);
-    let sizes = &given.sizes[..];
-    let inputs: Inputs = &[
-        ("cents", &cents),
-        ("text", &given.text),
-        ("sizes", &sizes),
-        ("room", &size),
-    ];
+    let ours = lane::slip_write_standing(cents, desk.shelf.lend(&given, side), lent, out);
+    let (plain, sheet) = match malformed {
+        Some(found) => (
+            Valued {
+                told: found.told,
+                value: 0,
+            },
+            found.sheet,
+        ),
+        None => (
+            lane::slip_write(cents, desk.shelf.lend(&filled, side), other),
+            0,
+        ),
+    };
     let expected = StandingWritten {
         told: plain.told,
         value: plain.value,
-        sheet: 0,
+        sheet,
     };
-    let call = "slip_write_standing without sheets";
-    trial.same(call, standing, expected, inputs);
-    trial.same_room(call, other, out, &[], inputs);
-    plain.told.number
+    let inputs: Inputs = &shown(&cents, &given, sheets, &size);
+    let call = "slip_write_standing beside slip_write";
+    trial.same(call, ours, expected, inputs);
+    trial.same_room(call, out, other, &[], inputs);
+    if ours.told.number == 0 {
+        read_again(trial, &out[..ours.value], &filled, inputs);
+    }
+    trial.answered(ours.told.number);
 }
 
-/// What is written is what the writer makes of the given fields and the standing
-/// texts, and the reader has them again.
-fn put_together(trial: &mut Trial, desk: &mut Desk) -> usize {
-    let dice = &mut trial.dice;
-    let (mut fields, sheets) = (generate::texts_given(dice), sheets(dice));
-    let cents = cents(dice);
-    let side = Side::any(dice);
-    let lent = lend(&mut desk.farm, &mut desk.association, dice, &sheets);
-    let (out, before) = desk.out.lend::<u8>(dice, LARGEST, side);
-    let given = Given::new(&fields);
-    let written = lane::slip_write_standing(cents, desk.shelf.lend(&given, side), lent, out);
-    let mut malformed = None;
-    for number in NUMBERS {
-        let found = lane::standing_text(number, lent);
-        malformed = malformed.or((found.told.number != 0).then_some(found));
-        let sheet = [&[][..], lent.farm, lent.association][found.sheet];
-        if fields[number - 4].is_empty() && found.told.number == 0 {
-            fields[number - 4] = sheet[found.start..][..found.length].to_vec();
-        }
-    }
-    let sizes = &given.sizes[..];
-    let inputs: Inputs = &[
-        ("cents", &cents),
-        ("text", &given.text),
-        ("sizes", &sizes),
-        ("farm", &sheets[0]),
-        ("association", &sheets[1]),
-    ];
-    let given = Given::new(&fields);
-    let (other, _) = desk.other.lend::<u8>(dice, LARGEST, side);
-    other.copy_from_slice(before);
-    let expected = match malformed {
-        Some(found) => StandingWritten {
-            told: found.told,
-            value: 0,
-            sheet: found.sheet,
-        },
-        None => {
-            let plain = lane::slip_write(cents, desk.shelf.lend(&given, side), other);
-            StandingWritten {
-                told: plain.told,
-                value: plain.value,
-                sheet: 0,
-            }
-        }
+/// The fields with the standing texts in their empty places, or the malformed
+/// line. Sizes that are not the text's are left to the writer.
+fn filled(given: &Given, sheets: Sheets) -> (Given, Option<Standing>) {
+    let Ok(mut texts) = given.fields::<TEXTS>() else {
+        return (given.clone(), None);
     };
-    let call = "slip_write_standing, put together";
-    trial.same(call, written, expected, inputs);
-    trial.same_room(call, out, other, &[], inputs);
-    if written.told.number == 0 {
-        read_again(trial, &out[..written.value], &fields, inputs);
+    for number in NUMBERS {
+        let found = lane::standing_text(number, sheets);
+        if found.told.number != 0 {
+            return (given.clone(), Some(found));
+        }
+        let sheet = [&[][..], sheets.farm, sheets.association][found.sheet];
+        if texts[number - 4].is_empty() {
+            texts[number - 4] = &sheet[found.start..][..found.length];
+        }
     }
-    written.told.number
+    (Given::new(&texts.map(<[u8]>::to_vec)), None)
 }
 
 /// The reader accepts the slip and has each field where it was put.
-fn read_again(trial: &Trial, slip: &[u8], fields: &[Vec<u8>], inputs: Inputs) {
+fn read_again(trial: &Trial, slip: &[u8], filled: &Given, inputs: Inputs) {
     trial.same("slip_read", lane::slip_read(slip), Told::default(), inputs);
     let mut start = 29;
-    for (number, field) in (4..).zip(fields) {
+    for (number, field) in (4..).zip(filled.fields::<TEXTS>().unwrap_or_default()) {
         let length = field.len();
         let part = lane::slip_field(slip, number);
         trial.same("slip_field", part, Part { start, length }, inputs);
-        trial.same("the field", &slip[start..][..length], &field[..], inputs);
+        trial.same("its bytes", &slip[start..][..length], field, inputs);
         start += length + 1;
     }
 }
