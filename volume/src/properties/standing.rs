@@ -13,6 +13,10 @@ use second::generate;
 use second::slip::TEXTS;
 use second::standing::{standing_text, write_standing, Owner, Refused, NUMBERS};
 
+/// The sheets by the numbers of the header.
+const FARM: usize = 1;
+const ASSOCIATION: usize = 2;
+
 /// The most bytes of a sheet here.
 const LONGEST: usize = 131_072;
 
@@ -75,7 +79,11 @@ impl Pair {
 
 /// Which sheet, in the words of the header.
 fn of_owner(owner: Option<Owner>) -> usize {
-    owner.map_or(0, |owner| owner as usize)
+    match owner {
+        None => 0,
+        Some(Owner::Farm) => FARM,
+        Some(Owner::Association) => ASSOCIATION,
+    }
 }
 
 // Against second.
@@ -89,7 +97,7 @@ fn asked(trial: &mut Trial, desk: &mut Desk, sheets: &[Vec<u8>; 2]) {
         Ok(None) => Standing::default(),
         Ok(Some(found)) => Standing {
             told: Told::default(),
-            sheet: found.owner as usize,
+            sheet: of_owner(Some(found.owner)),
             start: found.start,
             length: found.text.len(),
         },
@@ -211,9 +219,14 @@ fn filled(given: &Given, sheets: Sheets) -> (Given, Option<Standing>) {
         if found.told.number != 0 {
             return (given.clone(), Some(found));
         }
-        let sheet = [&[][..], sheets.farm, sheets.association][found.sheet];
+        let sheet = match found.sheet {
+            FARM => sheets.farm,
+            ASSOCIATION => sheets.association,
+            _ => &[],
+        };
         if texts[number - 4].is_empty() {
-            texts[number - 4] = &sheet[found.start..][..found.length];
+            let end = found.start.saturating_add(found.length);
+            texts[number - 4] = sheet.get(found.start..end).unwrap_or_default();
         }
     }
     (Given::new(&texts.map(<[u8]>::to_vec)), None)
