@@ -34,6 +34,10 @@ pub fn run(plan: &Plan) {
         let sheets = sheets(&mut trial.dice);
         asked(trial, &mut desk, &sheets);
     });
+    plan.run("standing, every sheet", MILLION, |trial| {
+        let sheets = [short_sheet(trial.number() - 1), Vec::new()];
+        asked(trial, &mut desk, &sheets);
+    });
     plan.run("standing, long sheets", HUNDRED_THOUSAND / 10, |trial| {
         let sheets = long_sheets(&mut trial.dice);
         asked(trial, &mut desk, &sheets);
@@ -261,6 +265,17 @@ fn sheets(dice: &mut Dice) -> [Vec<u8>; 2] {
     sheets
 }
 
+/// All sheets of these bytes, the shortest first: a million are all of up to six.
+fn short_sheet(number: u64) -> Vec<u8> {
+    const BYTES: &[u8; 9] = b"4513=\nA 0";
+    let (mut sheet, mut rest) = (Vec::new(), number);
+    while rest > 0 {
+        sheet.push(BYTES[(rest - 1) as usize % BYTES.len()]);
+        rest = (rest - 1) / BYTES.len() as u64;
+    }
+    sheet
+}
+
 /// One of the two, or both, of up to 100 kB.
 fn long_sheets(dice: &mut Dice) -> [Vec<u8>; 2] {
     let mut sheets = generate::sheets(dice);
@@ -280,4 +295,17 @@ fn given(dice: &mut Dice) -> Given {
         given.mangle(dice);
     }
     given
+}
+
+#[cfg(test)]
+mod tests {
+    use super::*;
+    use std::collections::BTreeSet;
+
+    #[test]
+    fn every_sheet_once() {
+        let all: BTreeSet<Vec<u8>> = (0..1 + 9 + 81 + 729).map(short_sheet).collect();
+        assert_eq!(all.len(), 1 + 9 + 81 + 729);
+        assert!(all.iter().all(|sheet| sheet.len() <= 3));
+    }
 }
