@@ -8,6 +8,7 @@ use crate::ledger::{in_cents, Amount, Entry};
 use crate::reference::Model;
 use crate::refusal::{Reason, Refusal};
 use crate::slip::{Slip, TEXTS};
+use crate::standing::{standing_text, write_standing, Owner, Refused, Standing};
 use crate::wage::record::Told;
 use crate::wage::{place, write_close, write_group, write_label, write_order, Judge, LINE};
 use crate::wet::{list_iban, list_reference, Listing};
@@ -77,6 +78,8 @@ impl Desk {
                 list_reference(fields.text(1), fields.text(2), room)
             }),
             b"write" => self.write_slip(&fields),
+            b"standing" => Some(standing(&fields)),
+            b"write standing" => self.write_with_standing(&fields),
             b"300" | b"301" | b"309" | b"399" => self.write_line(verb, &fields),
             _ => return self.handle(verb, &fields),
         };
@@ -89,14 +92,33 @@ impl Desk {
         let cents = fields.number(1);
         let texts = fields.behind::<TEXTS>(HEAD);
         let written = texts.and_then(|texts| Slip { cents, texts }.write(room));
-        Some(match written {
-            Err(refusal) => format!("{} bytes 0|", told(refusal)),
+        Some(self.written(written, ""))
+    }
+
+    /// Nothing where the memory has no such room.
+    fn write_with_standing(&mut self, fields: &Fields) -> Option<String> {
+        let room = Some(fields.size(0)).filter(|&n| n <= MEMORY)?;
+        let cents = fields.number(1);
+        let (farm, association) = (fields.sheet(2), fields.sheet(3));
+        let given = fields.0.get(HEAD..).unwrap_or_default();
+        let (text, sizes) = (given.concat(), given.iter().map(|f| f.len()));
+        let sizes: Vec<usize> = sizes.collect();
+        let written = write_standing(cents, &text, &sizes, &farm, &association, room);
+        let owner = written.as_ref().err().and_then(|refused| refused.owner);
+        let more = format!(" sheet {}", number_of(owner));
+        Some(self.written(written.map_err(|refused| refused.refusal), &more))
+    }
+
+    /// What a writer of slips answers, and more behind the number of bytes.
+    fn written(&mut self, written: Result<Vec<u8>, Refusal>, more: &str) -> String {
+        match written {
+            Err(refusal) => format!("{} bytes 0{more}|", told(refusal)),
             Ok(bytes) => {
                 self.memory[..bytes.len()].copy_from_slice(&bytes);
                 let text = String::from_utf8(bytes).expect("permitted only");
-                format!("accepted bytes {}|{text}", text.len())
+                format!("accepted bytes {}{more}|{text}", text.len())
             }
-        })
+        }
     }
 
     /// Nothing where the memory has no such room.
@@ -179,6 +201,11 @@ impl<'a> Fields<'a> {
         u32::try_from(self.number(k)).unwrap_or(0)
     }
 
+    /// A sheet: `~` stands for a line feed.
+    fn sheet(&self, k: usize) -> Vec<u8> {
+        swapped(self.text(k), b'~', b'\n')
+    }
+
     /// So many fields as a writer takes them: the bytes of one too many would be
     /// left over in the text that they are lent in, which is 1.
     fn behind<const N: usize>(&self, head: usize) -> Result<[&'a [u8]; N], Refusal> {
@@ -224,6 +251,24 @@ fn entered(result: Result<Entry, Refusal>) -> String {
         Ok(Amount::Lipa(lipa)) => format!("accepted kuna {lipa} cents {}", in_cents(lipa)),
         Err(refusal) => told(refusal),
     }
+}
+
+fn standing(fields: &Fields) -> String {
+    let (farm, association) = (fields.sheet(1), fields.sheet(2));
+    let (verdict, owner, start, length) = match standing_text(fields.size(0), &farm, &association) {
+        Ok(None) => (verdict(Ok(())), None, 0, 0),
+        Ok(Some(Standing { owner, start, text })) => {
+            (verdict(Ok(())), Some(owner), start, text.len())
+        }
+        Err(Refused { refusal, owner }) => (told(refusal), owner, 0, 0),
+    };
+    let sheet = number_of(owner);
+    format!("{verdict} sheet {sheet} start {start} length {length}")
+}
+
+/// 0 where it is nobody's sheet.
+fn number_of(owner: Option<Owner>) -> usize {
+    owner.map_or(0, |owner| owner as usize)
 }
 
 /// Nothing where the room is more than ten thousand numbers.
@@ -398,6 +443,79 @@ mod tests {
     }
 
     #[test]
+    fn standing_texts() {
+        let refused = |number: u8, line: u8, sheet: u8| {
+            format!(
+                "refused {number} line {line} field 0 byte 0 needed 0 sheet {sheet} \
+                 start 0 length 0"
+            )
+        };
+        let none = "accepted sheet 0 start 0 length 0";
+        run(&[
+            ("standing|4|4=a~14=b~|", "accepted sheet 1 start 2 length 1"),
+            ("standing|14|4=a~14=b~", "accepted sheet 1 start 7 length 1"),
+            (
+                "standing|14|14=~|14=b~",
+                "accepted sheet 1 start 3 length 0",
+            ),
+            ("standing|14||14=b~", "accepted sheet 2 start 3 length 1"),
+            ("standing|4||14=b~|4=x", none),
+            ("standing|14", none),
+            ("standing", &refused(28, 0, 0)),
+            ("standing|12|x|x", &refused(28, 0, 0)),
+            ("standing|14|4=a~x|y", &refused(20, 2, 1)),
+            ("standing|14|14=a~|y", &refused(20, 1, 2)),
+        ]);
+        let tail = "HR1210010051863000160|HR99";
+        let written = "accepted bytes 67 sheet 0|HRVHUB30\nEUR\n000000000000007\n\n\n\n\n\n\n\
+            HR1210010051863000160\nHR99\n\n\nab\n";
+        let nothing = |told: &str, sheet: u8| {
+            let place = "needed 0 bytes 0 sheet";
+            format!("refused {told} byte 0 {place} {sheet}|")
+        };
+        for (question, expected) in [
+            (
+                format!("write standing|67|7|14=ab~|14=c~|||||||{tail}"),
+                written,
+            ),
+            (
+                format!("write standing|1100|7||14=ab~|||||||{tail}|||"),
+                written,
+            ),
+            (
+                format!("write standing|1101|7||14=ab~|||||||{tail}"),
+                "unknown",
+            ),
+            (
+                format!("write standing|66|7||14=ab~|||||||{tail}"),
+                "refused 15 line 0 field 0 byte 0 needed 67 bytes 0 sheet 0|",
+            ),
+            (
+                format!("write standing|0|1000000000000000|x|x|||||||{tail}||||x"),
+                &nothing("1 line 0 field 0", 0),
+            ),
+            (
+                format!("write standing|0|1000000000000000|4=~x|x|;||||||{tail}"),
+                &nothing("20 line 2 field 0", 1),
+            ),
+            (
+                format!("write standing|0|1000000000000000||x|;||||||{tail}"),
+                &nothing("20 line 1 field 0", 2),
+            ),
+            (
+                format!("write standing|0|1000000000000000|||;||||||{tail}"),
+                &nothing("4 line 0 field 3", 0),
+            ),
+            (
+                format!("write standing|0|7|4=a~||;||||||{tail}"),
+                &nothing("3 line 0 field 4", 0),
+            ),
+        ] {
+            run(&[(&question, expected)]);
+        }
+    }
+
+    #[test]
     fn wage_lines() {
         run(&[
             (
@@ -488,7 +606,7 @@ mod tests {
         for question in [HAND, WAGE].concat().split(|&b| b == b'\n') {
             answers.push(desk.answer(question));
         }
-        for number in (1..=16).map(|n| format!("refused {n} ")) {
+        for number in (1..=16).chain([20, 28]).map(|n| format!("refused {n} ")) {
             let met = answers.iter().any(|a| a.starts_with(number.as_bytes()));
             assert!(met, "{number}");
         }

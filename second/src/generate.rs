@@ -10,10 +10,12 @@ use std::io::{self, Write};
 
 mod ledgers;
 mod slips;
+mod standing;
 mod wagecases;
 mod wages;
 pub use ledgers::{ledger_slip, lipa, right_kuna_slip};
 pub use slips::{right_slip, slip, spoil_slip};
+pub use standing::{huge_sheet, right_sheet, sheet, sheets, standing_field, texts_given};
 pub use wagecases::{spoilt_line, wage_cases};
 pub use wages::{
     large_wage_file, long_wage_file, right_day, right_group, right_label, right_order,
@@ -83,7 +85,7 @@ pub fn cases(seed: u64, count: usize, mut output: impl Write) -> io::Result<()> 
 }
 
 fn case(dice: &mut Dice) -> Vec<u8> {
-    match dice.below(158) {
+    match dice.below(192) {
         0..=11 => {
             let text = account(dice);
             join(&[b"iban", &spoilt(dice, text)])
@@ -110,6 +112,8 @@ fn case(dice: &mut Dice) -> Vec<u8> {
         117..=128 => slips::write_case(dice),
         129..=149 => ledgers::ledger_case(dice),
         150..=153 => ledgers::lipa_case(dice),
+        154..=171 => standing::standing_case(dice),
+        172..=187 => standing::write_standing_case(dice),
         _ => stray(dice),
     }
 }
@@ -492,7 +496,7 @@ fn room_for(dice: &mut Dice, line: &[u8]) -> usize {
 
 /// A line whose verb is none, or stands alone.
 fn stray(dice: &mut Dice) -> Vec<u8> {
-    const VERBS: [&str; 21] = [
+    const VERBS: [&str; 25] = [
         "iban",
         "oib",
         "ref",
@@ -514,6 +518,10 @@ fn stray(dice: &mut Dice) -> Vec<u8> {
         "ledger",
         "ledgers",
         "lipa",
+        "standing",
+        "write standing",
+        "standing text",
+        "write  standing",
     ];
     match dice.below(3) {
         0 => noise(dice, 40),
@@ -619,6 +627,12 @@ mod tests {
             "ledger accepted",
             "ledger 2",
             "lipa cents",
+            "standing accepted",
+            "standing 20",
+            "standing 28",
+            "write standing accepted",
+            "write standing 15",
+            "write standing 20",
         ] {
             assert!(met.contains(wanted), "{wanted}");
         }

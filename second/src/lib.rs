@@ -1,6 +1,6 @@
 //! The ground of document 01 written a second time: check digits, IBAN, OIB,
 //! the sixteen reference models, the listing of wet texts, the slip and the
-//! wage file; and of document 02, W1: slips in kuna.
+//! wage file; and of document 02, W1: slips in kuna, and W2: standing text.
 //!
 //! It shares only the formats with the first implementation, so that an answer
 //! both give is unlikely to be the same slip of the pen twice.
@@ -15,5 +15,6 @@ pub mod lent;
 pub mod reference;
 pub mod refusal;
 pub mod slip;
+pub mod standing;
 pub mod wage;
 pub mod wet;

@@ -1,8 +1,8 @@
-//! The refusals of 01 that this ground can give.
+//! The refusals of 01, and those of 02 that its requests have brought so far.
 
 use std::fmt;
 
-/// Why a text is refused; the discriminant is 01's number.
+/// Why a text is refused; the discriminant is the documents' number.
 #[derive(Clone, Copy, Debug, PartialEq, Eq)]
 #[repr(u8)]
 pub enum Reason {
@@ -23,12 +23,15 @@ pub enum Reason {
     Room = 15,
     Marks = 16,
     Lines = 17,
+    Sheet = 20,
+    Field = 28,
 }
 
 #[derive(Clone, Copy, Debug, PartialEq, Eq)]
 pub struct Refusal {
     pub reason: Reason,
-    /// The line of a wage file; 0 for a slip and for a line that stands alone.
+    /// The line of a wage file or a sheet; 0 for a slip and for a line that stands
+    /// alone.
     pub line: usize,
     /// The field of a slip or line; 0 for a text that stands alone.
     pub field: usize,
@@ -56,7 +59,7 @@ impl Refusal {
         }
     }
 
-    /// What was refused in a line that stood alone, as the line of a file.
+    /// What was refused in a line that stood alone, as the line of a file or sheet.
     pub const fn in_line(self, line: usize) -> Self {
         Refusal { line, ..self }
     }

@@ -127,18 +127,25 @@ fn judge(
     let model = texts[11 - 4];
     for (number, (text, &start)) in (4..).zip(texts.iter().zip(starts)) {
         match number {
-            4 => free(text, 30),
-            5 | 6 | 9 => free(text, 27),
-            7 | 8 => free(text, 25),
             10 => currency.recipient(text),
             11 => Model::named(text).map(|_| ()),
             12 => Model::named(model).and_then(|m| m.judge(text)),
-            13 => purpose(text),
-            _ => free(text, 35),
+            _ => judge_words(number, text),
         }
         .map_err(|r| r.in_field(number, start))?;
     }
     Ok(())
+}
+
+/// Judges one of the fields that a sheet may have too: 4 to 9, 13 and 14.
+pub fn judge_words(number: usize, text: &[u8]) -> Result<(), Refusal> {
+    match number {
+        4 => free(text, 30),
+        5 | 6 | 9 => free(text, 27),
+        7 | 8 => free(text, 25),
+        13 => purpose(text),
+        _ => free(text, 35),
+    }
 }
 
 fn word(text: &[u8], wanted: &[u8]) -> Result<(), Refusal> {

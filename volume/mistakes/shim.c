@@ -290,6 +290,138 @@ uint64_t lanecockle_lipa_in_cents(uint64_t lipa)
     return right_lanecockle_lipa_in_cents(lipa);
 }
 
+/* Standing text */
+
+lanecockle_standing right_lanecockle_standing_text(size_t, const uint8_t *, size_t, const uint8_t *, size_t);
+lanecockle_standing_written right_lanecockle_slip_write_standing(uint64_t, const uint8_t *, size_t, const size_t *,
+                                                                 size_t, const uint8_t *, size_t, const uint8_t *,
+                                                                 size_t, uint8_t *, size_t);
+
+/* How many bytes stand before a line, counted from 1. */
+static size_t before_line(const uint8_t *sheet, size_t length, size_t line)
+{
+    size_t at = 0;
+    while (line > 1 && at < length)
+        line -= sheet[at++] == '\n';
+    return at;
+}
+
+/* Whether a line and the one before it have one number. */
+static int twice(const uint8_t *sheet, size_t length, size_t line)
+{
+    size_t at = before_line(sheet, length, line), before = before_line(sheet, length, line - 1);
+    return line > 1 && length > at + 3 && memcmp(sheet + at, sheet + before, sheet[at] == '1' ? 3 : 2) == 0;
+}
+
+/* A sheet up to its last line feed. */
+static size_t whole_lines(const uint8_t *sheet, size_t length)
+{
+    while (length > 0 && sheet[length - 1] != '\n')
+        length--;
+    return length;
+}
+
+lanecockle_standing lanecockle_standing_text(size_t field, const uint8_t *farm, size_t farm_length,
+                                             const uint8_t *association, size_t association_length)
+{
+    if (is("standing-unended"))
+        farm_length = whole_lines(farm, farm_length);
+    lanecockle_standing found =
+        right_lanecockle_standing_text(field, farm, farm_length, association, association_length), other;
+    int faulty = found.told.number == LANECOCKLE_SHEET;
+    if (is("standing-28-last") && found.told.number == LANECOCKLE_FIELD) {
+        other = right_lanecockle_standing_text(4, farm, farm_length, association, association_length);
+        return other.told.number ? other : found;
+    }
+    if (is("standing-28-place") && found.told.number == LANECOCKLE_FIELD)
+        found.told.field = field;
+    if (is("standing-association-first") && found.sheet == LANECOCKLE_FARM && !faulty) {
+        other = right_lanecockle_standing_text(field, farm, 0, association, association_length);
+        return other.sheet ? other : found;
+    }
+    if (is("standing-empty-falls-through") && found.sheet == LANECOCKLE_FARM && found.length == 0 && !faulty)
+        return right_lanecockle_standing_text(field, farm, 0, association, association_length);
+    if (is("standing-fault-behind") && faulty && found.sheet == LANECOCKLE_FARM) {
+        farm_length = before_line(farm, farm_length, found.told.line);
+        other = right_lanecockle_standing_text(field, farm, farm_length, association, association_length);
+        return other.sheet == LANECOCKLE_FARM ? other : found;
+    }
+    if (is("standing-fault-beside") && faulty && found.sheet == LANECOCKLE_ASSOCIATION) {
+        other = right_lanecockle_standing_text(field, farm, farm_length, association, 0);
+        return other.sheet == LANECOCKLE_FARM ? other : found;
+    }
+    if (is("standing-line-counts-on") && faulty && found.sheet == LANECOCKLE_ASSOCIATION && farm_length > 0)
+        found.told.line++;
+    if (is("standing-first-of-two") && faulty && found.sheet == LANECOCKLE_FARM &&
+        twice(farm, farm_length, found.told.line))
+        found.told.line--;
+    if (is("standing-sheet") && faulty)
+        found.sheet = LANECOCKLE_NO_SHEET;
+    if (is("standing-neither") && found.told.number == 0 && found.sheet == LANECOCKLE_NO_SHEET)
+        found.sheet = LANECOCKLE_ASSOCIATION;
+    if (is("standing-empty-part") && found.length == 0)
+        found.start = 0;
+    if (is("standing-bytes") && found.length > 35)
+        memset(&found, 0, sizeof found), found.told.number = LANECOCKLE_SHEET, found.told.line = 1, found.sheet = 1;
+    if (is("standing-long") && farm_length > 65535)
+        found.told.number = 1;
+    if (is("standing-reads-farm"))
+        peek(farm, (ptrdiff_t)farm_length);
+    if (is("standing-reads-association"))
+        peek(association, (ptrdiff_t)association_length);
+    return found;
+}
+
+/* Whether each of the fields that a sheet may have is given. */
+static int all_given(const size_t *sizes, size_t count)
+{
+    size_t i;
+    for (i = 0; i < 11; i++)
+        if ((i < 6 || i > 8) && (i >= count || sizes[i] == 0))
+            return 0;
+    return 1;
+}
+
+lanecockle_standing_written lanecockle_slip_write_standing(uint64_t cents, const uint8_t *text, size_t text_length,
+                                                           const size_t *sizes, size_t count, const uint8_t *farm,
+                                                           size_t farm_length, const uint8_t *association,
+                                                           size_t association_length, uint8_t *out, size_t room)
+{
+    lanecockle_standing last = right_lanecockle_standing_text(14, farm, farm_length, association, association_length);
+    size_t shorter[11];
+    if (is("write-standing-given-loses") && count == 11 && last.sheet && together(sizes, count, 11) == text_length) {
+        memcpy(shorter, sizes, sizeof shorter);
+        text_length -= sizes[10];
+        shorter[10] = 0;
+        sizes = shorter;
+    }
+    if (is("write-standing-unused-sheets") && all_given(sizes, count))
+        farm_length = association_length = 0;
+    lanecockle_standing_written written =
+        right_lanecockle_slip_write_standing(cents, text, text_length, sizes, count, farm, farm_length, association,
+                                             association_length, out, room);
+    int faulty = written.told.number == LANECOCKLE_SHEET;
+    if (is("write-standing-amount-first") && faulty && cents >= 1000000000000000)
+        memset(&written, 0, sizeof written), written.told.number = 4, written.told.field = 3;
+    if (is("write-standing-sheet-first") && written.told.number == 1 && last.told.number)
+        written.told = last.told, written.sheet = last.sheet;
+    if (is("write-standing-needed") && written.told.number == 15 && last.length > 0)
+        written.told.needed -= last.length;
+    if (is("write-standing-sheet") && faulty)
+        written.sheet = LANECOCKLE_NO_SHEET;
+    if (is("write-standing-taken-sheet") && written.told.number == 0)
+        written.sheet = last.sheet;
+    if (is("write-standing-behind") && written.told.number == 0 && room > written.value)
+        out[written.value] ^= 1;
+    if (is("write-standing-refused-writes") && faulty && room > 0)
+        out[room - 1] ^= 1;
+    if (is("write-standing-plain") && written.told.number == 0 && farm_length + association_length == 0)
+        out[0] ^= 1;
+    if (is("write-standing-reads-sheets"))
+        peek(association, (ptrdiff_t)association_length);
+    return written;
+}
+
 /* Wage files judged */
 
 lanecockle_record right_lanecockle_judge_begin(uint64_t);
@@ -344,6 +476,8 @@ lanecockle_ended lanecockle_judge_end(lanecockle_record record)
         memset(&ended, 0, sizeof ended);
     if (is("end-strange-refusal") && record.condition == 4)
         ended.told.number = record.told.number;
+    if (is("end-sheet-forgotten") && ended.told.number == LANECOCKLE_SHEET)
+        ended.told.number = 17;
     return ended;
 }
 

@@ -5,6 +5,7 @@ pub mod inputs;
 pub mod race;
 pub mod sheet;
 pub mod slips;
+pub mod standing;
 pub mod texts;
 pub mod wages;
 

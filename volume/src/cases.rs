@@ -1,7 +1,7 @@
 //! The cases of second/README.md, answered through the static library.
 
 use crate::ffi::{Ledger, Record, Told, Valued};
-use crate::lane::{self, Lent};
+use crate::lane::{self, Lent, Sheets};
 use crate::lent::Given;
 use std::io::{self, Write};
 
@@ -59,6 +59,8 @@ impl Desk {
             }
             b"list iban" | b"list ref" => return list(&verb, &fields),
             b"write" => return self.write_slip(&fields),
+            b"standing" => return Some(standing(&fields)),
+            b"write standing" => return self.write_with_standing(&fields),
             b"300" | b"301" | b"309" | b"399" => return self.write_line(&verb, &fields),
             b"begin" | b"step" => self.judge(&verb, &fields),
             _ => return self.handle(&verb, &fields),
@@ -72,10 +74,33 @@ impl Desk {
             let written = lane::slip_write(fields.number(1), lent(&given), out);
             (written, written.value)
         })?;
+        Some(self.written(written, ""))
+    }
+
+    fn write_with_standing(&mut self, fields: &Fields) -> Option<Vec<u8>> {
+        let given = fields.given(4);
+        let [farm, association] = [2, 3].map(|k| fields.sheet(k));
+        let sheets = Sheets {
+            farm: &farm,
+            association: &association,
+        };
+        let written = self.lend(fields.size(0), |_, out| {
+            let cents = fields.number(1);
+            let written = lane::slip_write_standing(cents, lent(&given), sheets, out);
+            (written, written.value)
+        })?;
+        let (told, value) = (written.told, written.value);
+        let more = format!(" sheet {}", written.sheet);
+        Some(self.written(Valued { told, value }, &more))
+    }
+
+    /// What a writer of slips answered, more behind it, and the slip.
+    fn written(&self, written: Valued, more: &str) -> Vec<u8> {
         let mut text = valued(written, "bytes");
+        text.extend_from_slice(more.as_bytes());
         text.push(b'|');
         text.extend_from_slice(&self.memory[..written.value]);
-        Some(text)
+        text
     }
 
     fn write_line(&mut self, verb: &[u8], fields: &Fields) -> Option<Vec<u8>> {
@@ -146,6 +171,18 @@ impl Desk {
         }
         Some(Vec::new())
     }
+}
+
+fn standing(fields: &Fields) -> Vec<u8> {
+    let [farm, association] = [1, 2].map(|k| fields.sheet(k));
+    let sheets = Sheets {
+        farm: &farm,
+        association: &association,
+    };
+    let found = lane::standing_text(fields.size(0), sheets);
+    let (sheet, start, length) = (found.sheet, found.start, found.length);
+    let part = format!(" sheet {sheet} start {start} length {length}");
+    [answer(found.told), part.into_bytes()].concat()
 }
 
 fn list(verb: &[u8], fields: &Fields) -> Option<Vec<u8>> {
@@ -219,6 +256,12 @@ impl Fields {
 
     fn size(&self, k: usize) -> usize {
         self.number(k) as usize
+    }
+
+    /// A sheet: `~` stands for a line feed.
+    fn sheet(&self, k: usize) -> Vec<u8> {
+        let lines = self.text(k).split(|&b| b == b'~');
+        lines.collect::<Vec<_>>().join(&b'\n')
     }
 
     /// The fields from one on, as they are lent.

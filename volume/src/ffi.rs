@@ -48,6 +48,25 @@ pub struct Ledger {
     pub converted: u64,
 }
 
+/// Which sheet has the text, and where in it.
+#[repr(C)]
+#[derive(Clone, Copy, Debug, Default, PartialEq, Eq)]
+pub struct Standing {
+    pub told: Told,
+    pub sheet: usize,
+    pub start: usize,
+    pub length: usize,
+}
+
+/// What a writer of slips with standing text answers.
+#[repr(C)]
+#[derive(Clone, Copy, Debug, Default, PartialEq, Eq)]
+pub struct StandingWritten {
+    pub told: Told,
+    pub value: usize,
+    pub sheet: usize,
+}
+
 /// Exact cents: `high` times 10^18, and `low`.
 #[repr(C)]
 #[derive(Clone, Copy, Debug, Default, PartialEq, Eq)]
@@ -123,6 +142,27 @@ extern "C" {
     pub fn lanecockle_ledger_read(slip: *const u8, length: usize) -> Ledger;
     pub fn lanecockle_ledger_field(slip: *const u8, length: usize, number: usize) -> Part;
     pub fn lanecockle_lipa_in_cents(lipa: u64) -> u64;
+
+    pub fn lanecockle_standing_text(
+        field: usize,
+        farm: *const u8,
+        farm_length: usize,
+        association: *const u8,
+        association_length: usize,
+    ) -> Standing;
+    pub fn lanecockle_slip_write_standing(
+        cents: u64,
+        text: *const u8,
+        text_length: usize,
+        sizes: *const usize,
+        count: usize,
+        farm: *const u8,
+        farm_length: usize,
+        association: *const u8,
+        association_length: usize,
+        out: *mut u8,
+        room: usize,
+    ) -> StandingWritten;
 
     pub fn lanecockle_judge_begin(day: u64) -> Record;
     pub fn lanecockle_judge_step(record: Record, line: *const u8, length: usize) -> Record;

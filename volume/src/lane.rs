@@ -9,6 +9,20 @@ pub struct Lent<'a> {
     pub sizes: &'a [usize],
 }
 
+/// The farm's sheet and the association's.
+#[derive(Clone, Copy)]
+pub struct Sheets<'a> {
+    pub farm: &'a [u8],
+    pub association: &'a [u8],
+}
+
+impl Sheets<'_> {
+    pub const NONE: Sheets<'static> = Sheets {
+        farm: &[],
+        association: &[],
+    };
+}
+
 pub fn check_digits(rule: u32, digits: &[u8]) -> Told {
     unsafe { lanecockle_check_digits(rule, digits.as_ptr(), digits.len()) }
 }
@@ -94,6 +108,43 @@ pub fn ledger_field(slip: &[u8], number: usize) -> Part {
 
 pub fn lipa_in_cents(lipa: u64) -> u64 {
     unsafe { lanecockle_lipa_in_cents(lipa) }
+}
+
+pub fn standing_text(field: usize, sheets: Sheets) -> Standing {
+    let Sheets { farm, association } = sheets;
+    unsafe {
+        lanecockle_standing_text(
+            field,
+            farm.as_ptr(),
+            farm.len(),
+            association.as_ptr(),
+            association.len(),
+        )
+    }
+}
+
+pub fn slip_write_standing(
+    cents: u64,
+    fields: Lent,
+    sheets: Sheets,
+    out: &mut [u8],
+) -> StandingWritten {
+    let Sheets { farm, association } = sheets;
+    unsafe {
+        lanecockle_slip_write_standing(
+            cents,
+            fields.text.as_ptr(),
+            fields.text.len(),
+            fields.sizes.as_ptr(),
+            fields.sizes.len(),
+            farm.as_ptr(),
+            farm.len(),
+            association.as_ptr(),
+            association.len(),
+            out.as_mut_ptr(),
+            out.len(),
+        )
+    }
 }
 
 pub fn judge_begin(day: u64) -> Record {

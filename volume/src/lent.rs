@@ -6,6 +6,7 @@ use crate::lane::Lent;
 use second::refusal::Refusal;
 
 /// A text of fields one behind the other, and their sizes, right or wrong.
+#[derive(Clone)]
 pub struct Given {
     pub text: Vec<u8>,
     pub sizes: Vec<usize>,

@@ -10,6 +10,7 @@ mod references;
 mod rounds;
 mod slips;
 mod slipwrites;
+mod standing;
 mod wagefiles;
 mod wages;
 mod wagewrites;
@@ -25,6 +26,7 @@ pub fn run(plan: &Plan) {
     slips::run(plan);
     slipwrites::run(plan);
     ledgers::run(plan);
+    standing::run(plan);
     lines::run(plan);
     records::run(plan);
     wagewrites::run(plan);

@@ -165,7 +165,16 @@ macro_rules! shown_as_it_is {
         })*
     };
 }
-shown_as_it_is!(u8, u16, u32, u64, usize, &[usize], crate::ffi::Record);
+shown_as_it_is!(
+    u8,
+    u16,
+    u32,
+    u64,
+    usize,
+    &[usize],
+    Vec<usize>,
+    crate::ffi::Record
+);
 
 /// Second's answer in the words of the header.
 pub fn told<T>(answer: &Result<T, Refusal>) -> Told {

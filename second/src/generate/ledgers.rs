@@ -170,6 +170,7 @@ fn misprinted(dice: &mut Dice) -> Vec<u8> {
 mod tests {
     use super::*;
     use crate::cases::Desk;
+    use crate::generate::slips::refusals_of;
     use crate::ledger::{in_cents, Amount, Entry};
     use std::collections::BTreeSet;
 
@@ -238,12 +239,7 @@ mod tests {
             let always = ["accepted", "0: 1", "0: 2", "1: 5", "2: 5", "3: 3", "3: 4"];
             wanted.extend(always.map(|answer| format!("{kind} {answer}")));
             for field in 4..=14 {
-                let numbers: &[u8] = match field {
-                    10 => &[3, 4, 5, 6],
-                    11 => &[5, 7],
-                    12 => &[3, 4, 8, 9],
-                    _ => &[3, 4],
-                };
+                let numbers = refusals_of(field);
                 wanted.extend(numbers.iter().map(|n| format!("{kind} {field}: {n}")));
             }
         }

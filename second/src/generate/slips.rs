@@ -1,12 +1,13 @@
 //! Slips by dice: right ones, ones with wrong fields, and damaged ones.
 
 use super::{
-    account, amount, at_the_limits, join, misshapen, noise, reference, right_account, spoilt, Dice,
+    account, amount, at_the_limits, join, misshapen, noise, reference, right_account, slices,
+    spoilt, Dice,
 };
 use crate::cases::swapped;
 use crate::reference::MODELS;
-use crate::refusal::Reason;
-use crate::slip::{Slip, LARGEST, TEXTS, TOO_MUCH};
+use crate::refusal::{Reason, Refusal};
+use crate::slip::{Slip, LARGEST, TOO_MUCH};
 
 const LETTERS: [&str; 10] = ["Č", "č", "Ć", "ć", "Đ", "đ", "Š", "š", "Ž", "ž"];
 const PLAIN: &[u8] = b"ABCDEFGHIJKLMNOPQRSTUVWXYZabcdefghijklmnopqrstuvwxyz0123456789 ,.:-+?'/()";
@@ -55,21 +56,41 @@ pub fn write_case(dice: &mut Dice) -> Vec<u8> {
         7..=10 => spoil_slip(dice, &mut fields),
         _ => fill_up(&mut fields),
     }
-    let (amount, mut texts) = (cents(dice), fields.split_off(3));
-    let room = room_for(dice, &texts);
+    let texts = fields.split_off(3);
+    let slip = Slip {
+        cents: 0,
+        texts: slices(&texts),
+    };
+    let without_room = slip.write(0);
+    // Kind and size are a wage line's.
+    written_case(dice, b"write", [b"", b""], &texts, without_room)
+}
+
+/// A case line of a verb that writes a slip: room, amount, two words and fields 4
+/// to 14. The room is about that which the writer asks for where it has none.
+pub(super) fn written_case(
+    dice: &mut Dice,
+    verb: &[u8],
+    words: [&[u8]; 2],
+    texts: &[Vec<u8>],
+    without_room: Result<Vec<u8>, Refusal>,
+) -> Vec<u8> {
+    let needed = match without_room {
+        Err(refusal) if refusal.reason == Reason::Room => refusal.detail,
+        _ => 29 + texts.iter().map(|t| t.len() + 1).sum::<usize>(),
+    };
+    let (amount, room) = (cents(dice), room_about(dice, needed));
+    let mut parts = vec![verb, room.as_bytes(), amount.as_bytes()];
+    parts.extend(words);
+    // A `|` by dice would make two fields of one.
+    let texts: Fields = texts.iter().map(|t| swapped(t, b'|', b'!')).collect();
+    parts.extend(texts.iter().map(Vec::as_slice));
     match dice.below(40) {
-        0 => drop(texts.pop()),
-        1 => texts.push(Vec::new()),
+        0 => drop(parts.pop()),
+        1 => parts.push(b""),
         _ => {}
     }
-    // Kind and size are a wage line's.
-    let mut parts = [amount.as_bytes(), b"||"].concat();
-    for text in &texts {
-        // A `|` by dice would make two fields of one.
-        parts.push(b'|');
-        parts.extend(swapped(text, b'|', b'!'));
-    }
-    join(&[b"write", room.as_bytes(), &parts])
+    join(&parts)
 }
 
 /// A slip, right or wrong, with real line feeds.
@@ -120,7 +141,7 @@ pub(super) fn ended(fields: &Fields) -> Vec<u8> {
 }
 
 /// The most characters of a text field.
-fn limit(number: usize) -> Option<usize> {
+pub(super) fn limit(number: usize) -> Option<usize> {
     match number {
         4 => Some(30),
         5 | 6 | 9 => Some(27),
@@ -143,10 +164,17 @@ pub fn right_slip(dice: &mut Dice) -> Fields {
             10 => right_account(dice),
             11 => format!("HR{:02}", model.number).into_bytes(),
             12 => reference(dice, model),
-            13 => right_purpose(dice),
-            _ => right_text(dice, limit(number).expect("text")),
+            _ => right_words(dice, number),
         })
         .collect()
+}
+
+/// A text of field 4 to 9, 13 or 14 that passes.
+pub(super) fn right_words(dice: &mut Dice, number: usize) -> Vec<u8> {
+    match limit(number) {
+        Some(limit) => right_text(dice, limit),
+        None => right_purpose(dice),
+    }
 }
 
 fn right_purpose(dice: &mut Dice) -> Vec<u8> {
@@ -169,7 +197,7 @@ fn right_text(dice: &mut Dice, limit: usize) -> Vec<u8> {
 }
 
 /// So many permitted characters, with few, some or only two-byte letters.
-fn characters(dice: &mut Dice, count: usize) -> Vec<u8> {
+pub(super) fn characters(dice: &mut Dice, count: usize) -> Vec<u8> {
     let rarity = *dice.pick(&[1, 4, 4, 12, 12]);
     (0..count)
         .flat_map(|_| {
@@ -420,14 +448,8 @@ fn cents(dice: &mut Dice) -> String {
     }
 }
 
-/// A room about the size of the slip, right or wrong.
-fn room_for(dice: &mut Dice, texts: &[Vec<u8>]) -> String {
-    let slices: Vec<&[u8]> = texts.iter().map(Vec::as_slice).collect();
-    let texts: [&[u8]; TEXTS] = slices.try_into().expect("eleven");
-    let needed = match (Slip { cents: 0, texts }).write(0) {
-        Err(refusal) if refusal.reason == Reason::Room => refusal.detail,
-        _ => 29 + texts.iter().map(|t| t.len() + 1).sum::<usize>(),
-    };
+/// A room about what is needed.
+fn room_about(dice: &mut Dice, needed: usize) -> String {
     match dice.below(14) {
         0 => "0".to_string(),
         1..=3 => (needed - 1).to_string(),
@@ -437,6 +459,17 @@ fn room_for(dice: &mut Dice, texts: &[Vec<u8>]) -> String {
         8 => format!("0{needed}"),
         9 if dice.one_in(4) => dice.pick(&["", "x", "-1", "48 3"]).to_string(),
         _ => needed.to_string(),
+    }
+}
+
+/// What a field from 4 to 14 can be refused with.
+#[cfg(test)]
+pub(super) fn refusals_of(field: usize) -> &'static [u8] {
+    match field {
+        10 => &[3, 4, 5, 6],
+        11 => &[5, 7],
+        12 => &[3, 4, 8, 9],
+        _ => &[3, 4],
     }
 }
 
@@ -501,12 +534,7 @@ mod tests {
         .into();
         for verb in ["slip", "write"] {
             for field in 4..=14 {
-                let numbers: &[u8] = match field {
-                    10 => &[3, 4, 5, 6],
-                    11 => &[5, 7],
-                    12 => &[3, 4, 8, 9],
-                    _ => &[3, 4],
-                };
+                let numbers = refusals_of(field);
                 wanted.extend(numbers.iter().map(|n| format!("{verb} {field}: {n}")));
             }
         }

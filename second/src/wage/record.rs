@@ -61,7 +61,7 @@ impl Told {
     /// 17, and no other than 15 needs anything.
     fn of_refused(self) -> Told {
         let number = match self.number {
-            1..=17 => self.number,
+            1..=17 | 20 | 28 => self.number,
             _ => Reason::Lines as usize,
         };
         let needed = match number {
@@ -358,7 +358,17 @@ mod tests {
         };
         assert_eq!(refused.step(b""), refused);
         assert_eq!(refused.end(), Err(refused.told));
-        for number in [0, 18, usize::MAX] {
+        for number in [1, 17, 20, 28] {
+            let mut known = refused;
+            known.told = Told {
+                number,
+                needed: 0,
+                ..refused.told
+            };
+            assert_eq!(known.step(b""), known);
+            assert_eq!(known.end(), Err(known.told));
+        }
+        for number in [0, 18, 19, 21, 27, 29, 256 + 20, usize::MAX] {
             let strange = Record {
                 told: Told {
                     number,

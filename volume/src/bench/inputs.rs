@@ -1,8 +1,11 @@
 //! Valid inputs, some thousand different ones of each sort.
 
-use second::generate::{lipa, reference, right_account, right_kuna_slip, right_slip, wet, Dice};
+use second::generate::{
+    lipa, reference, right_account, right_kuna_slip, right_sheet, right_slip, wet, Dice,
+};
 use second::reference::{Model, MODELS};
 use second::slip::TOO_MUCH;
+use second::standing::NUMBERS;
 
 pub const COUNT: usize = 4096;
 
@@ -60,10 +63,37 @@ pub struct Given {
 
 pub fn given(dice: &mut Dice) -> Given {
     let fields = right_slip(dice).split_off(3);
+    given_of(dice, fields)
+}
+
+fn given_of(dice: &mut Dice, fields: Vec<Vec<u8>>) -> Given {
     Given {
         cents: dice.roll() % 1_000_000_000_000_000,
         text: fields.concat(),
         sizes: fields.iter().map(Vec::len).collect(),
         fields,
+    }
+}
+
+/// Two right sheets, a field to ask for, and a slip whose fields they fill.
+pub struct Standing {
+    pub farm: Vec<u8>,
+    pub association: Vec<u8>,
+    pub field: usize,
+    pub given: Given,
+}
+
+pub fn standing(dice: &mut Dice) -> Standing {
+    let mut fields = right_slip(dice).split_off(3);
+    for number in NUMBERS {
+        if !dice.one_in(3) {
+            fields[number - 4].clear();
+        }
+    }
+    Standing {
+        farm: right_sheet(dice),
+        association: right_sheet(dice),
+        field: *dice.pick(&NUMBERS),
+        given: given_of(dice, fields),
     }
 }

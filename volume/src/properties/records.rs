@@ -92,6 +92,8 @@ fn any_told(dice: &mut Dice) -> Told {
         0 => dice.roll() as usize,
         1 => *dice.pick(&[0, 18, 255, 256, 1 << 32, usize::MAX]),
         2 => 15,
+        // The numbers of 02, of which a record keeps those that were brought.
+        3 => dice.between(18, 30),
         _ => dice.between(1, 17),
     };
     Told {

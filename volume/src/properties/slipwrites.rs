@@ -20,7 +20,7 @@ pub fn run(plan: &Plan) {
 fn one(trial: &mut Trial, shelf: &mut Shelf, out: &mut Room) {
     let dice = &mut trial.dice;
     let (cents, given) = (cents(dice), given(dice));
-    let size = room_for(dice, given.text.len());
+    let size = room_for(dice, needed(&given));
     let side = Side::any(dice);
     let (out, before) = out.lend::<u8>(dice, size, side);
     let ours = lane::slip_write(cents, shelf.lend(&given, side), out);
@@ -48,7 +48,7 @@ fn one(trial: &mut Trial, shelf: &mut Shelf, out: &mut Room) {
     trial.answered(ours.told.number);
 }
 
-fn cents(dice: &mut Dice) -> u64 {
+pub fn cents(dice: &mut Dice) -> u64 {
     match dice.below(12) {
         0 => *dice.pick(&[0, 1, TOO_MUCH - 1, TOO_MUCH, TOO_MUCH + 1, u64::MAX]),
         1 if dice.one_in(3) => dice.roll(),
@@ -72,10 +72,14 @@ fn given(dice: &mut Dice) -> Given {
     given
 }
 
-/// A room about the size of the slip: fields 1 to 3, the text, and an LF behind
-/// each of its fields.
-fn room_for(dice: &mut Dice, length: usize) -> usize {
-    let needed = 29 + length + TEXTS;
+/// The size of a slip: fields 1 to 3, the text, and an LF behind each of its
+/// fields.
+pub fn needed(given: &Given) -> usize {
+    29 + given.text.len() + TEXTS
+}
+
+/// A room about the size of the slip.
+pub fn room_for(dice: &mut Dice, needed: usize) -> usize {
     match dice.below(10) {
         0 => 0,
         1 | 2 => needed.saturating_sub(1),
