@@ -30,11 +30,10 @@ fn fields(number: usize, text: &[u8]) -> [&[u8]; 11] {
 #[test]
 fn the_farm_goes_before_the_association() {
     let told = standing::FIELDS.map(|field| standing::text(field, FARM, ASSOCIATION).unwrap());
-    let farm = |text| Some((Sheet::Farm, text));
-    let association = |text| Some((Sheet::Association, text));
-    let varazdin = "42000 VARAŽDIN".as_bytes();
-    assert_eq!(told[..4], [farm(&b"OPG HORVAT"[..]), None, farm(varazdin), association(b"UDRUGA")]);
-    assert_eq!(told[4..], [None, None, association(b"WTER"), farm(b"")]);
+    let farm = |text: &'static str| Some((Sheet::Farm, text.as_bytes()));
+    let association = |text: &'static str| Some((Sheet::Association, text.as_bytes()));
+    assert_eq!(told[..4], [farm("OPG HORVAT"), None, farm("42000 VARAŽDIN"), association("UDRUGA")]);
+    assert_eq!(told[4..], [None, None, association("WTER"), farm("")]);
 }
 
 #[test]
