@@ -1,11 +1,11 @@
 -- What is promised of the boundary: nothing is lost on the way through numbers.
 -- Assumes nothing.
-use Rattle.refusal.proofs.Basics.{_≡_, refl, sym, ap, _∙_, arith, _≤_, _<_}
-use Rattle.refusal.specs.Refusal.{refusalNumber, refusalOf}
+use Rattle.refusal.proofs.Basics.{_≡_, refl, sym, ap, _∙_, arith, ℕ, zero, suc, _<_, true, false≢true}
+use Rattle.refusal.specs.Refusal.{refusalNumber, isTabled, refusalOf}
 use Rattle.refusal.specs.declared.Answer.{Answer}
 use Rattle.refusal.specs.declared.Answer.the-variants.{Accepted, Refused}
 use Rattle.refusal.specs.declared.Refusal.{Refusal}
-use Rattle.refusal.specs.declared.Refusal.the-variants.{Size, Ends, Byte, Length, Form, Check, Model, Parts, Digit, Misplaced, Date, Orders, Sum, Unfinished, Room, Marks, Beyond}
+use Rattle.refusal.specs.declared.Refusal.the-variants.{Size, Ends, Byte, Length, Form, Check, Model, Parts, Digit, Misplaced, Date, Orders, Sum, Unfinished, Room, Marks, Beyond, Sheet, Field}
 use Rattle.refusal.proofs.Theorems.{numbers-tell-all}
 use Rattle.boundary.specs.declared.Told.{Told}
 use Rattle.boundary.specs.Told.{refusal, toldOf, toldPlace}
@@ -21,29 +21,35 @@ refusalIn t = refusalOf (t .number) (toldPlace t) (t .needed)
 pub refusal-told-back : (r : Refusal) → refusalIn (refusal r) ≡ r
 refusal-told-back r = numbers-tell-all r
 
--- the table has seventeen numbers
-pub number-in-table : (r : Refusal) → (1 ≤ refusalNumber r) × (refusalNumber r ≤ 17)
-number-in-table (Size p) = (omega arith, omega arith)
-number-in-table (Ends p) = (omega arith, omega arith)
-number-in-table (Byte p) = (omega arith, omega arith)
-number-in-table (Length p) = (omega arith, omega arith)
-number-in-table (Form p) = (omega arith, omega arith)
-number-in-table (Check p) = (omega arith, omega arith)
-number-in-table (Model p) = (omega arith, omega arith)
-number-in-table (Parts p) = (omega arith, omega arith)
-number-in-table (Digit p) = (omega arith, omega arith)
-number-in-table (Misplaced p) = (omega arith, omega arith)
-number-in-table (Date p) = (omega arith, omega arith)
-number-in-table (Orders p) = (omega arith, omega arith)
-number-in-table (Sum p) = (omega arith, omega arith)
-number-in-table (Unfinished p) = (omega arith, omega arith)
-number-in-table (Room p n) = (omega arith, omega arith)
-number-in-table (Marks p) = (omega arith, omega arith)
-number-in-table (Beyond p) = (omega arith, omega arith)
+-- every refusal has a number of the documents
+pub number-in-table : (r : Refusal) → isTabled (refusalNumber r) ≡ true
+number-in-table (Size p) = refl
+number-in-table (Ends p) = refl
+number-in-table (Byte p) = refl
+number-in-table (Length p) = refl
+number-in-table (Form p) = refl
+number-in-table (Check p) = refl
+number-in-table (Model p) = refl
+number-in-table (Parts p) = refl
+number-in-table (Digit p) = refl
+number-in-table (Misplaced p) = refl
+number-in-table (Date p) = refl
+number-in-table (Orders p) = refl
+number-in-table (Sum p) = refl
+number-in-table (Unfinished p) = refl
+number-in-table (Room p n) = refl
+number-in-table (Marks p) = refl
+number-in-table (Beyond p) = refl
+number-in-table (Sheet p) = refl
+number-in-table (Field p) = refl
 
 -- none of them is 0
 pub number-not-zero : (r : Refusal) → 0 < refusalNumber r
-number-not-zero r = omega (arith, number-in-table r .0)
+number-not-zero r = go (refusalNumber r) (number-in-table r)
+  where
+    go : (k : ℕ) → isTabled k ≡ true → 0 < k
+    go zero e = absurd (false≢true e)
+    go (suc k) e = omega arith
 
 -- an answer told as numbers loses nothing
 pub told-apart : (a b : Answer) → toldOf a ≡ toldOf b → a ≡ b

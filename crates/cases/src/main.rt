@@ -7,6 +7,7 @@
 use boundary::Told;
 use boundary::Valued;
 use desk_ledger::Ledger;
+use desk_standing::StandingTold;
 use question::behind;
 use question::count;
 use question::field;
@@ -23,7 +24,7 @@ use text::front;
 use words::say;
 
 fn main() {
-    let mut input = [0u8; 150000];
+    let mut input = [0u8; 200000];
     let n = io::read_full(0, &mut input);
     answer_all(front(&input, n));
 }
@@ -47,7 +48,7 @@ fn answer(question: &[u8]) {
     respond(
         number_of(
             field(question, 0),
-            b"iban|oib|ref|check ini|check iso|make ini|make iso|list iban|list ref|slip|write|ledger|lipa",
+            b"iban|oib|ref|check ini|check iso|make ini|make iso|list iban|list ref|slip|write|ledger|lipa|standing|write standing",
         ),
         question,
     );
@@ -61,9 +62,11 @@ fn respond(verb: usize, question: &[u8]) {
         5..=6 => make(verb, question),
         7..=8 => list(verb, question),
         9 => read(behind(question, 1)),
-        10 => write(question),
+        10 => write(verb, question),
         11 => enter(behind(question, 1)),
         12 => convert(question),
+        13 => stand(question),
+        14 => write(verb, question),
         _ => {
             say(b"unknown");
         }
@@ -144,7 +147,7 @@ fn read(s: &[u8]) {
 }
 
 fn read_in(s: &[u8], text: &mut [u8]) -> Told {
-    put_lines(text, s);
+    put_lines(text, s, 124);
     desk_slips::lanecockle_slip_read(front(text, s.len()))
 }
 
@@ -155,7 +158,7 @@ fn enter(s: &[u8]) {
 }
 
 fn enter_in(s: &[u8], text: &mut [u8]) -> Ledger {
-    put_lines(text, s);
+    put_lines(text, s, 124);
     desk_ledger::lanecockle_ledger_read(front(text, s.len()))
 }
 
@@ -180,15 +183,21 @@ fn convert(question: &[u8]) {
     );
 }
 
-// write: into a room of 1,100 bytes at most.
-fn write(question: &[u8]) {
+// write, write standing: into a room of 1,100 bytes at most.
+fn write(verb: usize, question: &[u8]) {
     let mut text = [0u8; 1024];
     let mut sizes = [0usize; 16];
     let mut out = [0u8; 1100];
-    write_in(question, &mut text, &mut sizes, &mut out);
+    write_in(verb, question, &mut text, &mut sizes, &mut out);
 }
 
-fn write_in(question: &[u8], text: &mut [u8], sizes: &mut [usize], out: &mut [u8]) {
+fn write_in(
+    verb: usize,
+    question: &[u8],
+    text: &mut [u8],
+    sizes: &mut [usize],
+    out: &mut [u8],
+) {
     let room = number_at(question, 1);
     if out.len() < room {
         say(b"unknown");
@@ -198,13 +207,79 @@ fn write_in(question: &[u8], text: &mut [u8], sizes: &mut [usize], out: &mut [u8
     put_fields(text, fields);
     put_sizes(sizes, fields);
     let lent = front(text, size_of(fields));
-    write_slip(question, lent, sizes, &mut out[0..room]);
+    if verb == 10 {
+        write_slip(question, lent, sizes, &mut out[0..room]);
+        return;
+    }
+    write_standing(question, lent, sizes, &mut out[0..room]);
 }
 
 fn write_slip(question: &[u8], text: &[u8], sizes: &[usize], out: &mut [u8]) {
     let cents = number_at(question, 2) as u64;
     let v = desk_slips::lanecockle_slip_write(cents, text, sizes, out);
     tell_value(v, b" bytes ");
+    say(b"|");
+    say(front(out, v.value));
+}
+
+// ---------------------------------------------------------------------------
+// Standing text: in a sheet `~` stands for a line feed
+
+// standing: a field's text from two sheets.
+fn stand(question: &[u8]) {
+    let mut farm = [0u8; 1024];
+    let mut association = [0u8; 1024];
+    tell_standing(stand_in(question, &mut farm, &mut association));
+}
+
+fn stand_in(question: &[u8], farm: &mut [u8], association: &mut [u8]) -> StandingTold {
+    let f = field(question, 2);
+    let a = field(question, 3);
+    put_lines(farm, f, 126);
+    put_lines(association, a, 126);
+    let n = number_at(question, 1);
+    desk_standing::lanecockle_standing_text(n, front(farm, f.len()), front(association, a.len()))
+}
+
+// Writes whose text it is and where it stands.
+fn tell_standing(s: StandingTold) {
+    tell(s.told);
+    count(b" sheet ", s.sheet);
+    count(b" start ", s.start);
+    count(b" length ", s.length);
+}
+
+// write standing: as write, with two sheets.
+fn write_standing(question: &[u8], text: &[u8], sizes: &[usize], out: &mut [u8]) {
+    let mut farm = [0u8; 1024];
+    let mut association = [0u8; 1024];
+    write_sheets(question, text, sizes, &mut farm, &mut association, out);
+}
+
+fn write_sheets(
+    question: &[u8],
+    text: &[u8],
+    sizes: &[usize],
+    farm: &mut [u8],
+    association: &mut [u8],
+    out: &mut [u8],
+) {
+    let f = field(question, 3);
+    let a = field(question, 4);
+    put_lines(farm, f, 126);
+    put_lines(association, a, 126);
+    let cents = number_at(question, 2) as u64;
+    let v = desk_standing::lanecockle_slip_write_standing(
+        cents,
+        text,
+        sizes,
+        front(farm, f.len()),
+        front(association, a.len()),
+        out,
+    );
+    tell(v.told);
+    count(b" bytes ", v.value);
+    count(b" sheet ", v.sheet);
     say(b"|");
     say(front(out, v.value));
 }

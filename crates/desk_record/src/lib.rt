@@ -37,7 +37,7 @@ pub struct Record {
     pub total: Cents,
 }
 
-// The refusal that a number tells; another than 1 to 16 is 17.
+// The refusal that a number tells; a number of no other refusal is 17.
 fn refusal_from(t: Told) -> Refusal
     ensures { λ r. ⌜ r ≡ refusalOf (t .number) (record { line = t .line; field = t .field; byte = t .byte }) (t .needed) ⌝ }
 {

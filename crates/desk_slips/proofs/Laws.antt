@@ -26,10 +26,3 @@ pub slip-unsized :
     (cents : ℕ) (sizes text out : List ℕ) (t : Valued)
     → lentWhole 11 sizes text ≡ false → t ≡ valued (refusal (Size none)) 0 → WritesSlipGiven cents sizes text out t out
 slip-unsized cents sizes text out t h e = record { answers = left _ _ _ _ h e; leaves = left _ _ _ _ h refl }
-
--- a lent field is the front of the text behind the fields before it
-pub front-behind : (sizes text : List ℕ) (k : ℕ) → take (getD sizes k 0) (behind (take k sizes) text) ≡ givenOf sizes text k
-unfolding behind fieldsOf givenOf
-front-behind [] text k = refl
-front-behind (n ∷ ns) text zero = refl
-front-behind (n ∷ ns) text (suc k) = front-behind ns (drop n text) k

@@ -1,14 +1,14 @@
 -- What the calls of slips tell at the boundary, and what a call that writes answers and leaves.
-use Rattle.refusal.specs.Basics.{ℕ, _≡_, cond, List, [], length, getD}
+use Rattle.refusal.specs.Basics.{ℕ, _≡_, cond, List, length}
 use Rattle.refusal.specs.declared.Refusal.the-variants.{Size}
 use Rattle.refusal.specs.Refusal.{none}
 use Rattle.slip_handed.specs.declared.Amount.{Amount}
 use Rattle.slip_handed.specs.declared.Amount.the-variants as amount
 use Rattle.slip_writer.specs.declared.Written.{Written}
 use Rattle.slip_writer.specs.declared.Written.the-variants as written
-use Rattle.slip_given.specs.Given.{eleven}
 use Rattle.slip_writer.specs.Writer as slip
-use Rattle.lent_fields.specs.Fields.{fieldsOf, lentWhole}
+use Rattle.lent_fields.specs.Fields.{lentWhole}
+use Rattle.standing_slip.specs.Filled.{elevenOf}
 use Rattle.boundary.specs.declared.Valued.{Valued}
 use Rattle.boundary.specs.Told.{accepted, refusal, valued}
 
@@ -21,16 +21,6 @@ centsTold (amount.Refused r) = valued (refusal r) 0
 unfoldable pub writtenOf : Written → Valued
 writtenOf (written.Bytes n) = valued accepted n
 writtenOf (written.Refused r) = valued (refusal r) 0
-
--- a field of a text of fields one behind the other; one that is not there is empty
-unfoldable pub givenOf : List ℕ → List ℕ → ℕ → List ℕ
-givenOf sizes text k = getD (fieldsOf sizes text) k []
-
--- the fields 4 to 14 of a slip, one behind the other in a text; one that is not there is empty
-abbrev pub elevenOf : List ℕ → List ℕ → List (List ℕ)
-elevenOf sizes text =
-    eleven (givenOf sizes text 0) (givenOf sizes text 1) (givenOf sizes text 2) (givenOf sizes text 3) (givenOf sizes text 4) (givenOf sizes text 5)
-    (givenOf sizes text 6) (givenOf sizes text 7) (givenOf sizes text 8) (givenOf sizes text 9) (givenOf sizes text 10)
 
 -- a slip: only where the sizes of its eleven fields are the text's
 pub record WritesSlipGiven (cents : ℕ) (sizes text out : List ℕ) (r : Valued) (after : List ℕ) : Type 0 where

@@ -6,11 +6,9 @@ ghost use mathlib.Core.Path.{_≡_};
 ghost use Rattle.slip.specs.Slip.{slipAnswer};
 ghost use Rattle.slip_handed.specs.Handed.{fieldPart, slipCents};
 ghost use Rattle.boundary.specs.Told.{toldOf};
-ghost use Rattle.desk_slips.specs.Slips.{centsTold, writtenOf, givenOf, elevenOf, WritesSlipGiven};
-ghost use Rattle.slip_writer.specs.Steps.{WritesSlip};
+ghost use Rattle.desk_slips.specs.Slips.{centsTold, writtenOf, WritesSlipGiven};
 use boundary::Told;
 use boundary::Valued;
-use refusal::Refusal;
 use slip_handed::Amount;
 use slip_writer::Written;
 use text::Part;
@@ -26,44 +24,13 @@ fn tell_amount(a: Amount) -> Valued
 }
 
 // How many bytes a slip was written with.
-fn tell_written(w: Written) -> Valued
+pub fn tell_written(w: Written) -> Valued
     ensures { λ r. ⌜ r ≡ writtenOf w ⌝ }
 {
     match w {
         Written::Bytes(n) => boundary::accept_value(n),
         Written::Refused(r) => boundary::refuse_value(r),
     }
-}
-
-// A field of a text of fields one behind the other: what `sizes` gives it, as far as the text goes.
-fn given<'a>(text: &'a [u8], sizes: &[usize], k: usize) -> &'a [u8]
-    ensures { λ r. ⌜ now r ≡ givenOf (now (sizes .entry)) (now (text .entry)) k ⌝ }
-{
-    text::front(
-        lent_fields::text_behind(text, sizes, k),
-        lent_fields::size_at(sizes, k),
-    )
-}
-
-// Writes a slip from its fields in a text of fields.
-fn write_given(cents: u64, text: &[u8], sizes: &[usize], out: &mut [u8]) -> Written
-    ensures { λ r. ⌜ WritesSlip cents (elevenOf (now (sizes .entry)) (now (text .entry))) (now (out .entry)) r (now (out .exit)) ⌝ }
-{
-    slip_writer::write(
-        cents,
-        given(text, sizes, 0),
-        given(text, sizes, 1),
-        given(text, sizes, 2),
-        given(text, sizes, 3),
-        given(text, sizes, 4),
-        given(text, sizes, 5),
-        given(text, sizes, 6),
-        given(text, sizes, 7),
-        given(text, sizes, 8),
-        given(text, sizes, 9),
-        given(text, sizes, 10),
-        out,
-    )
 }
 
 // Reads a slip.
@@ -91,7 +58,8 @@ pub extern "C" fn lanecockle_slip_cents(slip: &[u8]) -> Valued
 }
 
 // Writes a slip of an amount in cents and the fields 4 to 14, which stand one behind the other in `text`; the value is how
-// many bytes were written. Sizes that are not the text's are refused with 1, so that no field is shortened without a word.
+// many bytes were written: a slip with standing text from two empty sheets. Sizes that are not the text's are refused with 1,
+// so that no field is shortened without a word.
 #[no_mangle]
 pub extern "C" fn lanecockle_slip_write(
     cents: u64,
@@ -101,8 +69,7 @@ pub extern "C" fn lanecockle_slip_write(
 ) -> Valued
     ensures { λ r. ⌜ WritesSlipGiven cents (now (sizes .entry)) (now (text .entry)) (now (out .entry)) r (now (out .exit)) ⌝ }
 {
-    if !lent_fields::is_lent_whole(text, sizes, 11) {
-        return boundary::refuse_value(Refusal::Size(refusal::nowhere()));
-    }
-    tell_written(write_given(cents, text, sizes, out))
+    let slip = standing_slip::write(cents, text, sizes, b"", b"", out);
+    let written = slip.written;
+    tell_written(written)
 }

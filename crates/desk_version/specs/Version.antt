@@ -2,4 +2,4 @@
 use Rattle.refusal.specs.Basics.{ℕ}
 
 abbrev pub version : ℕ
-version = 10100
+version = 10200

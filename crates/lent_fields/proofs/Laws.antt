@@ -1,7 +1,7 @@
 -- Laws of the fields that are lent, one behind the other. Assumes nothing.
 use Rattle.refusal.proofs.Basics.{_≡_, refl, sym, _∙_, arith, ℕ, zero, suc, _+_, _-_, _≤_, _<_, length, take, drop, getD, length-drop, drop-of-length-le, length-append, eq-eqb, ne-eqb, eqb-true, eqb-false, le-ltb, ltb-true, ltb-false, List, [], _∷_, map, Bool, true, false, cond, eqb, ltb, drop-cons, drop-drop, drop-length, take-all, take-nil, take-append-seam, drop-append-seam, getD-drop, add-zero, add-one}
 use Rattle.text.specs.Split.{joined}
-use Rattle.lent_fields.specs.Fields.{fieldsOf, behind, fieldEnd, together, lentWhole, FieldEnd}
+use Rattle.lent_fields.specs.Fields.{fieldsOf, givenOf, behind, fieldEnd, together, lentWhole, FieldEnd}
 
 -- ---------------------------------------------------------------------------
 -- Where a field ends
@@ -170,3 +170,10 @@ unfolding fieldsOf behind
 fields-behind zero ns text = refl
 fields-behind (suc k) [] text = refl
 fields-behind (suc k) (n ∷ ns) text = fields-behind k ns (drop n text)
+
+-- a lent field is the front of the text behind the fields before it
+pub front-behind : (sizes text : List ℕ) (k : ℕ) → take (getD sizes k 0) (behind (take k sizes) text) ≡ givenOf sizes text k
+unfolding behind fieldsOf givenOf
+front-behind [] text k = refl
+front-behind (n ∷ ns) text zero = refl
+front-behind (n ∷ ns) text (suc k) = front-behind ns (drop n text) k

@@ -12,6 +12,9 @@ end-of-one κs a z z′ w w′ p q = p ∙ sym q
 pub text-behind-one : OneSeen _ here.text_behind.Kinds.ps here.text_behind.Kinds.r (λ κs z. z .now) here.text_behind.Reads.Post
 text-behind-one κs a z z′ w w′ p q = p ∙ sym q
 
+pub given-one : OneSeen _ here.given.Kinds.ps here.given.Kinds.r (λ κs z. z .now) here.given.Reads.Post
+given-one κs a z z′ w w′ p q = p ∙ sym q
+
 pub is-lent-whole-one : One _ here.is_lent_whole.Kinds.ps here.is_lent_whole.Kinds.r here.is_lent_whole.Reads.Post
 is-lent-whole-one κs a z z′ w w′ p q = p ∙ sym q
 

@@ -1,5 +1,5 @@
 -- How fields are lent to a writer: one behind the other in one text, with the size of each. "Each field is the bytes of its positions".
-use Rattle.refusal.specs.Basics.{ℕ, _+_, _-_, _≤_, _≡_, Bool, cond, List, [], _∷_, eqb, ltb, length, take, drop}
+use Rattle.refusal.specs.Basics.{ℕ, _+_, _-_, _≤_, _≡_, Bool, cond, List, [], _∷_, eqb, ltb, length, getD, take, drop}
 use Rattle.refusal.specs.Refusal.{none}
 use Rattle.refusal.specs.declared.Answer.{Answer}
 use Rattle.refusal.specs.declared.Answer.the-variants.{Refused}
@@ -9,6 +9,10 @@ use Rattle.refusal.specs.declared.Refusal.the-variants.{Size}
 unfoldable pub fieldsOf : List ℕ → List ℕ → List (List ℕ)
 fieldsOf [] text = []
 fieldsOf (n ∷ ns) text = take n text ∷ fieldsOf ns (drop n text)
+
+-- a field of these, counted from 0; one that is not there is empty
+unfoldable pub givenOf : List ℕ → List ℕ → ℕ → List ℕ
+givenOf sizes text k = getD (fieldsOf sizes text) k []
 
 -- the text behind some fields
 unfoldable pub behind : List ℕ → List ℕ → List ℕ

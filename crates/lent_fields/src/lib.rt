@@ -3,7 +3,7 @@
 // Document 01, "The wage file", the writer: "Each field is the bytes of its positions".
 ghost use mathlib.Core.Path.{_≡_};
 ghost use lib.ListN.{getD, take, drop};
-ghost use Rattle.lent_fields.specs.Fields.{behind, fieldEnd, lentWhole};
+ghost use Rattle.lent_fields.specs.Fields.{givenOf, behind, fieldEnd, lentWhole};
 
 // The size of a field; one that is not there is empty.
 pub fn size_at(sizes: &[usize], i: usize) -> usize
@@ -42,6 +42,13 @@ pub fn text_behind<'a>(text: &'a [u8], sizes: &[usize], fields: usize) -> &'a [u
         i += 1;
     }
     &text[at..]
+}
+
+// A field, counted from 0: what `sizes` gives it, as far as the text goes.
+pub fn given<'a>(text: &'a [u8], sizes: &[usize], k: usize) -> &'a [u8]
+    ensures { λ r. ⌜ now r ≡ givenOf (now (sizes .entry)) (now (text .entry)) k ⌝ }
+{
+    text::front(text_behind(text, sizes, k), size_at(sizes, k))
 }
 
 // Whether the sizes of as many fields are together the text's.

@@ -13,7 +13,7 @@ use Rattle.slip_fields.specs.declared.Currency.{Currency}
 use Rattle.slip_fields.specs.declared.Currency.the-variants.{Euro}
 use Rattle.slip_fields.specs.Fields.{fieldVerdict}
 use Rattle.slip.specs.Slip.{slipEnds, fieldsAnswer, slipAnswerIn, pieceOf}
-use Rattle.slip_writer.specs.Writer.{joinLines}
+use Rattle.text.specs.Lines.{joinLines}
 use Rattle.dates.specs.Dates.{isDate}
 use Rattle.wage_places.specs.declared.LineType.{LineType}
 use Rattle.wage_places.specs.declared.LineType.the-variants.{Label, Group, Order, Closing}

@@ -27,7 +27,8 @@ use Rattle.lent_fields.proofs.Laws.{fields-joined, joined-lent-whole}
 use Rattle.boundary.specs.declared.Valued.{Valued}
 use Rattle.boundary.specs.Told.{accepted, refusal, valued}
 use Rattle.boundary.proofs.Theorems.{number-not-zero}
-use Rattle.desk_slips.specs.Slips.{centsTold, writtenOf, givenOf, elevenOf, WritesSlipGiven}
+use Rattle.standing_slip.specs.Filled.{elevenOf}
+use Rattle.desk_slips.specs.Slips.{centsTold, writtenOf, WritesSlipGiven}
 use Rattle.desk_slips.proofs.Theorems.{part-is-field}
 use Rattle.promises.specs.Calls.{EverySlipRead, EverySlipField, EverySlipCents, EverySlipWrite}
 use Rattle.promises.proofs.Laws.{told-zero}

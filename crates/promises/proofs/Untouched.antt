@@ -15,7 +15,8 @@ use Rattle.line_room.specs.LineRoom.{leftByLine}
 use Rattle.boundary.specs.declared.Told.{Told}
 use Rattle.boundary.specs.declared.Valued.{Valued}
 use Rattle.boundary.specs.Told.{refusal, valued, toldOf}
-use Rattle.desk_slips.specs.Slips.{writtenOf, elevenOf}
+use Rattle.desk_slips.specs.Slips.{writtenOf}
+use Rattle.standing_slip.specs.Filled.{elevenOf}
 use Rattle.desk_writers.specs.Writes.{WritesLine}
 use Rattle.promises.specs.Calls.{EveryFilled, EverySlipWrite, EveryWriteLabel, EveryWriteOrder, EveryWriteGroup, EveryWriteClosing}
 

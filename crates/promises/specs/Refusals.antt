@@ -1,7 +1,7 @@
 -- Demand 1: what a call may tell; and which refusal comes first, of one slip, of one wage line, of one wage file.
 use Rattle.refusal.specs.Basics.{ℕ, _-_, _<_, _≤_, _≡_, Bool, true, false, cond, _&&_, List, [], ltb, length, getD, take}
 use mathlib.Core.Logic.{_⊎_}
-use Rattle.refusal.specs.Refusal.{none, inLine}
+use Rattle.refusal.specs.Refusal.{none, isTabled, inLine}
 use Rattle.refusal.specs.declared.Answer.the-variants.{Accepted, Refused}
 use Rattle.refusal.specs.declared.Refusal.{Refusal}
 use Rattle.refusal.specs.declared.Refusal.the-variants.{Size, Ends, Date}
@@ -11,7 +11,7 @@ use Rattle.slip_fields.specs.declared.Currency.{Currency}
 use Rattle.slip_fields.specs.Fields.{fieldVerdict}
 use Rattle.slip.specs.Slip.{slipEnds}
 use Rattle.slip.proofs.Theorems.{fieldText, textBefore}
-use Rattle.slip_writer.specs.Writer.{joinLines}
+use Rattle.text.specs.Lines.{joinLines}
 use Rattle.dates.specs.Dates.{isDate}
 use Rattle.wage_places.specs.declared.LineType.{LineType}
 use Rattle.wage_places.specs.Places.{spots}
@@ -30,9 +30,9 @@ use Rattle.boundary.specs.Told.{accepted, refusal, toldOf}
 -- ---------------------------------------------------------------------------
 -- Numbers
 
--- "one of the documents' numbers, with line, field and byte": acceptance, or a refusal of document 01's table, 1 to 17
+-- "one of the documents' numbers, with line, field and byte": acceptance, or a refusal with a number of document 01's table or of document 02
 abbrev pub Known : Told → Type 0
-Known t = (t ≡ accepted) ⊎ ((q : Refusal) × ((t ≡ refusal q) × ((1 ≤ t .number) × (t .number ≤ 17))))
+Known t = (t ≡ accepted) ⊎ ((q : Refusal) × ((t ≡ refusal q) × (isTabled (t .number) ≡ true)))
 
 -- ---------------------------------------------------------------------------
 -- A slip

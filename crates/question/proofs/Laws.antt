@@ -198,12 +198,12 @@ written-full out whole at xs h e = sym (sets-past out at xs h) ∙ e
 written-more : (out whole : List ℕ) (at x : ℕ) (xs ys : List ℕ) → ys ≡ x ∷ xs → sets out at ys ≡ whole → sets (set out at x) (at + 1) xs ≡ whole
 written-more out whole at x xs ys f e = rw (add-one at) (rw f at e)
 
--- a text with its bars as line feeds, from place i on
-module _ (s : List ℕ) (i : ℕ) (out whole : List ℕ) where
-  pub line-more : i < length s → sets out i (lined (drop i s)) ≡ whole → sets (set out i (lineByte (getD s i 0))) (i + 1) (lined (drop (i + 1) s)) ≡ whole
-  line-more h e = written-more out whole i (lineByte (getD s i 0)) (lined (drop (i + 1) s)) (lined (drop i s)) (rw (drop-cons s i 0 h, add-one i)) e
+-- a text with its bytes c as line feeds, from place i on
+module _ (c : ℕ) (s : List ℕ) (i : ℕ) (out whole : List ℕ) where
+  pub line-more : i < length s → sets out i (lined c (drop i s)) ≡ whole → sets (set out i (lineByte c (getD s i 0))) (i + 1) (lined c (drop (i + 1) s)) ≡ whole
+  line-more h e = written-more out whole i (lineByte c (getD s i 0)) (lined c (drop (i + 1) s)) (lined c (drop i s)) (rw (drop-cons s i 0 h, add-one i)) e
 
-  pub line-last : length s ≤ i → sets out i (lined (drop i s)) ≡ whole → out ≡ whole
+  pub line-last : length s ≤ i → sets out i (lined c (drop i s)) ≡ whole → out ≡ whole
   line-last h e = rw (drop-of-length-le s h) at e
 
 -- fields one behind the other

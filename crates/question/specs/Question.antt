@@ -45,13 +45,13 @@ numberAsked s = capped (valueOf (digitsOf s))
 -- ---------------------------------------------------------------------------
 -- A text of fields laid out
 
--- "`|` in the text stands for a line feed"
-abbrev pub lineByte : ℕ → ℕ
-lineByte b = cond (eqb b 124) 10 b
+-- "`|` in the text stands for a line feed", in a sheet `~`: the byte c does
+abbrev pub lineByte : ℕ → ℕ → ℕ
+lineByte c b = cond (eqb b c) 10 b
 
--- a text with its bars as line feeds
-abbrev pub lined : List ℕ → List ℕ
-lined s = map (λ (b : ℕ). lineByte b) s
+-- a text with its bytes c as line feeds
+abbrev pub lined : ℕ → List ℕ → List ℕ
+lined c s = map (λ (b : ℕ). lineByte c b) s
 
 -- the size of each field
 abbrev pub lengthsOf : List (List ℕ) → List ℕ

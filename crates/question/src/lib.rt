@@ -116,23 +116,23 @@ pub fn number_at(s: &[u8], k: usize) -> usize
 // ---------------------------------------------------------------------------
 // A text of fields laid out
 
-// A byte of a text whose bars stand for line feeds.
-fn line_byte(b: u8) -> u8
-    ensures { λ r. ⌜ r ≡ lineByte b ⌝ }
+// A byte of a text whose bytes c stand for line feeds.
+fn line_byte(c: u8, b: u8) -> u8
+    ensures { λ r. ⌜ r ≡ lineByte c b ⌝ }
 {
-    if b == 124 { 10 } else { b }
+    if b == c { 10 } else { b }
 }
 
-// A text with its bars as line feeds, as far as there is room.
-pub fn put_lines(out: &mut [u8], s: &[u8])
-    ensures { λ r. ⌜ now (out .exit) ≡ sets (now (out .entry)) 0 (lined (now (s .entry))) ⌝ }
+// A text with its bytes c as line feeds, as far as there is room.
+pub fn put_lines(out: &mut [u8], s: &[u8], c: u8)
+    ensures { λ r. ⌜ now (out .exit) ≡ sets (now (out .entry)) 0 (lined c (now (s .entry))) ⌝ }
 {
     let mut i = 0;
     while i < s.len() {
         if out.len() <= i {
             return;
         }
-        out[i] = line_byte(s[i]);
+        out[i] = line_byte(c, s[i]);
         i += 1;
     }
 }

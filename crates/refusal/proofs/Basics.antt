@@ -21,7 +21,7 @@ pub use borrow.Author.Tests.{eq-eqb, ne-eqb, eqb-true, eqb-false, le-leb, lt-leb
 
 pub use mathlib.Core.List.{List, [], _∷_, _++_, map, append-nil, append-assoc, List·Memᴰ, List·Memᴰ·head, List·Memᴰ·tail, List·Memᴰ·not-nil, List·Memᴰ·cases-cons}
 pub use lib.ListN.{length, getD, take, drop, set, replicate, length-append, length-map, length-take, length-drop, length-set, length-replicate, drop-of-length-le, take-append-drop, List·getD-eq-default, List·getD-append, List·getD-map}
-pub use lib.Seq.{sets, sets-eq, length-sets, set-at, set-out, set-set, set-comm, take-nil, take-all, take-at, take-suc, take-length, length-take-le, take-take, take-add, take-suc-set, take-set-le, take-set-lt, take-append-le, take-append-seam, take-append-add, drop-at, drop-cons, drop-drop, drop-length, drop-set-lt, drop-append-le, drop-append-seam, drop-append-add, append-snoc, getD-take, getD-drop, getD-append-add, getD-append-seam}
+pub use lib.Seq.{sets, sets-eq, length-sets, set-at, set-out, set-set, set-comm, take-nil, take-all, take-at, take-suc, take-length, length-take-le, take-take, take-add, take-suc-set, getD-set-same, getD-set-other, take-set-le, take-set-lt, take-append-le, take-append-seam, take-append-add, drop-at, drop-cons, drop-drop, drop-length, drop-set-lt, drop-append-le, drop-append-seam, drop-append-add, append-snoc, getD-take, getD-drop, getD-append-add, getD-append-seam}
 -- ---------------------------------------------------------------------------
 -- What `search` and `omega` go by
 

@@ -1,8 +1,8 @@
--- Document 01, "Refusal numbers": what the paper's number, place and needed number of each refusal are.
-use Rattle.refusal.specs.Basics.{ℕ, Bool, true, false, cond, eqb}
+-- Document 01, "Refusal numbers", and document 02: what the paper's number, place and needed number of each refusal are.
+use Rattle.refusal.specs.Basics.{ℕ, Bool, true, false, cond, _&&_, _||_, eqb, leb}
 use Rattle.refusal.specs.declared.Place.{Place}
 use Rattle.refusal.specs.declared.Refusal.{Refusal}
-use Rattle.refusal.specs.declared.Refusal.the-variants.{Size, Ends, Byte, Length, Form, Check, Model, Parts, Digit, Misplaced, Date, Orders, Sum, Unfinished, Room, Marks, Beyond}
+use Rattle.refusal.specs.declared.Refusal.the-variants.{Size, Ends, Byte, Length, Form, Check, Model, Parts, Digit, Misplaced, Date, Orders, Sum, Unfinished, Room, Marks, Beyond, Sheet, Field}
 use Rattle.refusal.specs.declared.Answer.{Answer}
 use Rattle.refusal.specs.declared.Answer.the-variants.{Accepted, Refused}
 
@@ -29,6 +29,13 @@ refusalNumber (Unfinished p) = 14
 refusalNumber (Room p n) = 15
 refusalNumber (Marks p) = 16
 refusalNumber (Beyond p) = 17
+-- document 02, W2
+refusalNumber (Sheet p) = 20
+refusalNumber (Field p) = 28
+
+-- the numbers of the documents' refusals: 01's table, and 20 and 28 of document 02, W2
+abbrev pub isTabled : ℕ → Bool
+isTabled k = (leb 1 k && leb k 17) || (eqb k 20 || eqb k 28)
 
 -- line, field and byte
 abbrev pub refusalPlace : Refusal → Place
@@ -49,6 +56,8 @@ refusalPlace (Unfinished p) = p
 refusalPlace (Room p n) = p
 refusalPlace (Marks p) = p
 refusalPlace (Beyond p) = p
+refusalPlace (Sheet p) = p
+refusalPlace (Field p) = p
 
 -- "the needed number is told" by 15; the others need none
 abbrev pub neededOf : Refusal → ℕ
@@ -69,6 +78,8 @@ neededOf (Unfinished p) = 0
 neededOf (Room p n) = n
 neededOf (Marks p) = 0
 neededOf (Beyond p) = 0
+neededOf (Sheet p) = 0
+neededOf (Field p) = 0
 
 -- the refusal that a number, a place and a needed number tell
 abbrev pub refusalOf : ℕ → Place → ℕ → Refusal
@@ -89,7 +100,9 @@ refusalOf k p n =
     cond (eqb k 14) (Unfinished p) (
     cond (eqb k 15) (Room p n) (
     cond (eqb k 16) (Marks p) (
-    Beyond p))))))))))))))))
+    cond (eqb k 20) (Sheet p) (
+    cond (eqb k 28) (Field p) (
+    Beyond p))))))))))))))))))
 
 -- the same refusal, told of the place q
 abbrev pub moved : Place → Refusal → Refusal

@@ -1,4 +1,4 @@
-// The refusals of document 01, "Refusal numbers": one case for each number, each with its place.
+// The refusals of document 01, "Refusal numbers", and of document 02: one case for each number, each with its place.
 //
 // What the paper's number, place and needed count of a refusal are is said once, in specs/Refusal.antt,
 // and every promise above speaks of refusals through it. A request of document 02 adds a case here.
@@ -12,7 +12,7 @@ pub struct Place {
     pub byte: usize,
 }
 
-// The seventeen refusals, in the order of their numbers.
+// The refusals, in the order of their numbers: 1 to 17 of document 01, then those of document 02.
 pub enum Refusal {
     Size(Place),
     Ends(Place),
@@ -32,6 +32,9 @@ pub enum Refusal {
     Room(Place, usize),
     Marks(Place),
     Beyond(Place),
+    // 20 and 28: standing text (W2).
+    Sheet(Place),
+    Field(Place),
 }
 
 // What a judging call answers.
@@ -73,6 +76,8 @@ pub fn number(refusal: Refusal) -> u32
         Refusal::Room(_, _) => 15,
         Refusal::Marks(_) => 16,
         Refusal::Beyond(_) => 17,
+        Refusal::Sheet(_) => 20,
+        Refusal::Field(_) => 28,
     }
 }
 
@@ -98,6 +103,8 @@ pub fn told(refusal: Refusal) -> Place
         Refusal::Room(p, _) => p,
         Refusal::Marks(p) => p,
         Refusal::Beyond(p) => p,
+        Refusal::Sheet(p) => p,
+        Refusal::Field(p) => p,
     }
 }
 
@@ -123,6 +130,8 @@ pub fn needed(refusal: Refusal) -> usize
         Refusal::Room(_, n) => n,
         Refusal::Marks(_) => 0,
         Refusal::Beyond(_) => 0,
+        Refusal::Sheet(_) => 0,
+        Refusal::Field(_) => 0,
     }
 }
 
@@ -136,7 +145,7 @@ pub fn is_accepted(a: Answer) -> bool
     }
 }
 
-// The refusal of a number, a place and a needed number; a number other than 1 to 16 is 17.
+// The refusal of a number, a place and a needed number; a number of no other refusal is 17.
 pub fn made(number: usize, p: Place, needed: usize) -> Refusal
     ensures { λ r. ⌜ r ≡ refusalOf number p needed ⌝ }
 {
@@ -157,6 +166,8 @@ pub fn made(number: usize, p: Place, needed: usize) -> Refusal
         14 => Refusal::Unfinished(p),
         15 => Refusal::Room(p, needed),
         16 => Refusal::Marks(p),
+        20 => Refusal::Sheet(p),
+        28 => Refusal::Field(p),
         _ => Refusal::Beyond(p),
     }
 }

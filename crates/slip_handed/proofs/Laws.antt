@@ -11,8 +11,7 @@ use Rattle.text.specs.Split.{split}
 use Rattle.text.proofs.Laws.{to-the-end}
 use Rattle.slip_fields.specs.declared.Currency.{Currency}
 use Rattle.slip.specs.Slip.{slipAnswerIn, pieceOf}
-use Rattle.text.proofs.Pieces.{first-piece}
-use Rattle.slip.proofs.Laws.{split-at, split-whole}
+use Rattle.text.proofs.Pieces.{first-piece, split-at, split-whole}
 use Rattle.slip_handed.specs.Handed.{pieceStart, piecePart, isHanded, fieldPartIn, fieldIn}
 
 -- ---------------------------------------------------------------------------

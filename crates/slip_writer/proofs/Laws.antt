@@ -13,7 +13,8 @@ use Rattle.slip_fields.specs.Fields.{hrvhub30}
 use Rattle.room.proofs.Digits.{digits-length}
 use Rattle.slip_given.specs.Given.{givenAnswer, three}
 use Rattle.slip_writer.specs.declared.Written.{Written}
-use Rattle.slip_writer.specs.Writer.{joinLines, slipText, writtenInRoom, writeAnswer}
+use Rattle.text.specs.Lines.{joinLines}
+use Rattle.slip_writer.specs.Writer.{slipText, writtenInRoom, writeAnswer}
 use Rattle.slip_writer.specs.Steps.{WritesSlip, WritesAccepted}
 
 -- ---------------------------------------------------------------------------

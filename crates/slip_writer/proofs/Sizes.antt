@@ -9,7 +9,8 @@ use Rattle.slip_fields.specs.Fields.{fieldVerdict}
 use Rattle.slip_fields.specs.Sizes.{sizeOf}
 use Rattle.slip_fields.proofs.Theorems.{field-size}
 use Rattle.slip_given.specs.Given.{givenAnswer, eleven}
-use Rattle.slip_writer.specs.Writer.{joinLines, slipText}
+use Rattle.text.specs.Lines.{joinLines}
+use Rattle.slip_writer.specs.Writer.{slipText}
 use Rattle.slip_writer.proofs.Laws.{lines-length, slip-length}
 
 -- of accepted fields the first is accepted, and so are those after it

@@ -19,11 +19,12 @@ use Rattle.slip_handed.specs.Handed.{fieldIn, fieldOf, amountOf}
 use Rattle.slip_given.specs.Given.{givenAnswer}
 use Rattle.slip_writer.specs.declared.Written.{Written}
 use Rattle.slip_writer.specs.declared.Written.the-variants.{Bytes}
-use Rattle.slip_writer.specs.Writer.{joinLines, slipText, afterFields, writeAnswer}
-use Rattle.slip_writer.specs.Claims.{EachLine, none as no-line, more, slipLines, slipFields, ReadsBack, WritesBack}
+use Rattle.text.specs.Lines.{joinLines, linesAmong, EachLine, none as no-line, more}
+use Rattle.slip_writer.specs.Writer.{slipText, afterFields, writeAnswer}
+use Rattle.slip_writer.specs.Claims.{slipFields, ReadsBack, WritesBack}
 use Rattle.slip_writer.proofs.Laws.{slip-length}
 use Rattle.slip_writer.proofs.Sizes.{given-first, given-size, sizes, sizes-eleven}
-use Rattle.slip_writer.proofs.Lines.{split-joined, count-joined, last-joined, joined-split, lines-of-text, line-at}
+use Rattle.text.proofs.Lines.{split-joined, count-joined, last-joined, joined-split, lines-of-text, line-at}
 
 -- ---------------------------------------------------------------------------
 -- Fields accepted by the writer and by the reader
@@ -48,7 +49,7 @@ given-read n start m (p ∷ []) e = rw (given-first n m p [] e .0)
 given-read n start m (p ∷ (q ∷ ps)) e = let h = given-first n m p (q ∷ ps) e in rw (h .0) (given-read (n + 1) (start + length p + 1) p (q ∷ ps) (h .1))
 
 -- what the reader accepts the writer accepts
-read-given : (n start : ℕ) (m : List ℕ) (ps : List (List ℕ)) → fieldsAnswer Euro n start m ps ≡ Accepted → givenAnswer n m (slipLines ps) ≡ Accepted
+read-given : (n start : ℕ) (m : List ℕ) (ps : List (List ℕ)) → fieldsAnswer Euro n start m ps ≡ Accepted → givenAnswer n m (linesAmong ps) ≡ Accepted
 unfolding fieldsAnswer givenAnswer
 read-given n start m [] e = refl
 read-given n start m (p ∷ []) e = refl
@@ -196,7 +197,7 @@ listed-ext f g n m (suc k) h =
     rw (x, y) (h (suc i) (omega arith)) in
     rw a (ap (λ (l : List (List ℕ)). g m ∷ l) (listed-ext f g (n + 1) (m + 1) k rest))
 
-module _ (s : List ℕ) (accepted : slipAnswer s ≡ Accepted) (ls : List (List ℕ)) (lines : slipLines (split 10 s) ≡ ls) (all : length ls ≡ 14) where
+module _ (s : List ℕ) (accepted : slipAnswer s ≡ Accepted) (ls : List (List ℕ)) (lines : linesAmong (split 10 s) ≡ ls) (all : length ls ≡ 14) where
   -- a piece is a line
   piece-line : (i : ℕ) → i < 14 → pieceOf i (split 10 s) ≡ getD ls i []
   unfolding pieceOf
@@ -218,7 +219,7 @@ slip-lines p q r s cents fields a b d w = rw d (rw (a, b) at w)
 
 -- from the lines of an accepted slip
 lines-again :
-    (s : List ℕ) → slipAnswer s ≡ Accepted → (ls : List (List ℕ)) → slipLines (split 10 s) ≡ ls → length ls ≡ 14 → givenAnswer 1 [] ls ≡ Accepted
+    (s : List ℕ) → slipAnswer s ≡ Accepted → (ls : List (List ℕ)) → linesAmong (split 10 s) ≡ ls → length ls ≡ 14 → givenAnswer 1 [] ls ≡ Accepted
     → joinLines ls ≡ s → WritesBack s
 lines-again s a [] l n g w = absurd (omega arith)
 lines-again s a (p ∷ []) l n g w = absurd (omega arith)
@@ -243,7 +244,7 @@ pub read-and-written-again : (s : List ℕ) → slipAnswer s ≡ Accepted → Wr
 read-and-written-again s e =
     let h = slip-read s e in
     let b = both-true (eqb (countOf 10 s) 14) (eqb (getD s (length s - 1) 0) 10) (h .ends) in
-    lines-again s e (slipLines (split 10 s)) refl (lines-of-text s ∙ eqb-true (countOf 10 s) 14 (b .0)) (read-given 1 0 [] (split 10 s) (h .fields)) (joined-split s (eqb-true (getD s (length s - 1) 0) 10 (b .1)))
+    lines-again s e (linesAmong (split 10 s)) refl (lines-of-text s ∙ eqb-true (countOf 10 s) 14 (b .0)) (read-given 1 0 [] (split 10 s) (h .fields)) (joined-split s (eqb-true (getD s (length s - 1) 0) 10 (b .1)))
 
 -- so the writer writes that slip wherever it has the room
 pub accepted-is-written : (s : List ℕ) (room : ℕ) → slipAnswer s ≡ Accepted → length s ≤ room → writeAnswer (amountOf s) (slipFields s) room ≡ Bytes (length s)

@@ -1,25 +1,12 @@
--- What is claimed of slips written and read (proofs/Theorems.antt): lines, a slip's amount and fields, and what is read back.
+-- What is claimed of slips written and read (proofs/Theorems.antt): a slip's amount and fields, and what is read back.
 use Rattle.refusal.specs.Basics.{ℕ, _-_, _^_, _<_, _≤_, _≡_, true, List, [], _∷_, length, getD}
 use Rattle.refusal.specs.declared.Answer.the-variants.{Accepted}
-use Rattle.text.specs.Bytes.{allOf}
-use Rattle.classes.specs.declared.Class.the-variants.{Line}
 use Rattle.text.specs.Split.{split}
 use Rattle.text.specs.Digits.{digitsText}
 use Rattle.slip.specs.Slip.{pieceOf, slipAnswer}
 use Rattle.slip_handed.specs.Handed.{amountOf, fieldOf}
 use Rattle.slip_given.specs.Given.{givenAnswer, eleven}
 use Rattle.slip_writer.specs.Writer.{slipText}
-
--- no line feed stands in any of the texts
-pub data EachLine : List (List ℕ) → Type 0 where
-  none : EachLine []
-  more : {p : List ℕ} {ps : List (List ℕ)} → allOf Line p ≡ true → EachLine ps → EachLine (p ∷ ps)
-
--- all pieces but the last: the lines of a text
-abbrev pub slipLines : List (List ℕ) → List (List ℕ)
-slipLines [] = []
-slipLines (p ∷ []) = []
-slipLines (p ∷ (q ∷ ps)) = p ∷ slipLines (q ∷ ps)
 
 -- the fields 4 to 14 of a slip
 abbrev pub slipFields : List ℕ → List (List ℕ)

@@ -5,6 +5,7 @@ use Rattle.refusal.specs.declared.Answer.{Answer}
 use Rattle.refusal.specs.declared.Answer.the-variants as answer
 use Rattle.refusal.specs.declared.Refusal.the-variants.{Length, Room}
 use Rattle.text.specs.Bytes.{eur}
+use Rattle.text.specs.Lines.{joinLines}
 use Rattle.text.specs.Digits.{digitsText}
 use Rattle.slip_fields.specs.Fields.{hrvhub30}
 use Rattle.slip_given.specs.Given.{givenAnswer}
@@ -13,11 +14,6 @@ use Rattle.slip_writer.specs.declared.Written.the-variants.{Bytes, Refus
 
 -- ---------------------------------------------------------------------------
 -- The slip's bytes
-
--- each text with a line feed after it
-unfoldable pub joinLines : List (List ℕ) → List ℕ
-joinLines [] = []
-joinLines (p ∷ ps) = p ++ (10 ∷ joinLines ps)
 
 -- the slip of an amount in cents and the fields 4 to 14
 unfoldable pub slipText : ℕ → List (List ℕ) → List ℕ

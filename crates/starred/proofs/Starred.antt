@@ -17,7 +17,8 @@ use Rattle.reference.specs.Answers.{referenceVerdict}
 use Rattle.characters.specs.Characters.{firstWrong, characters}
 use Rattle.slip_fields.specs.Fields.{fieldVerdict}
 use Rattle.slip.specs.Slip.{fieldsAnswer, slipAnswerIn, slipAnswer}
-use Rattle.slip_writer.specs.Writer.{joinLines, slipText}
+use Rattle.text.specs.Lines.{joinLines}
+use Rattle.slip_writer.specs.Writer.{slipText}
 
 -- ---------------------------------------------------------------------------
 -- Questions, as the document prints them

@@ -5,4 +5,5 @@ pub mod Stands
 pub mod Same
 pub mod Values
 pub mod Pieces
+pub mod Lines
 pub mod One

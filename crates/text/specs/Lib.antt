@@ -2,4 +2,5 @@
 pub mod Bytes
 pub mod Digits
 pub mod Split
+pub mod Lines
 pub mod Stands

@@ -7,7 +7,7 @@ use Rattle.refusal.specs.declared.Answer.{Answer}
 use Rattle.refusal.specs.declared.Answer.the-variants.{Accepted, Refused}
 use Rattle.refusal.specs.declared.Place.{Place}
 use Rattle.refusal.specs.declared.Refusal.{Refusal}
-use Rattle.refusal.specs.declared.Refusal.the-variants.{Size, Ends, Byte, Length, Form, Check, Model, Parts, Digit, Misplaced, Date, Orders, Sum, Unfinished, Room, Marks, Beyond}
+use Rattle.refusal.specs.declared.Refusal.the-variants.{Size, Ends, Byte, Length, Form, Check, Model, Parts, Digit, Misplaced, Date, Orders, Sum, Unfinished, Room, Marks, Beyond, Sheet, Field}
 use Rattle.verdict.proofs.Verdicts.{byte-within}
 use Rattle.wage_places.specs.declared.LineType.{LineType}
 use Rattle.wage_places.specs.declared.LineType.the-variants.{Label, Group, Order, Closing}
@@ -81,7 +81,7 @@ told-place v field byte r e = go (eqb v 0) e
         chosen (eqb k 1) (Size at) _ (refl, refl) (chosen (eqb k 2) (Ends at) _ (refl, refl) (chosen (eqb k 3) (Byte at) _ (refl, refl) (chosen (eqb k 4) (Length at) _ (refl, refl)
         (chosen (eqb k 5) (Form at) _ (refl, refl) (chosen (eqb k 6) (Check at) _ (refl, refl) (chosen (eqb k 7) (Model at) _ (refl, refl) (chosen (eqb k 8) (Parts at) _ (refl, refl)
         (chosen (eqb k 9) (Digit at) _ (refl, refl) (chosen (eqb k 10) (Misplaced at) _ (refl, refl) (chosen (eqb k 11) (Date at) _ (refl, refl) (chosen (eqb k 12) (Orders at) _ (refl, refl)
-        (chosen (eqb k 13) (Sum at) _ (refl, refl) (chosen (eqb k 14) (Unfinished at) _ (refl, refl) (chosen (eqb k 15) (Room at 0) _ (refl, refl) (chosen (eqb k 16) (Marks at) (Beyond at) (refl, refl) (refl, refl))))))))))))))))
+        (chosen (eqb k 13) (Sum at) _ (refl, refl) (chosen (eqb k 14) (Unfinished at) _ (refl, refl) (chosen (eqb k 15) (Room at 0) _ (refl, refl) (chosen (eqb k 16) (Marks at) _ (refl, refl) (chosen (eqb k 20) (Sheet at) _ (refl, refl) (chosen (eqb k 28) (Field at) (Beyond at) (refl, refl) (refl, refl))))))))))))))))))
 
     go : (b : Bool) → cond b Accepted (Refused (refusalOf (verdictNumber v) at 0)) ≡ Refused r → Tells r
     go true f = let z : _≡_ {A = ℕ} 0 1 = cc in absurd (omega arith)

@@ -52,10 +52,16 @@ returns-16 : tie.Need-returns-16
 returns-16 c = rw (c .match .keys16)
 
 returns-17 : tie.Need-returns-17
-returns-17 c =
+returns-17 c = rw (c .match .keys17)
+
+returns-18 : tie.Need-returns-18
+returns-18 c = rw (c .match .keys18)
+
+returns-19 : tie.Need-returns-19
+returns-19 c =
     let n = c .before .args .number in
     let r = c .match .rest in
-    rw (ne-eqb n 1 (r .0 .0 .0 .0 .0 .0 .0 .0 .0 .0 .0 .0 .0 .0 .0 .1), ne-eqb n 2 (r .0 .0 .0 .0 .0 .0 .0 .0 .0 .0 .0 .0 .0 .0 .1), ne-eqb n 3 (r .0 .0 .0 .0 .0 .0 .0 .0 .0 .0 .0 .0 .0 .1), ne-eqb n 4 (r .0 .0 .0 .0 .0 .0 .0 .0 .0 .0 .0 .0 .1), ne-eqb n 5 (r .0 .0 .0 .0 .0 .0 .0 .0 .0 .0 .0 .1), ne-eqb n 6 (r .0 .0 .0 .0 .0 .0 .0 .0 .0 .0 .1), ne-eqb n 7 (r .0 .0 .0 .0 .0 .0 .0 .0 .0 .1), ne-eqb n 8 (r .0 .0 .0 .0 .0 .0 .0 .0 .1), ne-eqb n 9 (r .0 .0 .0 .0 .0 .0 .0 .1), ne-eqb n 10 (r .0 .0 .0 .0 .0 .0 .1), ne-eqb n 11 (r .0 .0 .0 .0 .0 .1), ne-eqb n 12 (r .0 .0 .0 .0 .1), ne-eqb n 13 (r .0 .0 .0 .1), ne-eqb n 14 (r .0 .0 .1), ne-eqb n 15 (r .0 .1), ne-eqb n 16 (r .1))
+    rw (ne-eqb n 1 (r .0 .0 .0 .0 .0 .0 .0 .0 .0 .0 .0 .0 .0 .0 .0 .0 .0 .1), ne-eqb n 2 (r .0 .0 .0 .0 .0 .0 .0 .0 .0 .0 .0 .0 .0 .0 .0 .0 .1), ne-eqb n 3 (r .0 .0 .0 .0 .0 .0 .0 .0 .0 .0 .0 .0 .0 .0 .0 .1), ne-eqb n 4 (r .0 .0 .0 .0 .0 .0 .0 .0 .0 .0 .0 .0 .0 .0 .1), ne-eqb n 5 (r .0 .0 .0 .0 .0 .0 .0 .0 .0 .0 .0 .0 .0 .1), ne-eqb n 6 (r .0 .0 .0 .0 .0 .0 .0 .0 .0 .0 .0 .0 .1), ne-eqb n 7 (r .0 .0 .0 .0 .0 .0 .0 .0 .0 .0 .0 .1), ne-eqb n 8 (r .0 .0 .0 .0 .0 .0 .0 .0 .0 .0 .1), ne-eqb n 9 (r .0 .0 .0 .0 .0 .0 .0 .0 .0 .1), ne-eqb n 10 (r .0 .0 .0 .0 .0 .0 .0 .0 .1), ne-eqb n 11 (r .0 .0 .0 .0 .0 .0 .0 .1), ne-eqb n 12 (r .0 .0 .0 .0 .0 .0 .1), ne-eqb n 13 (r .0 .0 .0 .0 .0 .1), ne-eqb n 14 (r .0 .0 .0 .0 .1), ne-eqb n 15 (r .0 .0 .0 .1), ne-eqb n 16 (r .0 .0 .1), ne-eqb n 20 (r .0 .1), ne-eqb n 28 (r .1))
 
 pub made-spec : {M : Type 1} → statement M
 made-spec =
@@ -76,4 +82,6 @@ made-spec =
     returns-14
     returns-15
     returns-16
-    returns-17)
+    returns-17
+    returns-18
+    returns-19)

@@ -1,7 +1,7 @@
 -- `slip::first_length` meets its contract: the scan divides the text. Assumes nothing.
 use Rattle.refusal.proofs.Basics.{sym, _∙_, needs, arith, length-take-le}
 use Rattle.slip.specs.Slip.{pieceOf}
-use Rattle.slip.proofs.Laws.{split-at, split-whole}
+use Rattle.text.proofs.Pieces.{split-at, split-whole}
 use Rattle.slip_handed.proofs.first_length.Statement.{statement}
 use Rattle.slip_handed.proofs.first_length.Tie as tie
 

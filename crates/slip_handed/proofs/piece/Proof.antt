@@ -2,7 +2,7 @@
 -- Assumes nothing.
 use Rattle.refusal.proofs.Basics.{_≡_, sym, _∙_, needs, arith, _≤_, length, drop}
 use Rattle.text.specs.Split.{split}
-use Rattle.slip.proofs.Laws.{next-piece}
+use Rattle.text.proofs.Pieces.{next-piece}
 use Rattle.slip_handed.specs.Handed.{piecePart}
 use Rattle.slip_handed.proofs.Laws.{behind, behind-none, piece-again, piece-none, piece-here}
 use Rattle.slip_handed.proofs.piece.Statement.{statement}

@@ -2,7 +2,8 @@
 use Rattle.refusal.proofs.Basics.{_≡_, refl, needs, arith, ℕ, _+_, _≤_, length, List, _++_}
 use Rattle.text.proofs.Stands.{front-stands}
 use Rattle.slip_given.specs.Given.{three, four}
-use Rattle.slip_writer.specs.Writer.{joinLines, slipText}
+use Rattle.text.specs.Lines.{joinLines}
+use Rattle.slip_writer.specs.Writer.{slipText}
 use Rattle.slip_writer.proofs.Laws.{headOf, slip-size, slip-room, slip-stands, room-refused, room-counted, room-first, room-next}
 use Rattle.slip_writer.proofs.write_accepted.Statement.{statement}
 use Rattle.slip_writer.proofs.write_accepted.Tie as tie

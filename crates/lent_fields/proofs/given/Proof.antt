@@ -1,8 +1,8 @@
--- `desk_slips::given` meets its contract: a field is the front of the text behind those before it. Assumes nothing.
+-- `lent_fields::given` meets its contract: a field is the front of the text behind those before it. Assumes nothing.
 use Rattle.refusal.proofs.Basics.{_∙_, needs}
-use Rattle.desk_slips.proofs.Laws.{front-behind}
-use Rattle.desk_slips.proofs.given.Statement.{statement}
-use Rattle.desk_slips.proofs.given.Tie as tie
+use Rattle.lent_fields.proofs.Laws.{front-behind}
+use Rattle.lent_fields.proofs.given.Statement.{statement}
+use Rattle.lent_fields.proofs.given.Tie as tie
 
 returns : tie.Need-returns
 returns c =

@@ -1,11 +1,10 @@
 -- Laws of lines: a text is split at its line feeds, and joined from its lines. Assumes nothing.
 use Rattle.refusal.proofs.Basics.{_≡_, refl, sym, ap, _∙_, arith, ℕ, zero, suc, _+_, _-_, _<_, length, getD, length-append, eqb-true, eqb-false, not-true, List, [], _∷_, _++_, append-nil, Bool, true, false, cond, not, eqb, getD-append-add, both-true}
 use Rattle.text.specs.Bytes.{allOf, countOf}
 use Rattle.classes.specs.declared.Class.the-variants.{Line}
 use Rattle.text.specs.Split.{longer, split}
 use Rattle.text.proofs.Pieces.{pieces-counted}
-use Rattle.slip_writer.specs.Writer.{joinLines}
-use Rattle.slip_writer.specs.Claims.{EachLine, none, more, slipLines}
+use Rattle.text.specs.Lines.{joinLines, linesAmong, lastPiece, EachLine, none, more}
 
 -- ---------------------------------------------------------------------------
 -- Lines joined, then split
@@ -16,7 +15,7 @@ unfolding allOf
 line-first b p e = let h = both-true (not (eqb b 10)) (allOf Line p) e in (not-true (eqb b 10) (h .0), h .1)
 
 -- a line, a line feed and more
-split-line : (p s : List ℕ) → allOf Line p ≡ true → split 10 (p ++ (10 ∷ s)) ≡ p ∷ split 10 s
+pub split-line : (p s : List ℕ) → allOf Line p ≡ true → split 10 (p ++ (10 ∷ s)) ≡ p ∷ split 10 s
 unfolding split
 split-line [] s e = refl
 split-line (b ∷ p) s e = let h = line-first b p e in rw (h .0, split-line p s (h .1))
@@ -60,12 +59,6 @@ last-joined p (q ∷ ps) =
 -- ---------------------------------------------------------------------------
 -- A text split, then joined
 
--- the last piece
-abbrev lastPiece : List (List ℕ) → List ℕ
-lastPiece [] = []
-lastPiece (p ∷ []) = p
-lastPiece (p ∷ (q ∷ ps)) = lastPiece (q ∷ ps)
-
 -- there is always a piece
 longer-some : (b : ℕ) (ps : List (List ℕ)) → 0 < length (longer b ps)
 longer-some b [] = omega arith
@@ -81,14 +74,14 @@ split-some (b ∷ s) = go (eqb b 10)
     go false = longer-some b (split 10 s)
 
 -- the lines and what stands behind the last one make up the text
-split-join : (s : List ℕ) → joinLines (slipLines (split 10 s)) ++ lastPiece (split 10 s) ≡ s
+pub split-join : (s : List ℕ) → joinLines (linesAmong (split 10 s)) ++ lastPiece (split 10 s) ≡ s
 unfolding split joinLines
 split-join [] = refl
 split-join (b ∷ s) = go (eqb b 10) refl (split 10 s) (split-some s) (split-join s)
   where
     go :
-        (t : Bool) → eqb b 10 ≡ t → (qs : List (List ℕ)) → 0 < length qs → joinLines (slipLines qs) ++ lastPiece qs ≡ s
-        → joinLines (slipLines (cond t ([] ∷ qs) (longer b qs))) ++ lastPiece (cond t ([] ∷ qs) (longer b qs)) ≡ b ∷ s
+        (t : Bool) → eqb b 10 ≡ t → (qs : List (List ℕ)) → 0 < length qs → joinLines (linesAmong qs) ++ lastPiece qs ≡ s
+        → joinLines (linesAmong (cond t ([] ∷ qs) (longer b qs))) ++ lastPiece (cond t ([] ∷ qs) (longer b qs)) ≡ b ∷ s
     go t e [] l ih = absurd (omega arith)
     go true e (q ∷ qs) l ih = rw (eqb-true b 10 e, ih)
     go false e (q ∷ []) l ih = rw ih
@@ -115,30 +108,30 @@ free-last (b ∷ []) e l g = eqb-false b 10 (line-first b [] e .0) g
 free-last (b ∷ (c ∷ p)) e l g = free-last (c ∷ p) (line-first b (c ∷ p) e .1) (omega arith) (sym (last-append (b ∷ []) (c ∷ p) (omega arith)) ∙ g)
 
 -- a text that ends in a line feed is its lines
-pub joined-split : (s : List ℕ) → getD s (length s - 1) 0 ≡ 10 → joinLines (slipLines (split 10 s)) ≡ s
+pub joined-split : (s : List ℕ) → getD s (length s - 1) 0 ≡ 10 → joinLines (linesAmong (split 10 s)) ≡ s
 joined-split s e = go (lastPiece (split 10 s)) refl
   where
-    go : (p : List ℕ) → lastPiece (split 10 s) ≡ p → joinLines (slipLines (split 10 s)) ≡ s
-    go [] g = sym (append-nil (joinLines (slipLines (split 10 s)))) ∙ rw g at (split-join s)
+    go : (p : List ℕ) → lastPiece (split 10 s) ≡ p → joinLines (linesAmong (split 10 s)) ≡ s
+    go [] g = sym (append-nil (joinLines (linesAmong (split 10 s)))) ∙ rw g at (split-join s)
     go (b ∷ p) g =
-        let w : joinLines (slipLines (split 10 s)) ++ (b ∷ p) ≡ s = rw g at (split-join s) in
-        absurd (free-last (b ∷ p) (rw g at (last-free s)) (omega arith) (sym (last-append (joinLines (slipLines (split 10 s))) (b ∷ p) (omega arith)) ∙ rw w e))
+        let w : joinLines (linesAmong (split 10 s)) ++ (b ∷ p) ≡ s = rw g at (split-join s) in
+        absurd (free-last (b ∷ p) (rw g at (last-free s)) (omega arith) (sym (last-append (joinLines (linesAmong (split 10 s))) (b ∷ p) (omega arith)) ∙ rw w e))
 
 -- ---------------------------------------------------------------------------
 -- How many
 
 -- one line fewer than pieces
-lines-counted : (ps : List (List ℕ)) → length (slipLines ps) ≡ length ps - 1
+lines-counted : (ps : List (List ℕ)) → length (linesAmong ps) ≡ length ps - 1
 lines-counted [] = omega arith
 lines-counted (p ∷ []) = omega arith
 lines-counted (p ∷ (q ∷ ps)) = omega (arith, lines-counted (q ∷ ps))
 
 -- as many lines as line feeds
-pub lines-of-text : (s : List ℕ) → length (slipLines (split 10 s)) ≡ countOf 10 s
+pub lines-of-text : (s : List ℕ) → length (linesAmong (split 10 s)) ≡ countOf 10 s
 lines-of-text s = omega (arith, lines-counted (split 10 s), pieces-counted 10 s)
 
 -- a line is the piece at its place
-pub line-at : (ps : List (List ℕ)) (i : ℕ) → i < length (slipLines ps) → getD (slipLines ps) i [] ≡ getD ps i []
+pub line-at : (ps : List (List ℕ)) (i : ℕ) → i < length (linesAmong ps) → getD (linesAmong ps) i [] ≡ getD ps i []
 line-at [] i h = refl
 line-at (p ∷ []) i h = absurd (omega arith)
 line-at (p ∷ (q ∷ ps)) zero h = refl

@@ -1,0 +1,2 @@
+-- The definitions of the crate `desk_standing`.
+pub mod Standings

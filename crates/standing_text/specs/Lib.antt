@@ -1,0 +1,2 @@
+-- The definitions of the crate `standing_text`.
+pub mod Standing
