@@ -272,7 +272,17 @@ pub fn slip_write_standing(
     // SAFETY: text, sizes and sheets may be read and `out` written for their lengths; `out`, a `&mut`, overlaps nothing.
     unsafe {
         lanecockle_slip_write_standing(
-            cents, text, text_length, sizes, count, farm, farm_length, association, association_length, out, room,
+            cents,
+            text,
+            text_length,
+            sizes,
+            count,
+            farm,
+            farm_length,
+            association,
+            association_length,
+            out,
+            room,
         )
     }
 }

@@ -96,9 +96,9 @@ pub fn write(cents: u64, fields: &[&[u8]; 11], out: &mut [u8]) -> Result<usize, 
     value(ffi::slip_write(cents, &ffi::Fields::of(fields), out))
 }
 
-/// Writes a slip as [`write`] does, but each of the fields 4 to 9, 13 and 14 that is given empty is its standing text, as
+/// Writes a slip as [`write()`] does, but each of the fields 4 to 9, 13 and 14 that is given empty is its standing text, as
 /// [`standing::text`] answers it of the two sheets. Refusals: 20, also where nothing is taken from a sheet; then those of
-/// [`write`].
+/// [`write()`].
 ///
 /// ```
 /// use lanecockle::{slip, standing::Sheet, Kind};

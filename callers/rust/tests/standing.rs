@@ -49,9 +49,8 @@ fn a_text_is_borrowed_from_its_sheet() {
 fn an_empty_sheet_is_right() {
     for field in standing::FIELDS {
         assert_eq!(standing::text(field, b"", b""), Ok(None));
-        assert_eq!(standing::text(field, ASSOCIATION, b"").unwrap().map(|(sheet, _)| sheet).is_some(), {
-            ![5, 6, 8, 9].contains(&field)
-        });
+        let found = standing::text(field, ASSOCIATION, b"").unwrap();
+        assert_eq!(found.is_some(), [4, 7, 13, 14].contains(&field));
     }
 }
 
@@ -64,6 +63,7 @@ fn another_field_is_refused_before_a_sheet_is_judged() {
 }
 
 /// Malformed, as the only line of a sheet and behind `4=x`.
+#[rustfmt::skip]
 const MALFORMED: [&[u8]; 45] = [
     b"\n", b"=\n", b"=x\n", b"4\n", b"x\n", b"04=x\n", b"+4=x\n", b" 4=x\n", b"4 =x\n", b"\t4=x\n", b"0=x\n", b"3=x\n",
     b"10=x\n", b"11=x\n", b"12=x\n", b"15=x\n", b"40=x\n", b"013=WTER\n", b"130=WTER\n", b"18446744073709551620=x\n",
@@ -86,7 +86,8 @@ fn a_malformed_line_is_told_with_its_sheet() {
 
 #[test]
 fn of_two_lines_out_of_order_the_second_is_malformed() {
-    for (sheet, line) in [(&b"5=x\n4=y\n"[..], 2), (b"4=x\n4=x\n", 2), (b"4=x\n14=y\n13=WTER\n", 3), (b"13=\n4=x\n", 2)] {
+    for (sheet, line) in [(&b"5=x\n4=y\n"[..], 2), (b"4=x\n4=x\n", 2), (b"4=x\n14=y\n13=WTER\n", 3), (b"13=\n4=x\n", 2)]
+    {
         assert_eq!(standing::text(4, sheet, b"x"), Err(malformed(Sheet::Farm, line)));
     }
 }
@@ -111,9 +112,11 @@ fn a_text_obeys_the_rule_of_its_field() {
 #[test]
 fn a_sheet_written_of_lines_reads_back_as_these() {
     let texts = standing::FIELDS.map(longest);
-    let lines: Vec<(usize, &[u8])> = standing::FIELDS.into_iter().zip(texts.iter().map(|(text, _)| &text[..])).collect();
+    let lines: Vec<(usize, &[u8])> =
+        standing::FIELDS.into_iter().zip(texts.iter().map(|(text, _)| &text[..])).collect();
     for chosen in 0..1 << lines.len() {
-        let chosen: Vec<_> = lines.iter().enumerate().filter(|(at, _)| chosen >> at & 1 == 1).map(|(_, line)| *line).collect();
+        let chosen: Vec<_> =
+            lines.iter().enumerate().filter(|(at, _)| chosen >> at & 1 == 1).map(|(_, line)| *line).collect();
         let sheet = sheet_text(&chosen);
         for field in standing::FIELDS {
             let awaited = chosen.iter().find(|line| line.0 == field).map(|line| (Sheet::Association, line.1));
@@ -149,30 +152,32 @@ fn what_is_given_is_not_taken_from_a_sheet() {
     }
 }
 
+/// That a slip is refused, and the room as it was.
+fn assert_unwritten(cents: u64, given: &[&[u8]; 11], [farm, association]: [&[u8]; 2], room: usize, told: SheetRefusal) {
+    let mut out = [7; slip::MOST];
+    assert_eq!(slip::write_standing(cents, given, farm, association, &mut out[..room]), Err(told));
+    assert_eq!(out, [7; slip::MOST]);
+}
+
 #[test]
 fn a_slip_that_is_refused_is_not_written() {
+    let wrong = fields(4, b"IVAN_");
+    assert_unwritten(u64::MAX, &wrong, [b"4=x\nx", b"x"], 0, malformed(Sheet::Farm, 2));
+    assert_unwritten(u64::MAX, &wrong, [FARM, b"4=x\n5=x\n\n"], 0, malformed(Sheet::Association, 3));
+    assert_unwritten(1_000_000_000_000_000, &wrong, [FARM, b""], 0, refused(Kind::Length, 3, 0));
+    assert_unwritten(1, &wrong, [FARM, b""], 0, refused(Kind::Byte, 4, 4));
+    assert_unwritten(1, &fields(13, b"COS"), [FARM, ASSOCIATION], 0, refused(Kind::Length, 13, 0));
+    assert_unwritten(1, &fields(10, b""), [FARM, ASSOCIATION], 0, refused(Kind::Length, 10, 0));
     let needed = Refusal { needed: 94, ..refused(Kind::Room, 0, 0).refusal };
-    let cases: [(u64, [&[u8]; 11], &[u8], &[u8], SheetRefusal); 7] = [
-        (u64::MAX, fields(4, b"_"), b"4=x\nx", b"x", malformed(Sheet::Farm, 2)),
-        (u64::MAX, fields(4, b"_"), FARM, b"4=x\n5=x\n\n", malformed(Sheet::Association, 3)),
-        (1_000_000_000_000_000, fields(4, b"_"), FARM, b"", refused(Kind::Length, 3, 0)),
-        (1, fields(4, b"IVAN_"), FARM, b"", refused(Kind::Byte, 4, 4)),
-        (1, fields(13, b"COS"), FARM, ASSOCIATION, refused(Kind::Length, 13, 0)),
-        (1, fields(10, b""), FARM, ASSOCIATION, refused(Kind::Length, 10, 0)),
-        (1, fields(0, b""), b"14=Voda\n", b"4=IVO\n", SheetRefusal { refusal: needed, sheet: None }),
-    ];
-    for (cents, fields, farm, association, told) in cases {
-        let mut out = [7; slip::MOST];
-        let room = if told.refusal.kind == Kind::Room { 93 } else { slip::MOST };
-        assert_eq!(slip::write_standing(cents, &fields, farm, association, &mut out[..room]), Err(told));
-        assert_eq!(out, [7; slip::MOST]);
-    }
+    let told = SheetRefusal { refusal: needed, sheet: None };
+    assert_unwritten(1, &fields(0, b""), [b"14=Voda\n", b"4=IVO\n"], 93, told);
 }
 
 #[test]
 fn the_longest_slip_is_written_from_a_sheet() {
     let texts = standing::FIELDS.map(longest);
-    let lines: Vec<(usize, &[u8])> = standing::FIELDS.into_iter().zip(texts.iter().map(|(text, _)| &text[..])).collect();
+    let lines: Vec<(usize, &[u8])> =
+        standing::FIELDS.into_iter().zip(texts.iter().map(|(text, _)| &text[..])).collect();
     let mut out = [0; slip::MOST];
     let sheet = sheet_text(&lines);
     assert_eq!(sheet.len(), 422);
@@ -182,7 +187,9 @@ fn the_longest_slip_is_written_from_a_sheet() {
 
 #[test]
 fn a_stored_record_keeps_these_refusals() {
-    for (number, kind) in [(20, Kind::Sheet), (28, Kind::Field), (17, Kind::Beyond), (19, Kind::Beyond), (21, Kind::Beyond)] {
+    for (number, kind) in
+        [(20, Kind::Sheet), (28, Kind::Field), (17, Kind::Beyond), (19, Kind::Beyond), (21, Kind::Beyond)]
+    {
         let told = Told { number, line: 3, ..Told::default() };
         let record = Record { condition: 4, told, ..Record::default() };
         assert_eq!(Judge::from_record(record).end().unwrap_err(), Refusal { line: 3, ..refused(kind, 0, 0).refusal });
