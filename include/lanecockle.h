@@ -249,8 +249,8 @@ typedef struct {
  * those read so far, `declared` and `promised` the orders and the sum that the group declares, `counted` and `total` what
  * its orders came to. A record that the judge did not make gets an answer as well: 17 at line 1,000,001, at a step or the
  * end, for a condition above 4, and in one that has not refused for a count above 1,000,000 or a sum of 10^20 or more. In
- * condition 4 the numbers 1 to 17, 20 and 28 are kept and any other stands for 17, at the place told, and `needed` counts for
- * 15 alone; in the others `told` is not read. */
+ * condition 4 the numbers 1 to 17, 20 and 28 are kept and any other stands for 17, at the place told, and `needed` counts
+ * for 15 alone; in the others `told` is not read. */
 typedef struct {
     size_t condition;
     lanecockle_told told;

@@ -1,6 +1,6 @@
 /* Example in C: reads a slip from standard input and prints its fields; or writes a slip of the cents and the IBAN that are
- * given, with the standing text of two sheets, the farm's and the association's. What is refused is printed. Exit status 1 is
- * a refusal, 2 wrong usage.
+ * given, with the standing text of two sheets, the farm's and the association's. What is refused is printed. Exit status 1
+ * is a refusal, 2 wrong usage.
  *
  *     gcc -Iinclude callers/c/example.c target/staticlib/libdesk.a -o example && ./example < slip.txt
  *     ./example farm.txt association.txt 12355 HR1210010051863000160 */

@@ -756,7 +756,8 @@ static void test_slip_write_standing(void)
     fields f = {{0}, 0, {0}, 0};
     WRITTEN(without_standing(0, ""), FARM_SHEET, ASSOCIATION_SHEET,
             SLIP_HEAD "OPG HORVAT\n\n42000 VARA\xC5\xBD" "DIN\nUDRUGA\n\n\n" SLIP_REFERENCE "WTER\n\n");
-    WRITTEN(without_standing(0, ""), "", ASSOCIATION_SHEET, SLIP_HEAD "NITKO\n\n\nUDRUGA\n\n\n" SLIP_REFERENCE "WTER\nVoda\n");
+    WRITTEN(without_standing(0, ""), "", ASSOCIATION_SHEET,
+            SLIP_HEAD "NITKO\n\n\nUDRUGA\n\n\n" SLIP_REFERENCE "WTER\nVoda\n");
     WRITTEN(without_standing(0, ""), "", "", SLIP_HEAD "\n\n\n\n\n\n" SLIP_REFERENCE "\n\n");
     /* what is given is not taken from a sheet */
     WRITTEN(without_standing(14, "Struja"), FARM_SHEET, ASSOCIATION_SHEET,

@@ -1,5 +1,5 @@
-"""Lanecockle for Python: HUB3 payment slips and their standing text, kuna slips for the ledgers, wage files of 300/301/309/399
-lines, wet slips and check digits.
+"""Lanecockle for Python: HUB3 payment slips and their standing text, kuna slips for the ledgers, wage files of
+300/301/309/399 lines, wet slips and check digits.
 
 The checks are those of a proved library, liblanecockle.so, which an installed package has inside it. Text is bytes: a slip
 is UTF-8, a wage file WIN-1250 (cp1250 in Python). A call that refuses raises Refusal, with its number, its place, and one
@@ -20,10 +20,10 @@ bytes from 0, and 0 stands for none.
 
 from . import explain, hints
 from .calls import (
-    LINE, STANDING, Amount, Counts, EuroCents, Judge, LedgerSlip, Lipa, Rule, Slip, StandingText, check_digits, filled, iban,
-    ledger, ledger_field, ledger_read, lipa_in_cents, list_iban, list_reference, make_digit, oib, reference, sheet_text, slip,
-    slip_cents, slip_field, slip_read, slip_write, slip_write_standing, standing_text, version, wage_file, wage_place,
-    write_closing, write_group, write_label, write_order,
+    LINE, STANDING, Amount, Counts, EuroCents, Judge, LedgerSlip, Lipa, Rule, Slip, StandingText, check_digits, filled,
+    iban, ledger, ledger_field, ledger_read, lipa_in_cents, list_iban, list_reference, make_digit, oib, reference,
+    sheet_text, slip, slip_cents, slip_field, slip_read, slip_write, slip_write_standing, standing_text, version, wage_file,
+    wage_place, write_closing, write_group, write_label, write_order,
 )
 from .judging import Accepted, Judging
 from .library import Cents, Record, Told

@@ -1,5 +1,5 @@
-"""The calls of the library: check digits, accounts, references, wet slips, slips and their standing text, slips for the ledgers
-and wage files."""
+"""The calls of the library: check digits, accounts, references, wet slips, slips and their standing text, slips for the
+ledgers and wage files."""
 
 import ctypes
 import datetime

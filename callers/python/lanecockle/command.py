@@ -29,8 +29,8 @@ from .tables import VERSION
 
 PROGRAM = "lanecockle"
 
-#: The bytes that are read of a wage file at once, and at most of what should be a slip, a sheet or a typed line: no sheet that
-#: is right is as long, and the first malformed line of a longer one begins among them.
+#: The bytes that are read of a wage file at once, and at most of what should be a slip, a sheet or a typed line: a sheet that
+#: is longer is refused, and its first malformed line begins among these.
 _PART = 1 << 20
 _MOST = 1 << 16
 
@@ -96,7 +96,8 @@ _HELP: Dict[str, Tuple[str, str]] = {
     "page": ("serve the page to try it all in a browser", "pokreni stranicu za isprobavanje u pregledniku"),
     "file": ("a file; standard input if none or -", "datoteka; standardni ulaz ako je nema ili je -"),
     "farm": ("the farm's sheet, a file of lines number=text, - for standard input (empty if none)",
-             "predložak gospodarstva, datoteka u kojoj je svaki redak broj=tekst, - za standardni ulaz (prazan ako ga nema)"),
+             "predložak gospodarstva, datoteka u kojoj je svaki redak broj=tekst, - za standardni ulaz (prazan ako ga "
+             "nema)"),
     "association": ("the association's sheet, likewise", "predložak udruge, isto tako"),
     "field": ("the field, 4 to 9, 13 or 14; all of them if none", "polje, 4 do 9, 13 ili 14; sva ako ga nema"),
     "text": ("the text; one line of standard input if none", "tekst; jedan redak standardnog ulaza ako ga nema"),

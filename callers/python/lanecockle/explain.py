@@ -27,6 +27,9 @@ _WORDS: Dict[str, Tuple[str, str]] = {
     "file end": ("the end of the file", "kraja datoteke"),
     "currency": ("Must be `EUR`, or `HRK` in a slip from before 2023.",
                  "Mora biti `EUR` ili, u uplatnici iz vremena prije 2023., `HRK`."),
+    "sheet": ("A field's number, 4 to 9, 13 or 14 and above that of the line before, `=`, a text that the field permits, and "
+              "LF.",
+              "Broj polja, 4 do 9, 13 ili 14 i veći od broja u prethodnom retku, `=`, tekst kakav polje dopušta i LF."),
     "slip size": ("A slip has at most {} bytes; {} were read.", "Uplatnica ima najviše {} bajta; pročitano ih je {}."),
     "due": ("A line of type {} is due here.", "Ovdje treba stajati slog {}."),
     "or": (" or ", " ili "),
@@ -185,7 +188,7 @@ def of_standing(refusal: Refusal, farm: bytes, association: bytes, language: str
     line, end, _ = from_line.partition(b"\n")
     content = _visible(_decoded((line + end)[:_SLIP]))
     shown = _shown(refusal, content, -1, hints.of_sheet(sheet, refusal, language), language)
-    return shown._replace(sheet=refusal.sheet.name.lower())
+    return shown._replace(sheet=refusal.sheet.name.lower(), rule=_say("sheet", language))
 
 
 def of_wage(refusal: Refusal, start: bytes, line: bytes, record: Record, day: int, language: str) -> Shown:

@@ -229,7 +229,8 @@ HINTS: Dict[str, Tuple[str, str]] = {
         "`ledger`."),
     # Sheets.
     "sheet_mark": (
-        "The sheet begins with a byte order mark (EF BB BF), which does not belong to it. Save it as UTF-8 without the mark.",
+        "The sheet begins with a byte order mark (EF BB BF), which does not belong to it. Save it as UTF-8 without the "
+        "mark.",
         "Predložak počinje oznakom redoslijeda bajtova (BOM, EF BB BF), koja mu ne pripada. Spremite ga kao UTF-8 bez te "
         "oznake."),
     "sheet_ends": (

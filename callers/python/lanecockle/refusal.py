@@ -24,8 +24,8 @@ class Sheet(IntEnum):
 
 
 class Refusal(Exception):
-    """What is wrong and where: `number`, `line`, `field`, `byte`, and for 15 `needed`; 0 stands for none. For 20 `sheet` tells
-    whose sheet the line is of; otherwise it is None.
+    """What is wrong and where: `number`, `line`, `field`, `byte`, and for 15 `needed`; 0 stands for none. `sheet` tells for
+    20 whose sheet the line is of, and is None otherwise.
 
     str() is one sentence about it in English, croatian() the same in Croatian. Sentences tell a byte as a position, which
     counts from 1; `byte` counts from 0.

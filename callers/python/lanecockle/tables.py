@@ -54,7 +54,7 @@ SENTENCES: List[Tuple[int, str, str, str]] = [
     (15, "any", "there is too little room; there must be room for {needed}.", "nema dovoljno mjesta; treba biti mjesta za {needed}."),
     (16, "any", "more than four digits are unreadable.", "nečitljivo je više od četiri znamenke."),
     (17, "any", "the file has more than 1,000,000 lines.", "datoteka ima više od 1.000.000 slogova."),
-    (20, "line", "the line is malformed; it must be `number=text` and LF, its number 4 to 9, 13 or 14 and above the one before, its text as the field permits.", "redak nije ispravan; mora biti `broj=tekst` i LF, broj 4 do 9, 13 ili 14 i veći od prethodnog, a tekst u skladu s pravilom polja."),
+    (20, "line", "the line is not `number=text` as its field asks for, or is out of order.", "redak nije `broj=tekst` kako polje traži ili nije po redu."),
     (20, "any", "a line of a sheet is malformed.", "redak predloška nije ispravan."),
     (28, "any", "only the fields 4 to 9, 13 and 14 have standing text.", "stalni tekst imaju samo polja 4 do 9, 13 i 14."),
 ]

@@ -374,8 +374,8 @@ class Standing(Case):
     def test_json(self) -> None:
         facts = self.answer("standing", *self.sheets(FARM, ASSOCIATION))
         self.assertEqual([(field["number"], field["sheet"], field["content"]) for field in facts["fields"]], [
-            (4, "farm", "OPG HORVAT"), (5, None, ""), (6, "farm", "42000 VARAŽDIN"), (7, "association", "UDRUGA"), (8, None, ""),
-            (9, None, ""), (13, "association", "WTER"), (14, "farm", ""),
+            (4, "farm", "OPG HORVAT"), (5, None, ""), (6, "farm", "42000 VARAŽDIN"), (7, "association", "UDRUGA"),
+            (8, None, ""), (9, None, ""), (13, "association", "WTER"), (14, "farm", ""),
         ])
 
     def test_one_sheet_or_none(self) -> None:
@@ -401,7 +401,8 @@ class Standing(Case):
                 ran = run(*asked)
                 self.assertEqual(ran.status, 1)
                 self.assertTrue(ran.out.startswith(f"refused 20: Line 2 of the {sheet}'s sheet: "), ran.out)
-                self.assertIn("\n  5\n  hint: The last line has no LF at its end.", ran.out)
+                self.assertIn("\n  5\n  rule: A field's number, ", ran.out)
+                self.assertIn("\n  hint: The last line has no LF at its end.", ran.out)
         ran = run(*asked, "--lang", "hr")
         self.assertTrue(ran.out.startswith("odbijeno 20: Redak 2 predloška udruge: "), ran.out)
 

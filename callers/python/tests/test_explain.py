@@ -190,29 +190,33 @@ class Ledger(unittest.TestCase):
 class Standing(unittest.TestCase):
     """Standing text: the malformed line, and whose sheet it is."""
 
-    RULE = ("the line is malformed; it must be `number=text` and LF, its number 4 to 9, 13 or 14 and above the one before, its "
-            "text as the field permits.")
-
     def test_malformed(self) -> None:
         shown = standing_shown(FARM, b"4=x\n14=Voda\n13=WTER\n")
         self.assertEqual((shown.number, shown.name, shown.line, shown.field, shown.byte), (20, "sheet", 3, 0, 0))
-        self.assertEqual((shown.sheet, shown.content, shown.mark, shown.rule), ("association", "13=WTER␊", -1, ""))
+        self.assertEqual((shown.sheet, shown.content, shown.mark), ("association", "13=WTER␊", -1))
         self.assertEqual(body(shown), [
-            f"refused 20: Line 3 of the association's sheet: {self.RULE}",
+            "refused 20: Line 3 of the association's sheet: the line is not `number=text` as its field asks for, or is out of "
+            "order.",
             "  line 3 of the association's sheet", "  13=WTER␊",
+            "  rule: A field's number, 4 to 9, 13 or 14 and above that of the line before, `=`, a text that the field permits, "
+            "and LF.",
         ])
-        self.assertEqual(shown.hints, ["Field 13 stands behind field 14. Put the lines in ascending order of their numbers."])
+        self.assertEqual(shown.hints, [
+            "Field 13 stands behind field 14. Put the lines in ascending order of their numbers."])
 
     def test_croatian(self) -> None:
         shown = standing_shown(b"4=IVO\n=", b"", "hr")
-        lines = body(shown, "hr")
-        self.assertTrue(lines[0].startswith("odbijeno 20: Redak 2 predloška gospodarstva: redak nije ispravan; "), lines[0])
-        self.assertEqual(lines[1:], ["  redak 2 predloška gospodarstva", "  ="])
+        self.assertEqual(body(shown, "hr"), [
+            "odbijeno 20: Redak 2 predloška gospodarstva: redak nije `broj=tekst` kako polje traži ili nije po redu.",
+            "  redak 2 predloška gospodarstva", "  =",
+            "  pravilo: Broj polja, 4 do 9, 13 ili 14 i veći od broja u prethodnom retku, `=`, tekst kakav polje dopušta i LF.",
+        ])
 
     def test_line_and_its_end(self) -> None:
         for sheet, content in (
-            (b"\n", "␊"), (b"4=x\r\n5=y\r\n", "4=x␍␊"), (b"4=x\n5=y", "5=y"), (b"4=x\n\n5=y\n", "␊"), (b"4=\xC5\n", "4=·␊"),
-            (b"4=x\r5=y", "4=x␍5=y"), ("4=Ž\t\n".encode(), "4=Ž␉␊"), (b"4=" + b"x" * 999, "4=" + "x" * 481),
+            (b"\n", "␊"), (b"4=x\r\n5=y\r\n", "4=x␍␊"), (b"4=x\n5=y", "5=y"), (b"4=x\n\n5=y\n", "␊"),
+            (b"4=\xC5\n", "4=·␊"), (b"4=x\r5=y", "4=x␍5=y"), ("4=Ž\t\n".encode(), "4=Ž␉␊"),
+            (b"4=" + b"x" * 999, "4=" + "x" * 481),
         ):
             with self.subTest(sheet=sheet):
                 self.assertEqual(standing_shown(sheet, b"").content, content)

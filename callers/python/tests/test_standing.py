@@ -75,7 +75,9 @@ class Answered(SheetCase):
 
     def test_what_the_library_tells(self) -> None:
         """Where the text stands in its sheet; 0 and 0 where there is none."""
-        for field, told in ((4, (0, 1, 2, 10)), (5, (0, 0, 0, 0)), (13, (0, 2, 20, 4)), (14, (0, 1, 34, 0)), (3, (28, 0, 0, 0))):
+        for field, told in (
+            (4, (0, 1, 2, 10)), (5, (0, 0, 0, 0)), (13, (0, 2, 20, 4)), (14, (0, 1, 34, 0)), (3, (28, 0, 0, 0)),
+        ):
             found = calls._CALLS["standing_text"](field, FARM, len(FARM), ASSOCIATION, len(ASSOCIATION))
             self.assertEqual((found.told.number, found.sheet, found.start, found.length), told)
         self.assertEqual(ctypes.sizeof(found), 64)
@@ -127,8 +129,9 @@ class Refused(SheetCase):
         assert refusal is not None
         self.assertEqual((refusal.place("en"), refusal.place("hr")), (
             "line 2 of the association's sheet", "redak 2 predloška udruge"))
-        self.assertTrue(str(refusal).startswith("Line 2 of the association's sheet: the line is malformed; "))
-        self.assertTrue(refusal.croatian().startswith("Redak 2 predloška udruge: redak nije ispravan; "))
+        self.assertEqual((str(refusal), refusal.croatian()), (
+            "Line 2 of the association's sheet: the line is not `number=text` as its field asks for, or is out of order.",
+            "Redak 2 predloška udruge: redak nije `broj=tekst` kako polje traži ili nije po redu."))
 
 
 class Written(SheetCase):

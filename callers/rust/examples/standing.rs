@@ -1,5 +1,5 @@
-//! Example in Rust: writes a slip of the cents and the IBAN that are given, with the standing text of two sheets, the farm's and
-//! the association's; or says what is wrong, in English and Croatian. Exit status 1 is a refusal.
+//! Example in Rust: writes a slip of the cents and the IBAN that are given, with the standing text of two sheets, the farm's
+//! and the association's; or says what is wrong, in English and Croatian. Exit status 1 is a refusal.
 //!
 //!     cargo run --example standing farm.txt association.txt 12355 HR1210010051863000160
 

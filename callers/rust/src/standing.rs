@@ -71,8 +71,8 @@ impl Sheet {
     }
 }
 
-/// A refusal, and for [`Kind::Sheet`](crate::Kind::Sheet) the sheet that has the malformed line; `Display` is one sentence, which
-/// names it.
+/// A refusal, and for [`Kind::Sheet`](crate::Kind::Sheet) the sheet that has the malformed line; `Display` is one sentence,
+/// which names it.
 ///
 /// ```
 /// use lanecockle::standing::{text, Sheet};
@@ -81,8 +81,8 @@ impl Sheet {
 /// let refused = text(14, b"4=OPG HORVAT\n", b"13=WTER\n14=Voda").unwrap_err();
 /// assert_eq!(refused.refusal, Refusal { kind: Kind::Sheet, line: 2, field: 0, byte: 0, needed: 0 });
 /// assert_eq!(refused.sheet, Some(Sheet::Association));
-/// assert!(refused.to_string().starts_with("Line 2 of the association's sheet: the line is malformed; "));
-/// assert!(refused.in_croatian().to_string().starts_with("Redak 2 predloška udruge: redak nije ispravan; "));
+/// assert!(refused.to_string().starts_with("Line 2 of the association's sheet: the line is not `number=text` as "));
+/// assert!(refused.in_croatian().to_string().starts_with("Redak 2 predloška udruge: redak nije `broj=tekst` "));
 ///
 /// let refused = text(10, b"", b"").unwrap_err();
 /// assert_eq!((refused.refusal.kind, refused.sheet), (Kind::Field, None));
@@ -175,9 +175,10 @@ impl fmt::Display for InCroatian {
     }
 }
 
-/// The standing text of a field, borrowed from the sheet that supplied it: the farm's where its sheet has a line of that number,
-/// even if its text is empty, else the association's, else none. Refusals: 28 (a field other than those of [`FIELDS`]); then 20,
-/// with the first malformed line of the farm's sheet or, where that has none, of the association's. Both are judged whole.
+/// The standing text of a field, borrowed from the sheet that supplied it: the farm's where its sheet has a line of that
+/// number, even if its text is empty, else the association's, else none. Refusals: 28 (a field other than those of [`FIELDS`]);
+/// then 20, with the first malformed line of the farm's sheet or, where that has none, of the association's. Both are judged
+/// whole.
 ///
 /// ```
 /// use lanecockle::standing::{text, Sheet};
@@ -212,8 +213,8 @@ pub(crate) fn accepted(told: Told, sheet: usize) -> Result<(), SheetRefusal> {
     told.result().map_err(|refusal| SheetRefusal { refusal, sheet: Sheet::of_number(sheet) })
 }
 
-/// A sheet of lines, each a field's number and its text, in the order given. It judges nothing and is outside the proofs: what it
-/// writes is judged by the calls that it is lent to.
+/// A sheet of lines, each a field's number and its text, in the order given. It judges nothing and is outside the proofs: what
+/// it writes is judged by the calls that it is lent to.
 ///
 /// ```
 /// use lanecockle::standing::{sheet_text, text, Sheet};
