@@ -1,4 +1,4 @@
-/* Lanecockle for C: HUB3 payment slips, wage files of 300/301/309/399 lines, wet slips, check digits.
+/* Lanecockle for C: HUB3 payment slips, their standing text, wage files of 300/301/309/399 lines, wet slips, check digits.
  *
  * Link with liblanecockle, static or shared (`make install`; in the project target/staticlib/libdesk.a, which
  * `callers/library` writes). The library is proved: whatever numbers and bytes
@@ -22,8 +22,8 @@
 #include <stdint.h>
 
 /* The version of this header; lanecockle_version() is that of the library that a program runs with. */
-#define LANECOCKLE_VERSION "1.1.0"
-#define LANECOCKLE_VERSION_NUMBER 10100
+#define LANECOCKLE_VERSION "1.2.0"
+#define LANECOCKLE_VERSION_NUMBER 10200
 
 #ifdef __cplusplus
 extern "C" {
@@ -35,8 +35,8 @@ extern "C" {
  * `number` is 0 where all is right, and otherwise one refusal. Lines and fields count from 1, bytes from 0 in the slip or
  * in the line of the wage file; 0 stands for "none". `needed` is told for 15 alone.
  *
- * For 3, `byte` is the first offending byte; otherwise the field's first byte. 1, 2, 10, 12, 13, 14, 15 and 17 have field
- * 0 and byte 0. A wrong type of line is 5 with field 0 and byte 997. */
+ * For 3, `byte` is the first offending byte; otherwise the field's first byte. 1, 2, 10, 12, 13, 14, 15, 17, 20 and 28 have
+ * field 0 and byte 0. A wrong type of line is 5 with field 0 and byte 997. For 20, `line` is a line of a sheet. */
 enum {
     LANECOCKLE_ACCEPTED = 0,
     LANECOCKLE_SIZE = 1,        /* wrong size of the whole input or line */
@@ -55,7 +55,9 @@ enum {
     LANECOCKLE_UNFINISHED = 14, /* file ended before its 399 line */
     LANECOCKLE_ROOM = 15,       /* no room; the needed number is told */
     LANECOCKLE_MARKS = 16,      /* more than four unreadable digits */
-    LANECOCKLE_BEYOND = 17      /* line beyond 1,000,000 */
+    LANECOCKLE_BEYOND = 17,     /* line beyond 1,000,000 */
+    LANECOCKLE_SHEET = 20,      /* sheet line malformed */
+    LANECOCKLE_FIELD = 28       /* a field number other than 4 to 9, 13 and 14 */
 };
 
 /* An answer. */
@@ -155,6 +157,51 @@ lanecockle_valued lanecockle_slip_write(uint64_t cents, const uint8_t *text, siz
                                         size_t count, uint8_t *out, size_t room);
 
 /* ---------------------------------------------------------------------------------------------------------------------
+ * Standing text for slips
+ *
+ * A sheet is lines `number=text`, each ended by LF: the number of a field, 4 to 9, 13 or 14, without a leading zero, above
+ * that of the line before, and a text that the field permits, which may be empty. A sheet of no bytes is right. There are
+ * two, the farm's and the association's: a line of the farm's goes before, even if its text is empty.
+ *
+ * Both sheets are judged whole, whatever is asked. 20 is the first malformed line of the farm's sheet or, where that has
+ * none, of the association's, with its number in its own sheet. Of two lines out of order, or with one number, the second is
+ * malformed; bytes behind the last LF are a malformed line. */
+
+/* Whose sheet. */
+enum { LANECOCKLE_NO_SHEET = 0, LANECOCKLE_FARM = 1, LANECOCKLE_ASSOCIATION = 2 };
+
+/* A standing text. `sheet` is the one that supplied it, and for 20 the one that has the malformed line; LANECOCKLE_NO_SHEET
+ * where neither has a line, and for 28. The text is `length` bytes from `start` in that sheet, counted from 0; 0 and 0 where
+ * there is none: where neither has a line, for 20 and for 28. */
+typedef struct {
+    lanecockle_told told;
+    size_t sheet;
+    size_t start;
+    size_t length;
+} lanecockle_standing;
+
+/* The standing text of a field: the farm's where its sheet has a line of that number, else the association's, else none.
+ * Refusals: 28 (a field other than 4 to 9, 13 and 14), then 20. Writes nowhere. */
+lanecockle_standing lanecockle_standing_text(size_t field, const uint8_t *farm, size_t farm_length,
+                                             const uint8_t *association, size_t association_length);
+
+/* How many bytes were written, as `value`, 0 where the answer is a refusal. `sheet` is the one that has the malformed line
+ * for 20, and LANECOCKLE_NO_SHEET otherwise. */
+typedef struct {
+    lanecockle_told told;
+    size_t value;
+    size_t sheet;
+} lanecockle_standing_written;
+
+/* Writes a slip as lanecockle_slip_write does, but each of the fields 4 to 9, 13 and 14 that is given empty is what
+ * lanecockle_standing_text answers for it. Refusals: 1 where the eleven sizes are not together `text_length`; 20, also where
+ * no field is taken from a sheet; then the others of lanecockle_slip_write. 483 bytes are always enough. */
+lanecockle_standing_written lanecockle_slip_write_standing(uint64_t cents, const uint8_t *text, size_t text_length,
+                                                           const size_t *sizes, size_t count, const uint8_t *farm,
+                                                           size_t farm_length, const uint8_t *association,
+                                                           size_t association_length, uint8_t *out, size_t room);
+
+/* ---------------------------------------------------------------------------------------------------------------------
  * Slips of either currency, for the ledgers
  *
  * A kuna slip, printed before 2023, has `HRK` in field 2, its amount in lipa, and in field 10 an IBAN or, where that begins
@@ -202,8 +249,8 @@ typedef struct {
  * those read so far, `declared` and `promised` the orders and the sum that the group declares, `counted` and `total` what
  * its orders came to. A record that the judge did not make gets an answer as well: 17 at line 1,000,001, at a step or the
  * end, for a condition above 4, and in one that has not refused for a count above 1,000,000 or a sum of 10^20 or more. In
- * condition 4 a number that is not 1 to 17 stands for 17 at the place told, and `needed` counts for 15 alone; in the others
- * `told` is not read. */
+ * condition 4 the numbers 1 to 17, 20 and 28 are kept and any other stands for 17, at the place told, and `needed` counts
+ * for 15 alone; in the others `told` is not read. */
 typedef struct {
     size_t condition;
     lanecockle_told told;

@@ -111,6 +111,23 @@ static void check_no_ledger(lanecockle_ledger ledger, size_t number, size_t fiel
 /* A refusal, which has no currency and no amount. */
 #define NO_LEDGER(call, number, field, byte) check_no_ledger((call), (number), (field), (byte), #call, __LINE__)
 
+static void check_standing(lanecockle_standing standing, size_t number, size_t line, size_t sheet, size_t start,
+                           size_t length, const char *what, int at)
+{
+    int same = standing.sheet == sheet && standing.start == start && standing.length == length;
+    check_told(standing.told, number, line, 0, 0, 0, what, at);
+    check(same, what, at);
+    if (!same) {
+        printf("    sheet %zu start %zu length %zu\n", standing.sheet, standing.start, standing.length);
+    }
+}
+
+/* A text and the sheet that supplied it; no text; a malformed line and its sheet; a field that has no standing text. */
+#define STANDS(call, sheet, start, length) check_standing((call), 0, 0, (sheet), (start), (length), #call, __LINE__)
+#define NO_TEXT(call) STANDS(call, LANECOCKLE_NO_SHEET, 0, 0)
+#define MALFORMED(call, sheet, line) check_standing((call), LANECOCKLE_SHEET, (line), (sheet), 0, 0, #call, __LINE__)
+#define NO_FIELD(call) check_standing((call), LANECOCKLE_FIELD, 0, LANECOCKLE_NO_SHEET, 0, 0, #call, __LINE__)
+
 /* ---------------------------------------------------------------------------------------------------------------------
  * Lent memory */
 
@@ -597,6 +614,255 @@ static void test_slip_round(void)
     }
     VALUE(lanecockle_slip_write(lanecockle_slip_cents(lent, length).value, F(f), out, ROOM), length);
     CHECK(memcmp(out, slip, length) == 0);
+}
+
+/* ---------------------------------------------------------------------------------------------------------------------
+ * Standing text for slips */
+
+/* The fields that have standing text, and the most characters of their texts. */
+static const size_t standing_fields[8] = {4, 5, 6, 7, 8, 9, 13, 14};
+static const size_t standing_most[8] = {30, 27, 27, 25, 25, 27, 4, 35};
+
+#define FARM_SHEET "4=OPG HORVAT\n6=42000 VARA\xC5\xBD" "DIN\n14=\n"
+#define ASSOCIATION_SHEET "4=NITKO\n7=UDRUGA\n13=WTER\n14=Voda\n"
+
+static void test_standing_text(void)
+{
+    STANDS(lanecockle_standing_text(4, T(FARM_SHEET), T(ASSOCIATION_SHEET)), LANECOCKLE_FARM, 2, 10);
+    NO_TEXT(lanecockle_standing_text(5, T(FARM_SHEET), T(ASSOCIATION_SHEET)));
+    STANDS(lanecockle_standing_text(6, T(FARM_SHEET), T(ASSOCIATION_SHEET)), LANECOCKLE_FARM, 15, 15);
+    STANDS(lanecockle_standing_text(7, T(FARM_SHEET), T(ASSOCIATION_SHEET)), LANECOCKLE_ASSOCIATION, 10, 6);
+    STANDS(lanecockle_standing_text(13, T(FARM_SHEET), T(ASSOCIATION_SHEET)), LANECOCKLE_ASSOCIATION, 20, 4);
+    /* an empty text of the farm's goes before the association's */
+    STANDS(lanecockle_standing_text(14, T(FARM_SHEET), T(ASSOCIATION_SHEET)), LANECOCKLE_FARM, 34, 0);
+    STANDS(lanecockle_standing_text(14, NULL, 0, T(ASSOCIATION_SHEET)), LANECOCKLE_ASSOCIATION, 28, 4);
+    STANDS(lanecockle_standing_text(14, T(ASSOCIATION_SHEET), NULL, 0), LANECOCKLE_FARM, 28, 4);
+    NO_TEXT(lanecockle_standing_text(13, T(FARM_SHEET), NULL, 0));
+    NO_TEXT(lanecockle_standing_text(4, NULL, 0, NULL, 0));
+}
+
+/* Every field with its longest text, of letters of two bytes each, and one character more. */
+static void test_standing_longest(void)
+{
+    char sheet[1024], line[256];
+    size_t i, start;
+    sheet[0] = '\0';
+    for (i = 0; i < 8; i++) {
+        snprintf(line, sizeof line, "%zu=", standing_fields[i]);
+        start = strlen(sheet) + strlen(line);
+        strcat(line, standing_fields[i] == 13 ? "WTER" : repeated("\xC5\xBD", standing_most[i]));
+        strcat(strcat(sheet, line), "\n");
+        STANDS(lanecockle_standing_text(standing_fields[i], T(sheet), NULL, 0), LANECOCKLE_FARM, start,
+               strlen(sheet) - start - 1);
+        snprintf(line, sizeof line, "%zu=%s\n", standing_fields[i], repeated("X", standing_most[i] + 1));
+        MALFORMED(lanecockle_standing_text(4, T(line), NULL, 0), LANECOCKLE_FARM, 1);
+    }
+    CHECK(strlen(sheet) == 422);
+}
+
+static void test_standing_fields(void)
+{
+    size_t field, i = 0;
+    for (field = 0; field <= 40; field++) {
+        if (i < 8 && field == standing_fields[i]) {
+            NO_TEXT(lanecockle_standing_text(field, NULL, 0, NULL, 0));
+            i++;
+        } else {
+            NO_FIELD(lanecockle_standing_text(field, NULL, 0, NULL, 0));
+            /* before 20 */
+            NO_FIELD(lanecockle_standing_text(field, T("x"), T("x")));
+        }
+    }
+    NO_FIELD(lanecockle_standing_text(SIZE_MAX, NULL, 0, NULL, 0));
+}
+
+/* What is malformed as the only line of a sheet, and as a line behind `4=`. */
+static const char *const malformed[] = {
+    /* the number */
+    "\n", "=\n", "=x\n", "4\n", "x\n", "4:x\n", "04=x\n", "+4=x\n", " 4=x\n", "4 =x\n", "4.=x\n", "\t4=x\n", "0=x\n",
+    "1=x\n", "2=x\n", "3=x\n", "10=x\n", "11=x\n", "12=x\n", "15=x\n", "40=x\n", "44=x\n", "013=WTER\n", "130=WTER\n",
+    "1 3=WTER\n", "18446744073709551620=x\n", "4294967300=x\n", "260=x\n", "\xEF\xBB\xBF" "5=x\n", "#5=x\n",
+    /* the text */
+    "5=x=y\n", "5==\n", "5=x\r\n", "5=\r\n", "\r\n", "5=x_\n", "5=x\t\n", "5=x;\n", "5=\xC5\n", "5=\xC5x\n", "5=\xC5\x8D\n",
+    "5=\xBD\n", "5=\x8A\n", "5=\xFF\n", "13=WTE\n", "13=WTERX\n", "13=wter\n", "13=WTE1\n", "13= \n",
+    /* the end */
+    "5=x", "5=", "5", "=", "x"};
+
+static void test_standing_malformed(void)
+{
+    char sheet[256];
+    size_t i;
+    for (i = 0; i < sizeof malformed / sizeof malformed[0]; i++) {
+        MALFORMED(lanecockle_standing_text(4, T(malformed[i]), NULL, 0), LANECOCKLE_FARM, 1);
+        MALFORMED(lanecockle_standing_text(4, NULL, 0, T(malformed[i])), LANECOCKLE_ASSOCIATION, 1);
+        snprintf(sheet, sizeof sheet, "4=x\n%s", malformed[i]);
+        MALFORMED(lanecockle_standing_text(4, T(sheet), NULL, 0), LANECOCKLE_FARM, 2);
+        snprintf(sheet, sizeof sheet, "%s4=x\n", malformed[i]);
+        MALFORMED(lanecockle_standing_text(4, NULL, 0, T(sheet)), LANECOCKLE_ASSOCIATION, 1);
+    }
+    /* a NUL is a byte as others are */
+    MALFORMED(lanecockle_standing_text(4, memcpy(block(4), "4=\0\n", 4), 4, NULL, 0), LANECOCKLE_FARM, 1);
+    MALFORMED(lanecockle_standing_text(4, memcpy(block(5), "4=x\n\0", 5), 5, NULL, 0), LANECOCKLE_FARM, 2);
+}
+
+/* Of two lines out of order, or of the same number, the second is the malformed one. */
+static void test_standing_order(void)
+{
+    MALFORMED(lanecockle_standing_text(4, T("5=x\n4=y\n"), NULL, 0), LANECOCKLE_FARM, 2);
+    MALFORMED(lanecockle_standing_text(4, T("4=x\n4=x\n"), NULL, 0), LANECOCKLE_FARM, 2);
+    MALFORMED(lanecockle_standing_text(4, T("4=x\n14=y\n13=WTER\n"), NULL, 0), LANECOCKLE_FARM, 3);
+    MALFORMED(lanecockle_standing_text(4, T("13=WTER\n4=x\n"), NULL, 0), LANECOCKLE_FARM, 2);
+    STANDS(lanecockle_standing_text(13, T("9=x\n13=WTER\n"), NULL, 0), LANECOCKLE_FARM, 7, 4);
+}
+
+/* Both sheets are judged whole, whatever is asked, the farm's first. */
+static void test_standing_sheets(void)
+{
+    MALFORMED(lanecockle_standing_text(4, T("4=x\n5=y"), T(ASSOCIATION_SHEET)), LANECOCKLE_FARM, 2);
+    MALFORMED(lanecockle_standing_text(4, T(FARM_SHEET), T("4=x\n\n")), LANECOCKLE_ASSOCIATION, 2);
+    MALFORMED(lanecockle_standing_text(14, T("14=x\ny"), T("x\n")), LANECOCKLE_FARM, 2);
+    MALFORMED(lanecockle_standing_text(14, T("4=x\n5=x\n6=x\n7=x\n\n"), T("x\n")), LANECOCKLE_FARM, 5);
+}
+
+/* The fields of a slip with standing text given empty, but for one. */
+static fields without_standing(size_t number, const char *text)
+{
+    fields f = {{0}, 0, {0}, 0};
+    size_t n;
+    for (n = 4; n <= 14; n++) {
+        put(&f, n == number ? text : n >= 10 && n <= 12 ? slip_fields[n - 4] : "");
+    }
+    return f;
+}
+
+/* A slip written with standing text is the one that is awaited, and nothing behind it changes. */
+static void check_written(fields f, const char *farm, const char *association, const char *slip, int line)
+{
+    size_t length = strlen(slip);
+    uint8_t *out = fresh_room();
+    lanecockle_standing_written written = lanecockle_slip_write_standing(12355, F(f), T(farm), T(association), out, ROOM);
+    check_told(written.told, 0, 0, 0, 0, 0, "slip_write_standing", line);
+    check(written.value == length && written.sheet == LANECOCKLE_NO_SHEET, "slip_write_standing", line);
+    check(memcmp(out, slip, length) == 0 && is_untouched(out, length), "what slip_write_standing writes", line);
+}
+
+#define WRITTEN(f, farm, association, slip) check_written((f), (farm), (association), (slip), __LINE__)
+
+#define SLIP_HEAD "HRVHUB30\nEUR\n000000000012355\n"
+#define SLIP_REFERENCE "HR1210010051863000160\nHR01\n7269-68499637766-00011\n"
+
+static void test_slip_write_standing(void)
+{
+    fields f = {{0}, 0, {0}, 0};
+    WRITTEN(without_standing(0, ""), FARM_SHEET, ASSOCIATION_SHEET,
+            SLIP_HEAD "OPG HORVAT\n\n42000 VARA\xC5\xBD" "DIN\nUDRUGA\n\n\n" SLIP_REFERENCE "WTER\n\n");
+    WRITTEN(without_standing(0, ""), "", ASSOCIATION_SHEET,
+            SLIP_HEAD "NITKO\n\n\nUDRUGA\n\n\n" SLIP_REFERENCE "WTER\nVoda\n");
+    WRITTEN(without_standing(0, ""), "", "", SLIP_HEAD "\n\n\n\n\n\n" SLIP_REFERENCE "\n\n");
+    /* what is given is not taken from a sheet */
+    WRITTEN(without_standing(14, "Struja"), FARM_SHEET, ASSOCIATION_SHEET,
+            SLIP_HEAD "OPG HORVAT\n\n42000 VARA\xC5\xBD" "DIN\nUDRUGA\n\n\n" SLIP_REFERENCE "WTER\nStruja\n");
+    WRITTEN(slip_given(0, ""), FARM_SHEET, ASSOCIATION_SHEET, slip_with(0, ""));
+    /* a size that is not there is 0, and one beyond the eleventh is not read */
+    f = slip_given(14, "");
+    f.count = 10;
+    WRITTEN(f, "14=Voda\n", "", slip_with(14, "Voda"));
+    f = slip_given(0, "");
+    f.sizes[f.count++] = 7;
+    WRITTEN(f, "14=Voda\n", "", slip_with(0, ""));
+}
+
+/* The longest slip, its text from the sheets alone. */
+static void test_standing_longest_slip(void)
+{
+    fields f = {{0}, 0, {0}, 0};
+    char sheet[1024];
+    uint8_t *out = fresh_room();
+    lanecockle_standing_written written;
+    size_t i;
+    sheet[0] = '\0';
+    for (i = 0; i < 8; i++) {
+        snprintf(sheet + strlen(sheet), 256, "%zu=", standing_fields[i]);
+        strcat(strcat(sheet, standing_fields[i] == 13 ? "WTER" : repeated("\xC4\x91", standing_most[i])), "\n");
+    }
+    f = without_standing(0, "");
+    written = lanecockle_slip_write_standing(999999999999999u, F(f), T(sheet), NULL, 0, out, 483);
+    CHECK(written.told.number == LANECOCKLE_ACCEPTED && written.value == 483 && is_untouched(out, 483));
+    ACCEPTED(lanecockle_slip_read(out, 483));
+}
+
+/* A refusal of the writer with standing text, which leaves the room as it was. */
+static void check_not_written(uint64_t cents, fields f, const char *farm, const char *association, size_t room,
+                              const size_t *told, size_t sheet, int line)
+{
+    uint8_t *out = fresh_room();
+    lanecockle_standing_written written = lanecockle_slip_write_standing(cents, F(f), T(farm), T(association), out, room);
+    check_told(written.told, told[0], told[1], told[2], told[3], told[4], "slip_write_standing", line);
+    check(written.value == 0 && written.sheet == sheet, "the value and the sheet of a refusal", line);
+    check(is_untouched(out, 0), "slip_write_standing leaves the room", line);
+}
+
+/* Refused: by number, field, byte and needed, with no line and no sheet; for 20 by line and sheet. */
+#define NOT_WRITTEN(cents, f, farm, association, room, number, field, byte, needed) \
+    do { \
+        const size_t told[5] = {(number), 0, (field), (byte), (needed)}; \
+        check_not_written((cents), (f), (farm), (association), (room), told, LANECOCKLE_NO_SHEET, __LINE__); \
+    } while (0)
+#define SHEET_REFUSED(cents, f, farm, association, room, at, whose) \
+    do { \
+        const size_t told[5] = {LANECOCKLE_SHEET, (at), 0, 0, 0}; \
+        check_not_written((cents), (f), (farm), (association), (room), told, (whose), __LINE__); \
+    } while (0)
+
+/* First the sizes, then the sheets, then what the writer refuses: the amount, the fields in order, the room. */
+static void test_standing_write_order(void)
+{
+    fields short_of = slip_given(0, ""), left_over = slip_given(0, "");
+    short_of.sizes[10]++;
+    left_over.sizes[10]--;
+    NOT_WRITTEN(UINT64_MAX, short_of, "x", "x", 0, LANECOCKLE_SIZE, 0, 0, 0);
+    NOT_WRITTEN(UINT64_MAX, left_over, "x", "x", 0, LANECOCKLE_SIZE, 0, 0, 0);
+    SHEET_REFUSED(UINT64_MAX, slip_given(4, "_"), "4=x\nx", "x", 0, 2, LANECOCKLE_FARM);
+    SHEET_REFUSED(UINT64_MAX, slip_given(4, "_"), "4=x\n", "4=x\n5=y\nx", 0, 3, LANECOCKLE_ASSOCIATION);
+    NOT_WRITTEN(1000000000000000u, slip_given(4, "_"), "4=x\n", "", 0, LANECOCKLE_LENGTH, 3, 0, 0);
+    NOT_WRITTEN(12355, slip_given(4, "IVAN_"), "4=x\n", "", 0, LANECOCKLE_BYTE, 4, 4, 0);
+    NOT_WRITTEN(12355, slip_given(10, "HR1310010051863000160"), "4=x\n", "", 0, LANECOCKLE_CHECK, 10, 0, 0);
+    NOT_WRITTEN(12355, slip_given(13, "COSt"), "", "13=WTER\n", 0, LANECOCKLE_BYTE, 13, 3, 0);
+    NOT_WRITTEN(12355, slip_given(0, ""), "", "", 0, LANECOCKLE_ROOM, 0, 0, strlen(slip_with(0, "")));
+}
+
+static void test_standing_write_refusals(void)
+{
+    fields f = {{0}, 0, {0}, 0};
+    size_t length = strlen(slip_with(14, "Voda"));
+    /* a sheet is judged also where nothing is taken from it */
+    SHEET_REFUSED(12355, slip_given(0, ""), "x\n", "", ROOM, 1, LANECOCKLE_FARM);
+    SHEET_REFUSED(12355, slip_given(0, ""), "", "14=Voda\r\n", ROOM, 1, LANECOCKLE_ASSOCIATION);
+    /* an empty field 10, 11 or 12 is not taken from a sheet */
+    NOT_WRITTEN(12355, f, FARM_SHEET, ASSOCIATION_SHEET, ROOM, LANECOCKLE_LENGTH, 10, 0, 0);
+    NOT_WRITTEN(12355, slip_given(11, ""), FARM_SHEET, "", ROOM, LANECOCKLE_FORM, 11, 0, 0);
+    NOT_WRITTEN(12355, slip_given(12, ""), FARM_SHEET, "", ROOM, LANECOCKLE_PARTS, 12, 0, 0);
+    /* the room that the slip needs with its standing text */
+    NOT_WRITTEN(12355, slip_given(14, ""), "", "14=Voda\n", length - 1, LANECOCKLE_ROOM, 0, 0, length);
+    WRITTEN(slip_given(14, ""), "", "14=Voda\n", slip_with(14, "Voda"));
+}
+
+/* A field as the sheets have it is the one that the slip then has. */
+static void test_standing_round(void)
+{
+    fields f = without_standing(0, "");
+    const uint8_t *farm = bytes_of(FARM_SHEET), *association = bytes_of(ASSOCIATION_SHEET);
+    uint8_t *out = fresh_room();
+    lanecockle_standing_written written = lanecockle_slip_write_standing(
+        12355, F(f), farm, strlen(FARM_SHEET), association, strlen(ASSOCIATION_SHEET), out, ROOM);
+    size_t i;
+    for (i = 0; i < 8; i++) {
+        lanecockle_part part = lanecockle_slip_field(out, written.value, standing_fields[i]);
+        lanecockle_standing text = lanecockle_standing_text(standing_fields[i], farm, strlen(FARM_SHEET), association,
+                                                            strlen(ASSOCIATION_SHEET));
+        const uint8_t *sheet = text.sheet == LANECOCKLE_FARM ? farm : association;
+        CHECK(part.length == text.length && memcmp(out + part.start, sheet + text.start, text.length) == 0);
+    }
 }
 
 /* ---------------------------------------------------------------------------------------------------------------------
@@ -1312,17 +1578,18 @@ static void test_record_conditions(void)
     CHECK(is_same_record(lanecockle_judge_lines(record, NULL, 0), open_group()));
 }
 
-/* A refusal of any number in a record: 1 to 17 stay, another one is 17; its place stays. */
+/* A refusal of any number in a record: 1 to 17, 20 and 28 stay, another one is 17; its place stays. */
 static void test_record_refusals(void)
 {
-    static const size_t numbers[20] = {1, 2, 3, 4, 5, 6, 7, 8, 9, 10, 11, 12, 13, 14, 15, 16, 17, 0, 18, SIZE_MAX};
+    static const size_t numbers[28] = {1,  2,  3,  4,  5,  6,  7,  8,  9,  10, 11, 12, 13, 14, 15, 16, 17, 20, 28,
+                                       0, 18, 19, 21, 27, 29, 30, 32, SIZE_MAX};
     lanecockle_record record = open_group();
     size_t i;
     record.condition = LANECOCKLE_REFUSED;
     record.told.line = 3, record.told.field = 4, record.told.byte = SIZE_MAX, record.told.needed = 7;
     record.lines = SIZE_MAX;
-    for (i = 0; i < 20; i++) {
-        size_t number = i < 17 ? numbers[i] : LANECOCKLE_BEYOND;
+    for (i = 0; i < 28; i++) {
+        size_t number = i < 19 ? numbers[i] : LANECOCKLE_BEYOND;
         size_t needed = number == LANECOCKLE_ROOM ? 7 : 0;
         lanecockle_record next;
         record.told.number = numbers[i];
@@ -1403,7 +1670,11 @@ static void (*const tests[])(void) = {
     test_list_reference, test_all_fillings,   test_filled,
     test_slip_read,      test_slip_field,     test_slip_cents,
     test_slip_write,     test_slip_longest,   test_slip_write_refusals,
-    test_slip_write_sizes, test_slip_round,   test_ledger_read,
+    test_slip_write_sizes, test_slip_round,   test_standing_text,
+    test_standing_longest, test_standing_fields, test_standing_malformed,
+    test_standing_order, test_standing_sheets, test_slip_write_standing,
+    test_standing_longest_slip, test_standing_write_order, test_standing_write_refusals,
+    test_standing_round, test_ledger_read,
     test_ledger_whole,   test_ledger_currency, test_ledger_refusals,
     test_ledger_account, test_ledger_field,   test_kuna_is_no_euro,
     test_lipa_in_cents,  test_write_label,

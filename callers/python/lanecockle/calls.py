@@ -1,14 +1,15 @@
-"""The calls of the library: check digits, accounts, references, wet slips, slips, slips for the ledgers and wage files."""
+"""The calls of the library: check digits, accounts, references, wet slips, slips and their standing text, slips for the
+ledgers and wage files."""
 
 import ctypes
 import datetime
 from ctypes import c_size_t, c_uint16
 from dataclasses import dataclass
 from enum import IntEnum
-from typing import Any, Dict, List, Literal, NamedTuple, Sequence, Tuple, Union, overload
+from typing import Any, Dict, Iterable, List, Literal, NamedTuple, Optional, Sequence, Tuple, Union, overload
 
-from .library import Ended, Ledger, Part, Record, Valued, load
-from .refusal import Refusal, accept
+from .library import Ended, Ledger, Part, Record, Standing, StandingWritten, Valued, load
+from .refusal import Refusal, Sheet, accept
 from .scan import warn_of_barcode
 
 #: What a text may be: a slip is UTF-8, a wage file WIN-1250 (cp1250 in Python).
@@ -90,7 +91,7 @@ def _front(room: Any, length: int) -> bytes:
     return bytes(room.raw[:length])
 
 
-def _part(value: bytes, part: Part) -> bytes:
+def _part(value: bytes, part: Union[Part, Standing]) -> bytes:
     return value[part.start:part.start + part.length]
 
 
@@ -259,6 +260,72 @@ def slip_write(cents: int, fields: Sequence[Bytes]) -> bytes:
     written = _front(out, length)
     warn_of_barcode(written)
     return written
+
+
+# ----------------------------------------------------------------------------------------------------------------------
+# Standing text for slips
+
+#: The fields that have standing text.
+STANDING = (4, 5, 6, 7, 8, 9, 13, 14)
+
+
+class StandingText(NamedTuple):
+    """A standing text, and whose sheet supplied it."""
+
+    sheet: Sheet
+    text: bytes
+
+
+def standing_text(field: int, farm: Bytes, association: Bytes) -> Optional[StandingText]:
+    """The standing text of a field, by two sheets: the farm's where its sheet has a line of that number, even if its text is
+    empty, else the association's, else None.
+
+    A sheet is lines `number=text`, each ended by LF, their numbers ascending. Refusals: 28 (a field other than those of
+    STANDING); then 20, with the first malformed line of the farm's sheet or, where that has none, of the association's, and
+    in `sheet` whose it is. Both sheets are judged whole.
+
+        >>> standing_text(14, b"4=OPG HORVAT\\n", b"13=WTER\\n14=Voda\\n")
+        StandingText(sheet=<Sheet.ASSOCIATION: 2>, text=b'Voda')
+    """
+    sheets = {Sheet.FARM: _bytes(farm), Sheet.ASSOCIATION: _bytes(association)}
+    lent = [argument for sheet in sheets.values() for argument in _lent(sheet)]
+    found: Standing = _CALLS["standing_text"](_number(field), *lent)
+    accept(found.told, found.sheet)
+    if not found.sheet:
+        return None
+    whose = Sheet(found.sheet)
+    return StandingText(whose, _part(sheets[whose], found))
+
+
+def slip_write_standing(cents: int, fields: Sequence[Bytes], farm: Bytes, association: Bytes) -> bytes:
+    """The slip that slip_write gives, but each of the fields 4 to 9, 13 and 14 that is given empty is its standing text, as
+    standing_text answers it.
+
+    Refusals: 20, also where nothing is taken from a sheet; then those of slip_write. Warns as it does.
+
+        >>> fields = [b""] * 6 + [b"HR1210010051863000160", b"HR99", b"", b"", b""]
+        >>> written = slip(slip_write_standing(12355, fields, b"4=OPG HORVAT\\n", b"14=Voda\\n"))
+        >>> written.payer, written.description
+        ('OPG HORVAT', 'Voda')
+    """
+    out = _room(_SLIP)
+    lent = (*_fields(fields, 11), *_lent(farm), *_lent(association))
+    answer: StandingWritten = _CALLS["slip_write_standing"](_number(cents), *lent, out, _SLIP)
+    accept(answer.told, answer.sheet)
+    written = _front(out, answer.value)
+    warn_of_barcode(written)
+    return written
+
+
+def sheet_text(lines: Iterable[Tuple[int, Bytes]]) -> bytes:
+    """A sheet of lines, each a field's number and its text, in the order given.
+
+    It judges nothing and is outside the proofs: what it writes is judged by the calls that it is given to.
+
+        >>> sheet_text([(4, b"OPG HORVAT"), (14, b"Voda")])
+        b'4=OPG HORVAT\\n14=Voda\\n'
+    """
+    return b"".join(b"%d=%s\n" % (_number(field), _bytes(text)) for field, text in lines)
 
 
 # ----------------------------------------------------------------------------------------------------------------------

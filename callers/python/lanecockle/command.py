@@ -1,4 +1,5 @@
-"""The command `lanecockle`: slips, wage files, wet slips, accounts, references, check digits, judged and explained."""
+"""The command `lanecockle`: slips, standing text, wage files, wet slips, accounts, references, check digits, judged and
+explained."""
 
 import argparse
 import contextlib
@@ -17,8 +18,8 @@ from typing import (
 
 from . import explain
 from .calls import (
-    LINE, Bytes, EuroCents, Rule, iban, ledger_read, lipa_in_cents, list_iban, list_reference, make_digit, oib,
-    reference, slip_cents,
+    LINE, STANDING, Bytes, EuroCents, Rule, iban, ledger_read, lipa_in_cents, list_iban, list_reference, make_digit, oib,
+    reference, slip_cents, standing_text,
 )
 from .explain import Shown, count, kuna, money
 from .judging import Accepted, Judging
@@ -28,7 +29,8 @@ from .tables import VERSION
 
 PROGRAM = "lanecockle"
 
-#: The bytes that are read of a wage file at once, and at most of what should be a slip or a typed line.
+#: The bytes that are read of a wage file at once, and at most of what should be a slip, a sheet or a typed line: a sheet that
+#: is longer is refused, and its first malformed line begins among these.
 _PART = 1 << 20
 _MOST = 1 << 16
 
@@ -44,6 +46,13 @@ _WORDS: Dict[str, Tuple[str, str]] = {
     "kuna": ("accepted: a kuna slip, read for the ledger, not to be paid",
              "prihvaćeno: uplatnica u kunama, pročitana za poslovne knjige, ne za plaćanje"),
     "converted": ("{} ({} at 7.53450)", "{} ({} po tečaju 7,53450)"),
+    "standing": ("accepted: standing text", "prihvaćeno: stalni tekst"),
+    "farm": ("farm's sheet", "predložak gospodarstva"),
+    "association": ("association's sheet", "predložak udruge"),
+    "neither": ("in neither sheet", "ni u jednom predlošku"),
+    "empty": ("(empty)", "(prazno)"),
+    "both": ("--farm and --association cannot both be standard input",
+             "--farm i --association ne mogu oboje biti standardni ulaz"),
     "counts": ("accepted: lines {}, groups {}, orders {}, sum {}",
                "prihvaćeno: slogova {}, grupa {}, naloga {}, zbroj {}"),
     "fillings": ("fillings: {}", "mogućih dopuna: {}"),
@@ -74,6 +83,8 @@ _HELP: Dict[str, Tuple[str, str]] = {
     "slip": ("judge a slip, the bytes of its barcode", "provjeri uplatnicu, sadržaj njezina barkoda"),
     "ledger": ("judge a slip in euro or in kuna, for the ledgers",
                "provjeri uplatnicu u eurima ili u kunama, za poslovne knjige"),
+    "standing": ("show the standing text of a slip's fields, and whose sheet has it",
+                 "ispiši stalni tekst polja uplatnice i čiji ga predložak ima"),
     "wage": ("judge a wage file of 300, 301, 309 and 399 lines",
              "provjeri datoteku osobnih primanja (slogovi 300, 301, 309 i 399)"),
     "wet": ("list what an IBAN or a reference with ? for unreadable digits may be",
@@ -84,6 +95,11 @@ _HELP: Dict[str, Tuple[str, str]] = {
     "digit": ("make the check digit of a number", "izračunaj kontrolni broj"),
     "page": ("serve the page to try it all in a browser", "pokreni stranicu za isprobavanje u pregledniku"),
     "file": ("a file; standard input if none or -", "datoteka; standardni ulaz ako je nema ili je -"),
+    "farm": ("the farm's sheet, a file of lines number=text, - for standard input (empty if none)",
+             "predložak gospodarstva, datoteka u kojoj je svaki redak broj=tekst, - za standardni ulaz (prazan ako ga "
+             "nema)"),
+    "association": ("the association's sheet, likewise", "predložak udruge, isto tako"),
+    "field": ("the field, 4 to 9, 13 or 14; all of them if none", "polje, 4 do 9, 13 ili 14; sva ako ga nema"),
     "text": ("the text; one line of standard input if none", "tekst; jedan redak standardnog ulaza ako ga nema"),
     "model": ("the model, as HR01", "model, npr. HR01"),
     "of wet": ("the model, as HR01, for a reference; none for an IBAN",
@@ -100,7 +116,7 @@ _HELP: Dict[str, Tuple[str, str]] = {
 #: What --help calls an argument in Croatian, by its name in English.
 _NAMES = {
     "COMMAND": "NAREDBA", "FILE": "DATOTEKA", "TEXT": "TEKST", "RULE": "PRAVILO", "DIGITS": "ZNAMENKE",
-    "YYYYMMDD": "GGGGMMDD",
+    "YYYYMMDD": "GGGGMMDD", "FIELD": "POLJE",
 }
 
 #: What argparse and the types below say of wrong usage, and the same in Croatian.
@@ -112,6 +128,7 @@ _USAGE: List[Tuple[str, str]] = [
     (r"argument (.*?): ignored explicit argument (.*)", "{}: vrijednost {} ovdje nije dozvoljena"),
     (r"argument (.*?): not YYYYMMDD: (.*)", "{}: {} nije GGGGMMDD"),
     (r"argument (.*?): not a port: (.*)", "{}: {} nije port"),
+    (r"argument (.*?): not a field number: (.*)", "{}: {} nije broj polja"),
 ]
 
 #: Why a file cannot be read, in Croatian; other reasons as the system says them.
@@ -261,6 +278,9 @@ def _take_arguments(made: Dict[str, _Parser]) -> None:
         made[name].take("file", word="file", metavar="FILE", nargs="?", default="-")
     for name in ("slip", "ledger"):
         made[name].take("--scan", word="scan", action="store_true")
+    for sheet in ("farm", "association"):
+        made["standing"].take(f"--{sheet}", word=sheet, metavar="FILE")
+    made["standing"].take("field", word="field", metavar="FIELD", nargs="?", type=_field)
     made["wage"].take("--day", word="day", metavar="YYYYMMDD", type=_day)
     made["wet"].take("model", word="of wet", metavar="MODEL", nargs="?")
     made["reference"].take("model", word="model", metavar="MODEL")
@@ -275,6 +295,12 @@ def _take_arguments(made: Dict[str, _Parser]) -> None:
 def _day(text: str) -> int:
     if not re.fullmatch("[0-9]{8}", text):
         raise argparse.ArgumentTypeError(f"not YYYYMMDD: {text!r}")
+    return int(text)
+
+
+def _field(text: str) -> int:
+    if not re.fullmatch("[0-9]{1,19}", text):
+        raise argparse.ArgumentTypeError(f"not a field number: {text!r}")
     return int(text)
 
 
@@ -467,6 +493,34 @@ def _accepts(call: Callable[[Bytes], object], data: bytes) -> bool:
     return True
 
 
+def _standing(asked: argparse.Namespace, language: str) -> Answer:
+    """The standing text of each field, or of one, and whose sheet has it."""
+    if asked.farm == asked.association == "-":
+        raise Failure(_say("both", language))
+    farm, association = _sheet(asked.farm, language), _sheet(asked.association, language)
+    numbers = STANDING if asked.field is None else (asked.field,)
+    try:
+        found = [(number, standing_text(number, farm, association)) for number in numbers]
+    except Refusal as refusal:
+        return _refused(explain.of_standing(refusal, farm, association, language), language)
+    fields = explain.standing_fields(found, language)
+    lines = [_say("standing", language)]
+    for field in fields:
+        said = _say(str(field["sheet"] or "neither"), language)
+        if field["sheet"]:
+            said += f": {field['content'] or _say('empty', language)}"
+        lines.append(f"  {field['number']:2} {field['name']}, {said}")
+    return Answer(True, {"fields": fields}, "\n".join(lines))
+
+
+def _sheet(name: Optional[str], language: str) -> bytes:
+    """The sheet of a file, of no bytes where none is named."""
+    if name is None:
+        return b""
+    with _reading(name, language) as file:
+        return file.read(_MOST)
+
+
 def _wage(asked: argparse.Namespace, language: str) -> Answer:
     """A wage file, read in parts: its counts and the sum of its orders."""
     judging = Judging(_today() if asked.day is None else asked.day, language)
@@ -572,6 +626,6 @@ def _text_refused(
 
 
 _COMMANDS: Dict[str, Callable[[argparse.Namespace, str], Answer]] = {
-    "slip": _slip, "ledger": _ledger, "wage": _wage, "wet": _wet, "iban": _iban, "oib": _oib, "reference": _reference,
-    "digit": _digit,
+    "slip": _slip, "standing": _standing, "ledger": _ledger, "wage": _wage, "wet": _wet, "iban": _iban, "oib": _oib,
+    "reference": _reference, "digit": _digit,
 }

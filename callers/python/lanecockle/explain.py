@@ -1,12 +1,12 @@
 """A refusal shown as a person would show it: its place by name, what stands there with a mark, the rule, and hints."""
 
 import unicodedata
-from typing import Dict, List, NamedTuple, Optional, Tuple
+from typing import Dict, Iterable, List, NamedTuple, Optional, Tuple
 
 from . import hints
-from .calls import LINE, Lipa
+from .calls import LINE, Lipa, StandingText
 from .library import Record
-from .refusal import LANGUAGES, TYPE_BYTE, Refusal
+from .refusal import LANGUAGES, TYPE_BYTE, Refusal, Sheet
 from .tables import FIELDS, WORDS
 
 #: What text() says beside sentences, names, rules and hints, in English and Croatian.
@@ -27,6 +27,9 @@ _WORDS: Dict[str, Tuple[str, str]] = {
     "file end": ("the end of the file", "kraja datoteke"),
     "currency": ("Must be `EUR`, or `HRK` in a slip from before 2023.",
                  "Mora biti `EUR` ili, u uplatnici iz vremena prije 2023., `HRK`."),
+    "sheet": ("A field's number, 4 to 9, 13 or 14 and above that of the line before, `=`, a text that the field permits, and "
+              "LF.",
+              "Broj polja, 4 do 9, 13 ili 14 i veći od broja u prethodnom retku, `=`, tekst kakav polje dopušta i LF."),
     "slip size": ("A slip has at most {} bytes; {} were read.", "Uplatnica ima najviše {} bajta; pročitano ih je {}."),
     "due": ("A line of type {} is due here.", "Ovdje treba stajati slog {}."),
     "or": (" or ", " ili "),
@@ -57,7 +60,7 @@ class Shown(NamedTuple):
     each character); `mark` the index in it under which a mark goes, -1 for none. `figures` are `declared` and
     `counted` orders for 12, `declared` and `summed` cents for 13. `type` is the type of the refused line of a wage
     file, and for 14 of the missing one; `start` the position of the line at which `content` starts, 0 where that is
-    not in a line.
+    not in a line. `sheet` is `farm` or `association` for 20, and empty otherwise.
     """
 
     number: int
@@ -75,6 +78,7 @@ class Shown(NamedTuple):
     hints: List[str]
     type: str = ""
     start: int = 0
+    sheet: str = ""
 
     def text(self, language: str) -> str:
         """The lines that a person is shown, without a line end behind the last."""
@@ -95,7 +99,9 @@ class Shown(NamedTuple):
             return _say("day", language)
         at = LANGUAGES.index(language)
         told = []
-        if self.line:
+        if self.sheet:
+            told.append(f"{WORDS['sheet line'][at]} {self.line} {WORDS[self.sheet][at]}")
+        elif self.line:
             told.append(f"{WORDS['line'][at]} {self.line}" + (f" ({self.type})" if self.type else ""))
         if self.field:
             told.append(f"{WORDS['field'][at]} {self.field}: {self.field_name}")
@@ -173,6 +179,18 @@ def _of_slip(refusal: Refusal, data: bytes, said: List[str], language: str) -> S
     return _shown(refusal, _visible(text), mark, said, language)
 
 
+def of_standing(refusal: Refusal, farm: bytes, association: bytes, language: str) -> Shown:
+    """The refusal of standing text, with the malformed line and its end."""
+    if refusal.sheet is None:
+        return _shown(refusal, "", -1, [], language)
+    sheet = farm if refusal.sheet == Sheet.FARM else association
+    from_line = sheet.split(b"\n", refusal.line - 1)[-1]
+    line, end, _ = from_line.partition(b"\n")
+    content = _visible(_decoded((line + end)[:_SLIP]))
+    shown = _shown(refusal, content, -1, hints.of_sheet(sheet, refusal, language), language)
+    return shown._replace(sheet=refusal.sheet.name.lower(), rule=_say("sheet", language))
+
+
 def of_wage(refusal: Refusal, start: bytes, line: bytes, record: Record, day: int, language: str) -> Shown:
     """The refusal of a wage file, whose first bytes are `start`: in `line`, judged from the record before it."""
     said = _record_hints(refusal, record, language) + hints.of_wage(start, line, refusal, day, language)
@@ -215,6 +233,16 @@ def slip_fields(slip: bytes, language: str) -> List[Dict[str, object]]:
     return [
         {"number": field.number, "name": field.name[at], "content": content.decode()}
         for field, content in zip(fields, slip.split(b"\n"))
+    ]
+
+
+def standing_fields(found: Iterable[Tuple[int, Optional[StandingText]]], language: str) -> List[Dict[str, object]]:
+    """The standing text of fields, for JSON: number, name, whose sheet it is (None for neither) and content."""
+    at = LANGUAGES.index(language)
+    return [
+        {"number": number, "name": FIELDS["slip", number].name[at], "sheet": told.sheet.name.lower() if told else None,
+         "content": told.text.decode() if told else ""}
+        for number, told in found
     ]
 
 

@@ -6,8 +6,8 @@ from codecs import BOM_UTF8, BOM_UTF16_BE, BOM_UTF16_LE, getincrementaldecoder
 from itertools import islice
 from typing import Dict, Iterable, Iterator, List, NamedTuple, Optional, Tuple
 
-from .calls import LINE
-from .refusal import LANGUAGES, Refusal
+from .calls import LINE, STANDING
+from .refusal import LANGUAGES, SHEET, Refusal
 from .tables import FIELDS, Field
 
 #: At most so many hints are given, the likeliest first.
@@ -227,6 +227,56 @@ HINTS: Dict[str, Tuple[str, str]] = {
         "This is a kuna slip (HRK), from before 2023, and is not to be paid. For the books it is read by `ledger`.",
         "Ovo je uplatnica u kunama (HRK), iz vremena prije 2023., i po njoj se ne plaća. Za poslovne knjige čita je "
         "`ledger`."),
+    # Sheets.
+    "sheet_mark": (
+        "The sheet begins with a byte order mark (EF BB BF), which does not belong to it. Save it as UTF-8 without the "
+        "mark.",
+        "Predložak počinje oznakom redoslijeda bajtova (BOM, EF BB BF), koja mu ne pripada. Spremite ga kao UTF-8 bez te "
+        "oznake."),
+    "sheet_ends": (
+        "The line ends in {seen}; in a sheet each line ends in LF alone. Save the sheet with the line ends of Unix (LF).",
+        "Redak ovdje završava s {seen}, a u predlošku svaki redak završava samo graničnikom LF. Spremite predložak s "
+        "krajevima redaka kao u Unixu (LF)."),
+    "sheet_last": (
+        "The last line has no LF at its end. Add a line end behind it.",
+        "Zadnji redak nema graničnik LF na kraju. Dodajte kraj retka iza njega."),
+    "sheet_empty": (
+        "An empty line stands here; a sheet has none. Delete it.",
+        "Ovdje stoji prazan redak, a u predlošku ih ne smije biti. Obrišite ga."),
+    "sheet_equals": (
+        "There is no `=` in the line. Write the field's number, `=` and the text.",
+        "U retku nema znaka `=`. Upišite broj polja, `=` i tekst."),
+    "sheet_bare": (
+        "There is no number before the `=`. Write the field's number there.",
+        "Ispred znaka `=` nema broja. Upišite ondje broj polja."),
+    "sheet_number": (
+        "Before the `=` stands `{seen}`, where digits alone are due. Write the field's number there, without blanks.",
+        "Ispred znaka `=` stoji `{seen}`, a ondje smiju biti samo znamenke. Upišite ondje broj polja, bez praznina."),
+    "sheet_zero": (
+        "The number is written with a leading zero. Write {number}.",
+        "Broj je upisan s vodećom nulom. Upišite {number}."),
+    "sheet_field": (
+        "Field {number} has no standing text. Correct the number (4 to 9, 13 or 14), or delete the line.",
+        "Polje {number} nema stalni tekst. Ispravite broj (4 do 9, 13 ili 14) ili obrišite redak."),
+    "sheet_twice": (
+        "Field {number} stands in line {line} already. Keep one of the two lines.",
+        "Polje {number} već stoji u retku {line}. Ostavite samo jedan od ta dva retka."),
+    "sheet_order": (
+        "Field {number} stands behind field {before}. Put the lines in ascending order of their numbers.",
+        "Polje {number} stoji iza polja {before}. Poredajte retke po brojevima polja, od manjeg prema većem."),
+    "sheet_second": (
+        "A second `=` stands in the text, where it is not permitted. Write another character in its place, or leave it out.",
+        "U tekstu stoji još jedan znak `=`, koji ondje nije dozvoljen. Umjesto njega upišite drugi znak ili ga izostavite."),
+    "sheet_purpose": (
+        "Field 13 is four letters A to Z, or empty; here it is `{seen}`. Write the code in capitals, or leave it empty.",
+        "Polje 13 ima četiri slova od A do Z ili je prazno; ovdje je `{seen}`. Upišite šifru velikim slovima ili polje "
+        "ostavite praznim."),
+    "sheet_1250": (
+        "The letter {letter} stands here in WIN-1250; a sheet is UTF-8. Save the sheet as UTF-8.",
+        "Slovo {letter} ovdje je u kodnoj stranici WIN-1250, a predložak mora biti u UTF-8. Spremite ga kao UTF-8."),
+    "sheet_character": (
+        "Character {at} of the text is `{seen}`, which is not permitted. Write another one in its place, or leave it out.",
+        "{at}. znak teksta je `{seen}`, koji nije dozvoljen. Umjesto njega upišite drugi znak ili ga izostavite."),
     # Checks.
     "iban": (
         "It is the IBAN that fails its check: probably one digit was misread or two were exchanged. Compare it with "
@@ -321,6 +371,8 @@ _KINDS: Dict[Tuple[str, int], str] = {
 #: The field whose width a text on its own has.
 _TEXTS = {"iban": ("slip", 10), "oib": ("300", 5), "reference": ("slip", 12), "model": ("slip", 11)}
 
+_STANDING = [str(number) for number in STANDING]
+
 _LETTERS = "ČčĆćĐđŠšŽž"
 _HEADER = b"HRVHUB30"
 _KUNA = "HRK"
@@ -343,7 +395,7 @@ class _Content(NamedTuple):
 
 
 # ----------------------------------------------------------------------------------------------------------------------
-# The four calls
+# The calls
 
 
 def of_slip(data: bytes, refusal: Refusal, language: str) -> List[str]:
@@ -354,6 +406,11 @@ def of_slip(data: bytes, refusal: Refusal, language: str) -> List[str]:
 def of_ledger(data: bytes, refusal: Refusal, language: str) -> List[str]:
     """The hints about a slip of either currency that is refused, in `en` or `hr`; none where nothing is known."""
     return _of_slip(data, refusal, slip_layout(data), language)
+
+
+def of_sheet(sheet: bytes, refusal: Refusal, language: str) -> List[str]:
+    """The hints about a sheet of standing text with a malformed line (20), in `en` or `hr`; none where nothing is known."""
+    return _said(_sheet(sheet, refusal), language)
 
 
 def of_wage(start: bytes, line: bytes, refusal: Refusal, day: int, language: str) -> List[str]:
@@ -525,6 +582,94 @@ def _slip_feeds(data: bytes) -> Iterator[_Found]:
     elif count > 14:
         surplus = data.replace(b"\r", b"").endswith(b"\n" * (count - 13))
         yield "feed_doubled" if surplus else "feeds_many", {"count": count}
+
+
+# ----------------------------------------------------------------------------------------------------------------------
+# Sheets
+
+#: What a text of a slip is made of.
+_TEXT = re.compile(r"[0-9A-Za-z ,.:+?'/()ČčĆćĐđŠšŽž-]*")
+
+
+def _sheet(sheet: bytes, refusal: Refusal) -> Iterator[_Found]:
+    lines = sheet.split(b"\n")
+    if refusal.number != SHEET or not 1 <= refusal.line <= len(lines):
+        return
+    if sheet.startswith(_UTF16):
+        yield "utf16", {"mark": _hex(sheet[:2]), "due": "UTF-8"}
+        return
+    before, line = lines[:refusal.line - 1], lines[refusal.line - 1]
+    is_ended = refusal.line < len(lines)
+    if not before and line.startswith(BOM_UTF8):
+        yield "sheet_mark", {}
+        line = line[len(BOM_UTF8):]
+    if b"\r" in line and not (is_ended and line.endswith(b"\r")):
+        # more lines than one, for all that can be seen
+        yield "sheet_ends", {"seen": "CR"}
+        return
+    if line.endswith(b"\r"):
+        yield "sheet_ends", {"seen": "CR LF"}
+        line = line[:-1]
+    if not is_ended and line:
+        yield "sheet_last", {}
+    yield from _sheet_line(before, line, is_ended)
+
+
+def _sheet_line(before: List[bytes], line: bytes, is_ended: bool) -> Iterator[_Found]:
+    """What is wrong with a line of a sheet, without its end, behind other lines."""
+    number, equals, text = line.partition(b"=")
+    if equals:
+        yield from _sheet_number(before, _utf8(number))
+        yield from _sheet_text(_utf8(number).strip(" ").lstrip("0"), text)
+    elif line:
+        yield "sheet_equals", {}
+    elif is_ended:
+        yield "sheet_empty", {}
+
+
+def _sheet_number(before: List[bytes], number: str) -> Iterator[_Found]:
+    """What is wrong with the number of a line, by itself and behind those of other lines."""
+    if not number:
+        yield "sheet_bare", {}
+    elif not re.fullmatch("[0-9]+", number):
+        yield "sheet_number", {"seen": _printable(number)}
+    elif number not in _STANDING and number.lstrip("0") in _STANDING:
+        yield "sheet_zero", {"number": number.lstrip("0")}
+    elif number not in _STANDING:
+        yield "sheet_field", {"number": number}
+    else:
+        numbers = [_utf8(line.partition(b"=")[0]) for line in before]
+        if number in numbers:
+            yield "sheet_twice", {"number": number, "line": numbers.index(number) + 1}
+        elif numbers and numbers[-1] in _STANDING and int(numbers[-1]) > int(number):
+            yield "sheet_order", {"number": number, "before": numbers[-1]}
+
+
+def _sheet_text(number: str, text: bytes) -> Iterator[_Found]:
+    """What is wrong with the text of a line, by the rule of its field, if its number is that of one."""
+    decoded = _utf8(text)
+    if number == "13":
+        if not re.fullmatch("([A-Z]{4})?", decoded):
+            yield "sheet_purpose", {"seen": _printable(decoded)}
+        return
+    yield from [("sheet_second", {})] if "=" in decoded else _sheet_characters(text)
+    if number in _STANDING and len(decoded) > FIELDS["slip", int(number)].width:
+        yield from _length(_Content("text", decoded, FIELDS["slip", int(number)]))
+
+
+def _sheet_characters(text: bytes) -> Iterator[_Found]:
+    """The first character that a slip's text does not have, and those that it has."""
+    letters = [letter for letter in (_WIN_1250.get(text[at:at + 1]) for at in range(len(text))) if letter]
+    if letters and not _is_utf8(text):
+        yield "sheet_1250", {"letter": letters[0]}
+        return
+    decoded = _utf8(text)
+    found = _TEXT.match(decoded)
+    at = found.end() if found else 0
+    if at < len(decoded):
+        is_tab = decoded[at] == "\t"
+        yield ("tab", {"at": at + 1}) if is_tab else ("sheet_character", {"at": at + 1, "seen": _printable(decoded[at])})
+        yield "text", {}
 
 
 # ----------------------------------------------------------------------------------------------------------------------

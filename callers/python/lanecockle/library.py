@@ -38,6 +38,26 @@ class Ended(ctypes.Structure):
     _fields_ = [("told", Told), ("lines", c_size_t), ("groups", c_size_t), ("orders", c_size_t)]
 
 
+class Standing(ctypes.Structure):
+    """A standing text: `length` bytes from `start` in the sheet that supplied it, 1 the farm's, 2 the association's, 0 none;
+    for 20 the sheet that has the malformed line."""
+
+    told: Told
+    sheet: int
+    start: int
+    length: int
+    _fields_ = [("told", Told), ("sheet", c_size_t), ("start", c_size_t), ("length", c_size_t)]
+
+
+class StandingWritten(ctypes.Structure):
+    """How many bytes were written, 0 where the answer is a refusal; for 20 the sheet that has the malformed line."""
+
+    told: Told
+    value: int
+    sheet: int
+    _fields_ = [("told", Told), ("value", c_size_t), ("sheet", c_size_t)]
+
+
 class Ledger(ctypes.Structure):
     """An answer with the currency of a slip, 1 euro or 2 kuna, and its amount in its own unit; 0 where it is refused."""
 
@@ -116,6 +136,8 @@ _FUNCTIONS: Dict[str, Any] = {
     "slip_field": (Part, _TEXT + [c_size_t]),
     "slip_cents": (Valued, _TEXT),
     "slip_write": (Valued, [c_uint64] + _TEXT + _SIZES + _TEXT),
+    "standing_text": (Standing, [c_size_t] + _TEXT + _TEXT),
+    "slip_write_standing": (StandingWritten, [c_uint64] + _TEXT + _SIZES + _TEXT + _TEXT + _TEXT),
     "ledger_read": (Ledger, _TEXT),
     "ledger_field": (Part, _TEXT + [c_size_t]),
     "lipa_in_cents": (c_uint64, [c_uint64]),

@@ -3,7 +3,7 @@
 from typing import Dict, List, NamedTuple, Tuple
 
 #: The version of the package, which is that of the library it was made with.
-VERSION = "1.1.0"
+VERSION = "1.2.0"
 
 #: The name and the meaning of each refusal, by its number.
 KINDS: Dict[int, Tuple[str, str]] = {
@@ -24,6 +24,8 @@ KINDS: Dict[int, Tuple[str, str]] = {
     15: ("room", "no room; the needed number is told"),
     16: ("marks", "more than four unreadable digits"),
     17: ("beyond", "line beyond 1,000,000"),
+    20: ("sheet", "sheet line malformed"),
+    28: ("field", "a field number other than 4 to 9, 13 and 14"),
 }
 
 #: What each refusal is told as: its number, when (`line`, `byte`, `type` or `any`), English and Croatian. The first that
@@ -52,6 +54,9 @@ SENTENCES: List[Tuple[int, str, str, str]] = [
     (15, "any", "there is too little room; there must be room for {needed}.", "nema dovoljno mjesta; treba biti mjesta za {needed}."),
     (16, "any", "more than four digits are unreadable.", "nečitljivo je više od četiri znamenke."),
     (17, "any", "the file has more than 1,000,000 lines.", "datoteka ima više od 1.000.000 slogova."),
+    (20, "line", "the line is not `number=text` as its field asks for, or is out of order.", "redak nije `broj=tekst` kako polje traži ili nije po redu."),
+    (20, "any", "a line of a sheet is malformed.", "redak predloška nije ispravan."),
+    (28, "any", "only the fields 4 to 9, 13 and 14 have standing text.", "stalni tekst imaju samo polja 4 do 9, 13 i 14."),
 ]
 
 #: The words of a place, in English and Croatian.
@@ -59,6 +64,9 @@ WORDS: Dict[str, Tuple[str, str]] = {
     "line": ("line", "slog"),
     "field": ("field", "polje"),
     "position": ("position", "pozicija"),
+    "sheet line": ("line", "redak"),
+    "farm": ("of the farm's sheet", "predloška gospodarstva"),
+    "association": ("of the association's sheet", "predloška udruge"),
 }
 
 

@@ -18,9 +18,9 @@ from unittest import mock
 
 import lanecockle
 from lanecockle import (
-    FIELDS, KINDS, LINE, Counts, Field, Judge, Record, Refusal, Rule, Slip, calls, check_digits, filled, iban, library,
-    list_iban, list_reference, make_digit, oib, reference, slip_cents, slip_field, slip_read, slip_write, version,
-    wage_file, wage_place, write_closing, write_group, write_label, write_order,
+    FIELDS, KINDS, LINE, Counts, Field, Judge, Record, Refusal, Rule, Sheet, Slip, calls, check_digits, filled, iban,
+    library, list_iban, list_reference, make_digit, oib, reference, slip_cents, slip_field, slip_read, slip_write,
+    version, wage_file, wage_place, write_closing, write_group, write_label, write_order,
 )
 
 CALLERS = Path(__file__).resolve().parents[2]
@@ -314,9 +314,9 @@ class Wages(Case):
             self.assert_refused([17, 1_000_001], Judge.from_record(record).end)
 
     def test_made_up_refusals(self) -> None:
-        for number in list(range(20)) + [(1 << 64) - 1]:
+        for number in list(range(33)) + [(1 << 64) - 1]:
             record = Record(condition=4, told=(number, 3, 4, 5, 6))
-            told = [number if 1 <= number <= 17 else 17, 3, 4, 5, 6 if number == 15 else 0]
+            told = [number if number in KINDS else 17, 3, 4, 5, 6 if number == 15 else 0]
             self.assert_refused(told, Judge.from_record(record).end)
             self.assert_refused(told, Judge.from_record(record).step, b"")
 
@@ -437,8 +437,12 @@ def table(name: str) -> Iterator[List[str]]:
 
 
 def examples() -> List[Tuple[Refusal, str, str]]:
-    """The examples of told.txt, each a refusal with its two sentences."""
-    return [(Refusal(*map(int, told.split())), english, croatian) for told, english, croatian in table("told.txt")]
+    """The examples of told.txt, each a refusal, with its sheet where one is told, and its two sentences."""
+    found = []
+    for told, english, croatian in table("told.txt"):
+        number, line, field, byte, needed, *sheet = map(int, told.split())
+        found.append((Refusal(number, line, field, byte, needed, *map(Sheet, sheet)), english, croatian))
+    return found
 
 
 class Sentences(Case):
@@ -475,16 +479,20 @@ class Sentences(Case):
     def test_distinct(self) -> None:
         for line, field in ((0, 0), (0, 4), (2, 0), (2, 4)):
             refusals = [Refusal(number, line, field, 0, 7) for number in KINDS]
-            self.assertEqual(len({refused.sentence(language) for refused in refusals for language in ("en", "hr")}), 34)
+            sentences = {refused.sentence(language) for refused in refusals for language in ("en", "hr")}
+            self.assertEqual(len(sentences), 2 * len(KINDS))
 
     def test_names(self) -> None:
-        self.assertEqual(list(KINDS), list(range(1, 18)))
+        self.assertEqual(list(KINDS), [*range(1, 18), 20, 28])
         self.assertEqual((Refusal(1).name, Refusal(6).name, Refusal(17).name), ("size", "check", "beyond"))
-        self.assertEqual(len({Refusal(number).name for number in KINDS}), 17)
+        self.assertEqual((Refusal(20).name, Refusal(28).name), ("sheet", "field"))
+        self.assertEqual(len({Refusal(number).name for number in KINDS}), 19)
 
     def test_pickled(self) -> None:
         refused = pickle.loads(pickle.dumps(Refusal(15, needed=1002)))
-        self.assertEqual((refused.number, refused.needed), (15, 1002))
+        self.assertEqual((refused.number, refused.needed, refused.sheet), (15, 1002, None))
+        refused = pickle.loads(pickle.dumps(Refusal(20, line=3, sheet=Sheet.FARM)))
+        self.assertEqual((refused.number, refused.line, refused.sheet), (20, 3, Sheet.FARM))
 
 
 #: Where the type of a line stands, which the library does not hand out.

@@ -17,6 +17,7 @@ from lanecockle.judging import Judging
 from tests.test_calls import DAY, SLIP_FIELDS, file_of_two, replaced, slip_of, with_bytes
 from tests.test_judging import file_of
 from tests.test_ledger import ACCEPTED, KUNA, joined
+from tests.test_standing import ASSOCIATION, FARM
 
 PYTHON = Path(__file__).resolve().parents[1]
 ON_DAY = ("--day", str(DAY))
@@ -323,6 +324,106 @@ class Ledger(Case):
                 self.assertEqual(ran.status, 1)
                 self.assertIn("`ledger`", ran.out)
                 self.assertNotIn("--scan", ran.out)
+
+
+class Standing(Case):
+    def sheets(self, farm: bytes, association: bytes) -> List[str]:
+        """The options for two sheets."""
+        options = []
+        for name, sheet in (("farm", farm), ("association", association)):
+            (self.folder / name).write_bytes(sheet)
+            options += [f"--{name}", str(self.folder / name)]
+        return options
+
+    def test_all_fields(self) -> None:
+        ran = run("standing", *self.sheets(FARM, ASSOCIATION))
+        self.assertEqual((ran.status, ran.err), (0, ""))
+        self.assertEqual(ran.out.split("\n"), [
+            "accepted: standing text",
+            "   4 Payer (name), farm's sheet: OPG HORVAT",
+            "   5 Payer's address (street and number), in neither sheet",
+            "   6 Payer's address (postal code and town), farm's sheet: 42000 VARAŽDIN",
+            "   7 Recipient (name), association's sheet: UDRUGA",
+            "   8 Recipient's address (street and number), in neither sheet",
+            "   9 Recipient's address (postal code and town), in neither sheet",
+            "  13 Purpose code, association's sheet: WTER",
+            "  14 Description of the payment, farm's sheet: (empty)",
+            "",
+        ])
+
+    def test_croatian(self) -> None:
+        lines = run("standing", *self.sheets(FARM, ASSOCIATION), "--lang", "hr").out.split("\n")
+        self.assertEqual(lines[:3], [
+            "prihvaćeno: stalni tekst", "   4 Platitelj (naziv/ime i prezime), predložak gospodarstva: OPG HORVAT",
+            "   5 Adresa platitelja (ulica i broj), ni u jednom predlošku",
+        ])
+        self.assertEqual(lines[7:9], [
+            "  13 Šifra namjene, predložak udruge: WTER", "  14 Opis plaćanja, predložak gospodarstva: (prazno)"])
+
+    def test_one_field(self) -> None:
+        asked = ["standing", *self.sheets(FARM, ASSOCIATION)]
+        self.assertEqual(run(*asked, "13").out, "accepted: standing text\n  13 Purpose code, association's sheet: WTER\n")
+        self.assertEqual(self.answer(*asked, "13")["fields"], [
+            {"number": 13, "name": "Purpose code", "sheet": "association", "content": "WTER"}])
+
+    def test_text_as_it_is(self) -> None:
+        """What a text ends in is part of it."""
+        ran = run("standing", *self.sheets(b"14=Voda: \n", b""), "14")
+        self.assertEqual(ran.out.split("\n")[1], "  14 Description of the payment, farm's sheet: Voda: ")
+
+    def test_json(self) -> None:
+        facts = self.answer("standing", *self.sheets(FARM, ASSOCIATION))
+        self.assertEqual([(field["number"], field["sheet"], field["content"]) for field in facts["fields"]], [
+            (4, "farm", "OPG HORVAT"), (5, None, ""), (6, "farm", "42000 VARAŽDIN"), (7, "association", "UDRUGA"),
+            (8, None, ""), (9, None, ""), (13, "association", "WTER"), (14, "farm", ""),
+        ])
+
+    def test_one_sheet_or_none(self) -> None:
+        facts = self.answer("standing", "--association", self.file(ASSOCIATION))
+        self.assertEqual([field["sheet"] for field in facts["fields"] if field["content"]], 4 * ["association"])
+        facts = self.answer("standing")
+        self.assertEqual([(field["sheet"], field["content"]) for field in facts["fields"]], 8 * [(None, "")])
+
+    def test_standard_input(self) -> None:
+        facts = self.answer("standing", "--farm", "-", "--association", self.file(ASSOCIATION), "4", given=FARM)
+        self.assertEqual(facts["fields"][0]["content"], "OPG HORVAT")
+        facts = self.answer("standing", "--association", "-", "4", given=ASSOCIATION)
+        self.assertEqual(facts["fields"][0]["sheet"], "association")
+        for language, words in (("en", "cannot both be standard input"), ("hr", "ne mogu oboje biti standardni ulaz")):
+            self.assert_failed(run("standing", "--farm", "-", "--association", "-", "--lang", language), words)
+
+    def test_malformed(self) -> None:
+        for farm, association, sheet in ((b"4=IVO\n5", b"x", "farm"), (FARM, b"4=IVO\n5", "association")):
+            for field in ([], ["14"]):
+                asked = ["standing", *self.sheets(farm, association), *field]
+                refusal = self.answer(*asked, status=1)["refusal"]
+                self.assertEqual((refusal["number"], refusal["line"], refusal["sheet"]), (20, 2, sheet))
+                ran = run(*asked)
+                self.assertEqual(ran.status, 1)
+                self.assertTrue(ran.out.startswith(f"refused 20: Line 2 of the {sheet}'s sheet: "), ran.out)
+                self.assertIn("\n  5\n  rule: A field's number, ", ran.out)
+                self.assertIn("\n  hint: The last line has no LF at its end.", ran.out)
+        ran = run(*asked, "--lang", "hr")
+        self.assertTrue(ran.out.startswith("odbijeno 20: Redak 2 predloška udruge: "), ran.out)
+
+    def test_other_field(self) -> None:
+        for field in ("10", "0", "9" * 19):
+            ran = run("standing", *self.sheets(b"x", b"x"), field)
+            self.assertEqual(ran, (1, "refused 28: Only the fields 4 to 9, 13 and 14 have standing text.\n", ""))
+
+    def test_wrong_usage(self) -> None:
+        for field in ("x", "-4", "4.0", "9" * 20, ""):
+            self.assert_failed(run("standing", "--", field), "not a field number")
+        self.assert_failed(run("standing", "x", "--lang", "hr"), "nije broj polja")
+        self.assert_failed(run("standing", "--farm", str(self.folder / "none")), "cannot be read")
+        self.assert_failed(run("standing", "--farm"), "expected one argument")
+
+    def test_large_file(self) -> None:
+        """What is not read of a sheet changes nothing: the malformed line begins before it."""
+        ran = run("standing", *self.sheets(FARM + b"x" * 3_000_000, b""))
+        self.assertEqual(ran.status, 1)
+        self.assertTrue(ran.out.startswith("refused 20: Line 4 of the farm's sheet: "))
+        self.assertLess(len(ran.out), 600)
 
 
 class Wages(Case):

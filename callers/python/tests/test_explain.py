@@ -5,10 +5,13 @@ import unittest
 from typing import Any, List, Tuple
 from unittest import mock
 
-from lanecockle import LINE, Judge, Lipa, Record, Refusal, iban, ledger_read, list_iban, slip_read
-from lanecockle.explain import Shown, kuna, money, of_ledger, of_slip, of_text, of_wage, slip_fields
+from lanecockle import LINE, Judge, Lipa, Record, Refusal, iban, ledger_read, list_iban, slip_read, standing_text
+from lanecockle.explain import (
+    Shown, kuna, money, of_ledger, of_slip, of_standing, of_text, of_wage, slip_fields, standing_fields,
+)
 from tests.test_calls import DAY, SLIP_FIELDS, file_of_two, lines_of, refused, replaced, slip_of, with_bytes
 from tests.test_ledger import ACCEPTED, KUNA, joined, kuna_with
+from tests.test_standing import ASSOCIATION, FARM
 
 
 def refusal_of(call: Any, *lent: Any) -> Refusal:
@@ -42,6 +45,10 @@ def slip_shown(slip: bytes, language: str = "en") -> Shown:
 
 def ledger_shown(slip: bytes, language: str = "en") -> Shown:
     return of_ledger(refusal_of(ledger_read, slip), slip, language)
+
+
+def standing_shown(farm: bytes, association: bytes, language: str = "en", field: int = 4) -> Shown:
+    return of_standing(refusal_of(standing_text, field, farm, association), farm, association, language)
 
 
 def slip_with(number: int, field: bytes) -> bytes:
@@ -178,6 +185,60 @@ class Ledger(unittest.TestCase):
             (10**15 - 1, "9,999,999,999,999.99 HRK", "9.999.999.999.999,99 HRK"),
         ):
             self.assertEqual((kuna(Lipa(lipa), "en"), kuna(Lipa(lipa), "hr")), (english, croatian))
+
+
+class Standing(unittest.TestCase):
+    """Standing text: the malformed line, and whose sheet it is."""
+
+    def test_malformed(self) -> None:
+        shown = standing_shown(FARM, b"4=x\n14=Voda\n13=WTER\n")
+        self.assertEqual((shown.number, shown.name, shown.line, shown.field, shown.byte), (20, "sheet", 3, 0, 0))
+        self.assertEqual((shown.sheet, shown.content, shown.mark), ("association", "13=WTER␊", -1))
+        self.assertEqual(body(shown), [
+            "refused 20: Line 3 of the association's sheet: the line is not `number=text` as its field asks for, or is out of "
+            "order.",
+            "  line 3 of the association's sheet", "  13=WTER␊",
+            "  rule: A field's number, 4 to 9, 13 or 14 and above that of the line before, `=`, a text that the field permits, "
+            "and LF.",
+        ])
+        self.assertEqual(shown.hints, [
+            "Field 13 stands behind field 14. Put the lines in ascending order of their numbers."])
+
+    def test_croatian(self) -> None:
+        shown = standing_shown(b"4=IVO\n=", b"", "hr")
+        self.assertEqual(body(shown, "hr"), [
+            "odbijeno 20: Redak 2 predloška gospodarstva: redak nije `broj=tekst` kako polje traži ili nije po redu.",
+            "  redak 2 predloška gospodarstva", "  =",
+            "  pravilo: Broj polja, 4 do 9, 13 ili 14 i veći od broja u prethodnom retku, `=`, tekst kakav polje dopušta i LF.",
+        ])
+
+    def test_line_and_its_end(self) -> None:
+        for sheet, content in (
+            (b"\n", "␊"), (b"4=x\r\n5=y\r\n", "4=x␍␊"), (b"4=x\n5=y", "5=y"), (b"4=x\n\n5=y\n", "␊"),
+            (b"4=\xC5\n", "4=·␊"), (b"4=x\r5=y", "4=x␍5=y"), ("4=Ž\t\n".encode(), "4=Ž␉␊"),
+            (b"4=" + b"x" * 999, "4=" + "x" * 481),
+        ):
+            with self.subTest(sheet=sheet):
+                self.assertEqual(standing_shown(sheet, b"").content, content)
+                self.assertEqual(standing_shown(FARM, sheet).content, content)
+
+    def test_other_field(self) -> None:
+        shown = standing_shown(b"x", b"x", field=10)
+        self.assertEqual((shown.number, shown.sheet, shown.content, shown.hints), (28, "", "", []))
+        self.assertEqual(shown.text("en"), "refused 28: Only the fields 4 to 9, 13 and 14 have standing text.")
+
+    def test_json(self) -> None:
+        told = json.loads(json.dumps(standing_shown(b"x", b"").as_dict()))
+        self.assertEqual((told["number"], told["line"], told["sheet"]), (20, 1, "farm"))
+        self.assertEqual(slip_shown(b"").as_dict()["sheet"], "")
+
+    def test_fields(self) -> None:
+        found = [(number, standing_text(number, FARM, ASSOCIATION)) for number in (4, 5, 13, 14)]
+        told = standing_fields(found, "en")
+        self.assertEqual(told[0], {"number": 4, "name": "Payer (name)", "sheet": "farm", "content": "OPG HORVAT"})
+        self.assertEqual([(field["sheet"], field["content"]) for field in told[1:]], [
+            (None, ""), ("association", "WTER"), ("farm", "")])
+        self.assertEqual(standing_fields(found, "hr")[3]["name"], "Opis plaćanja")
 
 
 class Wages(unittest.TestCase):

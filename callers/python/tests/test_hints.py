@@ -7,13 +7,14 @@ import unittest
 from typing import Any, Callable, Dict, List, Optional, Pattern, Set, Tuple
 
 from lanecockle import (
-    FIELDS, LINE, Refusal, Rule, check_digits, iban, ledger_read, list_iban, list_reference, oib, reference, slip_read,
-    wage_file,
+    FIELDS, LINE, STANDING, Refusal, Rule, Sheet, check_digits, iban, ledger_read, list_iban, list_reference, oib, reference,
+    sheet_text, slip_read, standing_text, wage_file,
 )
-from lanecockle.hints import HINTS, MODELS, MOST, _KINDS, of_ledger, of_slip, of_text, of_wage, slip_layout
+from lanecockle.hints import HINTS, MODELS, MOST, _KINDS, of_ledger, of_sheet, of_slip, of_text, of_wage, slip_layout
 from lanecockle.refusal import LANGUAGES
 from tests.test_calls import DAY, SLIP_FIELDS, file_of_two, lines_of, refused, slip_of, with_bytes
 from tests.test_ledger import KUNA, kuna_with
+from tests.test_standing import ASSOCIATION, FARM, MALFORMED, longest
 
 #: A hint that is awaited: its name and what its places are filled with.
 Awaited = Tuple[str, Dict[str, object]]
@@ -55,6 +56,14 @@ def of_a_ledger_slip(data: bytes, language: str) -> Optional[List[str]]:
     """The hints of the library's refusal of a slip of either currency; None where it is accepted."""
     refusal = refused(ledger_read, data)
     return of_ledger(data, refusal, language) if refusal else None
+
+
+def of_a_sheet(sheet: bytes, language: str) -> Optional[List[str]]:
+    """The hints of the library's refusal of a sheet, the same whose it is; None where it is accepted."""
+    refusals = [refused(standing_text, 4, sheet, b""), refused(standing_text, 4, b"", sheet)]
+    of_farm, of_association = (of_sheet(sheet, refusal, language) if refusal else None for refusal in refusals)
+    assert of_farm == of_association, (of_farm, of_association)
+    return of_farm
 
 
 def of_a_file(lent: Any, language: str) -> Optional[List[str]]:
@@ -513,6 +522,70 @@ class Texts(Case):
         self.check(say, ("reference", b"1" * 23), [("too_long", {"length": 23, "width": 22})], ("reference", b"1?"))
 
 
+class Sheets(Case):
+    def sheet(self, wrong: bytes, awaited: List[Awaited], *neighbours: bytes) -> None:
+        self.check(of_a_sheet, wrong, awaited, FARM, ASSOCIATION, *neighbours)
+
+    def test_right(self) -> None:
+        self.accepted(of_a_sheet, b"", FARM, ASSOCIATION, sheet_text((number, longest(number)) for number in STANDING))
+
+    def test_whole(self) -> None:
+        self.sheet(MARK + FARM, [("sheet_mark", {})], b"x" + FARM)
+        self.sheet(b"\xFF\xFE" + FARM.decode().encode("utf-16-le"), [("utf16", {"mark": "FF FE", "due": "UTF-8"})])
+        self.sheet(FARM.replace(b"\n", b"\r\n"), [("sheet_ends", {"seen": "CR LF"})], FARM.replace(b"\n", b" \n\n"))
+        self.sheet(FARM.replace(b"\n", b"\r"), [("sheet_ends", {"seen": "CR"})], FARM.replace(b"\n", b"\n\n"))
+        self.sheet(MARK + b"4=IVO\r\n", [("sheet_mark", {}), ("sheet_ends", {"seen": "CR LF"})], b"4=IVO\n")
+        self.sheet(b"4=IVO\r", [("sheet_ends", {"seen": "CR"})], b"4=IVO")
+
+    def test_ends(self) -> None:
+        self.sheet(FARM[:-1], [("sheet_last", {})], FARM + b"\n")
+        self.sheet(b"4=IVO\n14", [("sheet_last", {}), ("sheet_equals", {})], b"4=IVO\n14=\n")
+        self.sheet(b"4=IVO\n\n14=\n", [("sheet_empty", {})], b"4=IVO\n \n14=\n")
+        self.sheet(b"\n", [("sheet_empty", {})], b"")
+        self.sheet(b"\r\n", [("sheet_ends", {"seen": "CR LF"}), ("sheet_empty", {})])
+
+    def test_number(self) -> None:
+        self.sheet(b"4 IVO\n", [("sheet_equals", {})], b"4=IVO\n", b"=IVO\n")
+        self.sheet(b"=IVO\n", [("sheet_bare", {})], b"4=IVO\n", b"IVO\n")
+        self.sheet(b" 4=IVO\n", [("sheet_number", {"seen": " 4"})], b"04=IVO\n")
+        self.sheet(b"+4=IVO\n", [("sheet_number", {"seen": "+4"})], b"4=+4\n")
+        self.sheet(b"#4=\tIVO\n", [("sheet_number", {"seen": "#4"}), ("tab", {"at": 1}), ("text", {})])
+        self.sheet(b"04=IVO\n", [("sheet_zero", {"number": "4"})], b"10=IVO\n")
+        self.sheet(b"4=IVO\n0013=WTER\n", [("sheet_zero", {"number": "13"})], b"4=IVO\n13=WTER\n")
+        self.sheet(b"10=HR12\n", [("sheet_field", {"number": "10"})], b"9=HR12\n")
+        self.sheet(b"010=HR12\n", [("sheet_field", {"number": "010"})], b"09=HR12\n")
+
+    def test_order(self) -> None:
+        self.sheet(b"4=IVO\n5=x\n4=ANA\n", [("sheet_twice", {"number": "4", "line": 1})], b"5=x\n4=IVO\n")
+        self.sheet(b"4=IVO\n4=IVO\n", [("sheet_twice", {"number": "4", "line": 1})])
+        self.sheet(b"14=x\n13=WTER\n", [("sheet_order", {"number": "13", "before": "14"})], b"14=x\n14=x\n")
+        self.sheet(b"13=\n4=" + b"x" * 31 + b"\n",
+                   [("sheet_order", {"number": "4", "before": "13"}), ("too_long", {"length": 31, "width": 30})])
+
+    def test_text(self) -> None:
+        self.sheet(b"4=x=y\n", [("sheet_second", {})], b"4=x-y\n")
+        self.sheet(b"4=" + "Ž".encode() * 31 + b"\n", [("too_long", {"length": 31, "width": 30})],
+                   b"4=" + "Ž".encode() * 30 + b"\n")
+        self.sheet(b"14=" + b"x" * 36 + b"\n", [("too_long", {"length": 36, "width": 35})], b"14=" + b"x" * 35 + b"\n")
+        self.sheet(b"4=IVO\tANA\n", [("tab", {"at": 4}), ("text", {})], b"4=IVO ANA\n")
+        self.sheet("4=IVO ČAČIĆ\n".encode("cp1250"), [("sheet_1250", {"letter": "Č"})], "4=IVO ČAČIĆ\n".encode())
+        self.sheet("4=ČA–IĆ\n".encode(), [("sheet_character", {"at": 3, "seen": "–"}), ("text", {})], "4=ČA-IĆ\n".encode())
+        self.sheet(b"4=IVO\xFF\n", [("sheet_character", {"at": 4, "seen": "\uFFFD"}), ("text", {})], b"4=IVO\n")
+
+    def test_purpose(self) -> None:
+        for seen in ("wter", "WTE", "WTERX", "WTE1", "W=ER", " "):
+            self.sheet(b"13=" + seen.encode() + b"\n", [("sheet_purpose", {"seen": seen})], b"13=\n", b"13=WTER\n")
+
+    def test_every_malformed_line_is_told_something(self) -> None:
+        for line in MALFORMED:
+            for sheet in (line, b"4=x\n" + line):
+                self.assertTrue(of_a_sheet(sheet, "en"), sheet)
+
+    def test_of_others_nothing(self) -> None:
+        for refusal in (Refusal(28), Refusal(20), Refusal(20, 5, sheet=Sheet.FARM), Refusal(3, 1)):
+            self.assertEqual(of_sheet(b"4=x\n\n", refusal, "en"), [])
+
+
 class Said(Case):
     def test_literally(self) -> None:
         data = SLIP.replace(b"\n", b"\r\n")
@@ -573,7 +646,7 @@ class Anything(unittest.TestCase):
 
     PIECES = [
         SLIP, KUNA, b"\r", b"\n", b"\0", b"\t", MARK, b"HR12", b"O", b"\xC4", b"\xFF\xFE", b"{0}", b"{at}", b"300\r\n",
-        b" " * 990,
+        b" " * 990, b"4=", b"13=x\n", b"04=", b"=",
     ]
 
     def assert_some(self, english: List[str], croatian: List[str]) -> None:
@@ -588,12 +661,13 @@ class Anything(unittest.TestCase):
             data = b"".join(chance.choice(self.PIECES) for _ in range(chance.randint(0, 6)))
             at = chance.randrange(len(file))
             line = chance.choice([data, data[:LINE], file[at:at + LINE], lines_of(file)[at % 5]])
-            number, field, byte = chance.randint(1, 17), chance.randint(0, 26), chance.randint(0, 1100)
+            number, field, byte = chance.choice([*range(1, 18), 20, 28]), chance.randint(0, 26), chance.randint(0, 1100)
             refusal = Refusal(number, chance.randint(0, 3), field, byte)
             what = chance.choice(["iban", "oib", "reference", "model", "digits"])
             day = chance.choice([DAY, 0, 20240231, 1 << 60])
             self.assert_some(*(of_slip(data, refusal, language) for language in LANGUAGES))
             self.assert_some(*(of_ledger(data, refusal, language) for language in LANGUAGES))
+            self.assert_some(*(of_sheet(data, Refusal(20, refusal.line), language) for language in LANGUAGES))
             self.assert_some(*(of_wage(data, line, refusal, day, language) for language in LANGUAGES))
             self.assert_some(*(of_text(what, data, refusal, language) for language in LANGUAGES))
 
@@ -602,7 +676,7 @@ class Every(unittest.TestCase):
     def test_every_hint_is_said(self) -> None:
         """By the tests above, which are run for it, so that it stands on its own."""
         SEEN.clear()
-        for case in (Slips, Ledger, Wages, Texts):
+        for case in (Slips, Ledger, Wages, Texts, Sheets):
             unittest.defaultTestLoader.loadTestsFromTestCase(case).run(unittest.TestResult())
         self.assertEqual(set(HINTS) - SEEN, set())
 

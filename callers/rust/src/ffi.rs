@@ -5,7 +5,7 @@
 // cents come back in a `size_t`
 const _: () = assert!(usize::BITS == 64);
 
-/// An answer by its numbers, as a [`Record`] keeps its refusal: number 0 is acceptance, 1 to 17 are refusals.
+/// An answer by its numbers, as a [`Record`] keeps its refusal: number 0 is acceptance, 1 to 17, 20 and 28 are refusals.
 ///
 /// ```
 /// use lanecockle::wage::{Judge, Told};
@@ -44,6 +44,24 @@ pub struct Ended {
     pub lines: usize,
     pub groups: usize,
     pub orders: usize,
+}
+
+/// A standing text, or a refusal, with whose sheet it is.
+#[repr(C)]
+#[derive(Clone, Copy)]
+pub struct Standing {
+    pub told: Told,
+    pub sheet: usize,
+    pub part: Part,
+}
+
+/// How many bytes were written, or a refusal with whose sheet it is.
+#[repr(C)]
+#[derive(Clone, Copy)]
+pub struct StandingWritten {
+    pub told: Told,
+    pub value: usize,
+    pub sheet: usize,
 }
 
 /// An answer with the currency of a slip and its amount in its own unit.
@@ -92,7 +110,7 @@ impl Cents {
 /// The judge's record, plain data: keep it, copy it, store it.
 ///
 /// A record that the judge did not make gets an answer as well: 17 for another condition, for a count above 1,000,000, for a
-/// sum of 10^20 or more, and for a refusal of another number than 1 to 17.
+/// sum of 10^20 or more, and for a refusal of another number than 1 to 17, 20 and 28.
 ///
 /// ```
 /// use lanecockle::wage::{Judge, Record};
@@ -144,6 +162,11 @@ extern "C" {
     fn lanecockle_slip_cents(slip: *const u8, length: usize) -> Valued;
     fn lanecockle_slip_write(cents: u64, text: *const u8, text_length: usize, sizes: *const usize, count: usize,
                              out: *mut u8, room: usize) -> Valued;
+    fn lanecockle_standing_text(field: usize, farm: *const u8, farm_length: usize, association: *const u8,
+                                association_length: usize) -> Standing;
+    fn lanecockle_slip_write_standing(cents: u64, text: *const u8, text_length: usize, sizes: *const usize, count: usize,
+                                      farm: *const u8, farm_length: usize, association: *const u8,
+                                      association_length: usize, out: *mut u8, room: usize) -> StandingWritten;
     fn lanecockle_ledger_read(slip: *const u8, length: usize) -> Ledger;
     fn lanecockle_ledger_field(slip: *const u8, length: usize, number: usize) -> Part;
     fn lanecockle_lipa_in_cents(lipa: u64) -> u64;
@@ -228,6 +251,40 @@ pub fn slip_write(cents: u64, fields: &Fields, out: &mut [u8]) -> Valued {
     let (text, text_length, sizes, count) = (text.as_ptr(), text.len(), sizes.as_ptr(), sizes.len());
     // SAFETY: text and sizes may be read and `out` written for their lengths; `out`, a `&mut`, overlaps nothing.
     unsafe { lanecockle_slip_write(cents, text, text_length, sizes, count, out.as_mut_ptr(), out.len()) }
+}
+
+pub fn standing_text(field: usize, farm: &[u8], association: &[u8]) -> Standing {
+    // SAFETY: both slices may be read for their lengths, and the call keeps no pointer.
+    unsafe { lanecockle_standing_text(field, farm.as_ptr(), farm.len(), association.as_ptr(), association.len()) }
+}
+
+pub fn slip_write_standing(
+    cents: u64,
+    fields: &Fields,
+    farm: &[u8],
+    association: &[u8],
+    out: &mut [u8],
+) -> StandingWritten {
+    let (text, sizes, room) = (&fields.text, &fields.sizes, out.len());
+    let (text, text_length, sizes, count) = (text.as_ptr(), text.len(), sizes.as_ptr(), sizes.len());
+    let (farm, farm_length) = (farm.as_ptr(), farm.len());
+    let (association, association_length, out) = (association.as_ptr(), association.len(), out.as_mut_ptr());
+    // SAFETY: text, sizes and sheets may be read and `out` written for their lengths; `out`, a `&mut`, overlaps nothing.
+    unsafe {
+        lanecockle_slip_write_standing(
+            cents,
+            text,
+            text_length,
+            sizes,
+            count,
+            farm,
+            farm_length,
+            association,
+            association_length,
+            out,
+            room,
+        )
+    }
 }
 
 pub fn ledger_read(slip: &[u8]) -> Ledger {

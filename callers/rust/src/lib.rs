@@ -1,5 +1,5 @@
-//! Lanecockle for Rust: HUB3 payment slips, kuna slips for the ledgers, wage files of 300/301/309/399 lines, wet slips and
-//! check digits, as the desk of a Croatian water rights association checks them.
+//! Lanecockle for Rust: HUB3 payment slips and their standing text, kuna slips for the ledgers, wage files of
+//! 300/301/309/399 lines, wet slips and check digits, as the desk of a Croatian water rights association checks them.
 //!
 //! The checks are those of a proved library, `libdesk.a` in the project and `liblanecockle.a` where it is installed, that this
 //! crate links with: `build.rs` looks for it in the folder that the environment variable `LANECOCKLE_LIB` names, else in the
@@ -26,8 +26,9 @@
 //! # Ok::<(), lanecockle::Refusal>(())
 //! ```
 //!
-//! Slips are read and written by [`slip`], wage files by [`wage`]; [`ledger`] reads the slips of the ledgers, in euro or in kuna.
-//! [`FIELDS`] has the names, places and rules of all fields.
+//! Slips are read and written by [`slip`], wage files by [`wage`]; [`standing`] has the text that slips take from a farm's
+//! sheet or the association's; [`ledger`] reads the slips of the ledgers, in euro or in kuna. [`FIELDS`] has the names, places
+//! and rules of all fields.
 #![deny(missing_docs, unsafe_code, unsafe_op_in_unsafe_fn)]
 
 #[allow(unsafe_code)]
@@ -36,6 +37,7 @@ mod fields;
 pub mod ledger;
 mod refusal;
 pub mod slip;
+pub mod standing;
 #[rustfmt::skip]
 mod tables;
 pub mod wage;

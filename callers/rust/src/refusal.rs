@@ -36,6 +36,16 @@ pub(crate) struct Sentence {
     pub told: [&'static str; 2],
 }
 
+/// The words of a place in a language; a 20 has its own for a line, and behind its number whose sheet it is.
+pub(crate) struct Words {
+    pub line: &'static str,
+    pub field: &'static str,
+    pub position: &'static str,
+    pub sheet_line: &'static str,
+    pub farm: &'static str,
+    pub association: &'static str,
+}
+
 /// What a refusal must tell for a sentence to fit it.
 #[derive(Clone, Copy)]
 pub(crate) enum When {
@@ -49,7 +59,7 @@ pub(crate) enum When {
 const TYPE_BYTE: usize = 997;
 
 impl Kind {
-    /// The number, 1 to 17.
+    /// The number: 1 to 17, 20 or 28.
     ///
     /// ```
     /// assert_eq!(lanecockle::Kind::Beyond.number(), 17);
@@ -88,7 +98,7 @@ impl Kind {
 pub struct Refusal {
     /// What is wrong.
     pub kind: Kind,
-    /// The line of the wage file, or of a group's orders; 0 for none.
+    /// The line of the wage file, of a group's orders, or for [`Kind::Sheet`] of a sheet; 0 for none.
     pub line: usize,
     /// The field; 0 for none.
     pub field: usize,
@@ -125,11 +135,7 @@ impl Refusal {
     /// );
     /// ```
     pub fn sentence(&self, language: Language) -> String {
-        let (place, what) = (self.place(language), self.what(language));
-        if place.is_empty() {
-            return capitalized(&what);
-        }
-        capitalized(&format!("{place}: {what}"))
+        sentence(&self.place(language), &self.what(language))
     }
 
     /// What is wrong, without its place and without a capital letter.
@@ -159,17 +165,18 @@ impl Refusal {
     /// assert_eq!(refusal.place(Language::Croatian), "pozicija 5");
     /// ```
     pub fn place(&self, language: Language) -> String {
-        let [line, field, position] = WORDS[language.place()];
+        let words = &WORDS[language.place()];
         let mut told = Vec::new();
         if self.line != 0 {
+            let line = if self.kind == Kind::Sheet { words.sheet_line } else { words.line };
             told.push(format!("{line} {}", self.line));
         }
         if self.field != 0 {
-            told.push(format!("{field} {}", self.field));
+            told.push(format!("{} {}", words.field, self.field));
         }
         if self.tells_byte() {
             // a stored record may hold any byte, the highest number too
-            told.push(format!("{position} {}", self.byte as u128 + 1));
+            told.push(format!("{} {}", words.position, self.byte as u128 + 1));
         }
         told.join(", ")
     }
@@ -187,6 +194,14 @@ impl Refusal {
             When::Any => true,
         }
     }
+}
+
+/// A place, which may be none, and what is wrong there.
+pub(crate) fn sentence(place: &str, what: &str) -> String {
+    if place.is_empty() {
+        return capitalized(what);
+    }
+    capitalized(&format!("{place}: {what}"))
 }
 
 /// A text with its first letter a capital.

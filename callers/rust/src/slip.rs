@@ -19,6 +19,7 @@
 //! # Ok::<(), lanecockle::Refusal>(())
 //! ```
 
+use crate::standing::{self, SheetRefusal};
 use crate::{ffi, part, value, Refusal};
 
 /// The most bytes that a slip has.
@@ -93,4 +94,36 @@ pub fn cents(slip: &[u8]) -> Result<u64, Refusal> {
 /// ```
 pub fn write(cents: u64, fields: &[&[u8]; 11], out: &mut [u8]) -> Result<usize, Refusal> {
     value(ffi::slip_write(cents, &ffi::Fields::of(fields), out))
+}
+
+/// Writes a slip as [`write()`] does, but each of the fields 4 to 9, 13 and 14 that is given empty is its standing text, as
+/// [`standing::text`] answers it of the two sheets. Refusals: 20, also where nothing is taken from a sheet; then those of
+/// [`write()`].
+///
+/// ```
+/// use lanecockle::{slip, standing::Sheet, Kind};
+///
+/// let mut fields: [&[u8]; 11] = [b""; 11];
+/// fields[10 - 4] = b"HR1210010051863000160";
+/// fields[11 - 4] = b"HR99";
+/// let mut out = [0; slip::MOST];
+/// let length = slip::write_standing(100, &fields, b"4=OPG HORVAT\n", b"13=WTER\n14=Voda\n", &mut out)?;
+/// assert_eq!(
+///     out[..length],
+///     *b"HRVHUB30\nEUR\n000000000000100\nOPG HORVAT\n\n\n\n\n\nHR1210010051863000160\nHR99\n\nWTER\nVoda\n"
+/// );
+///
+/// let refused = slip::write_standing(100, &fields, b"", b"13=WTER\n14=Voda!\n", &mut out).unwrap_err();
+/// assert_eq!((refused.refusal.kind, refused.sheet, refused.refusal.line), (Kind::Sheet, Some(Sheet::Association), 2));
+/// # Ok::<(), lanecockle::standing::SheetRefusal>(())
+/// ```
+pub fn write_standing(
+    cents: u64,
+    fields: &[&[u8]; 11],
+    farm: &[u8],
+    association: &[u8],
+    out: &mut [u8],
+) -> Result<usize, SheetRefusal> {
+    let written = ffi::slip_write_standing(cents, &ffi::Fields::of(fields), farm, association, out);
+    standing::accepted(written.told, written.sheet).map(|()| written.value)
 }

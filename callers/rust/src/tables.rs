@@ -1,12 +1,12 @@
 //! Refusals and fields, written by tools/tables, from callers/sentences.txt, callers/fields.txt and VERSION.
 
 use crate::fields::{Field, Layout};
-use crate::refusal::{Sentence, When};
+use crate::refusal::{Sentence, When, Words};
 
 /// The version of the crate, which is that of the library it was made with.
-pub const VERSION: &str = "1.1.0";
+pub const VERSION: &str = "1.2.0";
 
-/// What is wrong: one of the 17 numbers of the documents.
+/// What is wrong: one of the 19 numbers of the documents.
 ///
 /// ```
 /// use lanecockle::{oib, Kind};
@@ -52,15 +52,19 @@ pub enum Kind {
     Marks = 16,
     /// 17: line beyond 1,000,000.
     Beyond = 17,
+    /// 20: sheet line malformed.
+    Sheet = 20,
+    /// 28: a field number other than 4 to 9, 13 and 14.
+    Field = 28,
 }
 
 impl Kind {
     /// All kinds, by their numbers.
     ///
     /// ```
-    /// assert_eq!(lanecockle::Kind::ALL.len(), 17);
+    /// assert_eq!(lanecockle::Kind::ALL.len(), 19);
     /// ```
-    pub const ALL: [Kind; 17] = [
+    pub const ALL: [Kind; 19] = [
         Kind::Size,
         Kind::Ends,
         Kind::Byte,
@@ -78,6 +82,8 @@ impl Kind {
         Kind::Room,
         Kind::Marks,
         Kind::Beyond,
+        Kind::Sheet,
+        Kind::Field,
     ];
 }
 
@@ -106,10 +112,16 @@ pub(crate) const SENTENCES: &[Sentence] = &[
     Sentence { number: 15, when: When::Any, told: ["there is too little room; there must be room for {needed}.", "nema dovoljno mjesta; treba biti mjesta za {needed}."] },
     Sentence { number: 16, when: When::Any, told: ["more than four digits are unreadable.", "nečitljivo je više od četiri znamenke."] },
     Sentence { number: 17, when: When::Any, told: ["the file has more than 1,000,000 lines.", "datoteka ima više od 1.000.000 slogova."] },
+    Sentence { number: 20, when: When::Line, told: ["the line is not `number=text` as its field asks for, or is out of order.", "redak nije `broj=tekst` kako polje traži ili nije po redu."] },
+    Sentence { number: 20, when: When::Any, told: ["a line of a sheet is malformed.", "redak predloška nije ispravan."] },
+    Sentence { number: 28, when: When::Any, told: ["only the fields 4 to 9, 13 and 14 have standing text.", "stalni tekst imaju samo polja 4 do 9, 13 i 14."] },
 ];
 
-/// The words of a place: line, field and position, in English and Croatian.
-pub(crate) const WORDS: [[&str; 3]; 2] = [["line", "field", "position"], ["slog", "polje", "pozicija"]];
+/// The words of a place, in English and Croatian.
+pub(crate) const WORDS: [Words; 2] = [
+    Words { line: "line", field: "field", position: "position", sheet_line: "line", farm: "of the farm's sheet", association: "of the association's sheet" },
+    Words { line: "slog", field: "polje", position: "pozicija", sheet_line: "redak", farm: "predloška gospodarstva", association: "predloška udruge" },
+];
 
 /// Every field of the slip and of the four lines of a wage file, and those of the kuna slip that differ from the slip's.
 ///

@@ -1,5 +1,6 @@
 //! The sentences of refusals, in both languages, as ../told.txt has them, which has one of each in ../sentences.txt.
 
+use lanecockle::standing::{Sheet, SheetRefusal};
 use lanecockle::{Kind, Language, Refusal};
 use std::collections::HashSet;
 use std::error::Error;
@@ -12,14 +13,20 @@ fn rows(table: &'static str) -> impl Iterator<Item = Vec<&'static str>> {
     table.lines().filter(|line| !line.starts_with('#')).map(|line| line.split('|').collect())
 }
 
-/// The examples: each a refusal with its two sentences.
-fn examples() -> impl Iterator<Item = (Refusal, [&'static str; 2])> {
+/// The examples: each a refusal, with whose sheet it is where that is known, and its two sentences.
+fn all_examples() -> impl Iterator<Item = (SheetRefusal, [&'static str; 2])> {
     rows(TOLD).map(|row| {
         let numbers: Vec<usize> = row[0].split(' ').map(|number| number.parse().unwrap()).collect();
         let kind = Kind::from_number(numbers[0]).unwrap();
         let refusal = Refusal { kind, line: numbers[1], field: numbers[2], byte: numbers[3], needed: numbers[4] };
-        (refusal, [row[1], row[2]])
+        let sheet = numbers.get(5).map(|&number| [Sheet::Farm, Sheet::Association][number - 1]);
+        (SheetRefusal { refusal, sheet }, [row[1], row[2]])
     })
+}
+
+/// The examples without a sheet.
+fn examples() -> impl Iterator<Item = (Refusal, [&'static str; 2])> {
+    all_examples().filter(|(refused, _)| refused.sheet.is_none()).map(|(refused, told)| (refused.refusal, told))
 }
 
 /// A text without its first letter, which a sentence has as a capital where no place stands before it.
@@ -44,6 +51,18 @@ fn sentences_are_those_of_the_examples() {
         assert_eq!(refusal.in_croatian().to_string(), croatian);
         assert_eq!(refusal.sentence(Language::English), english);
         assert_eq!(refusal.sentence(Language::Croatian), croatian);
+    }
+}
+
+#[test]
+fn sentences_name_the_sheet() {
+    assert!(all_examples().count() > examples().count());
+    for (refused, [english, croatian]) in all_examples() {
+        assert_eq!(refused.to_string(), english);
+        assert_eq!(refused.in_croatian().to_string(), croatian);
+        assert_eq!(refused.sentence(Language::English), english);
+        assert_eq!(refused.sentence(Language::Croatian), croatian);
+        assert_eq!(Refusal::from(refused), refused.refusal);
     }
 }
 
@@ -91,8 +110,9 @@ fn a_sentence_is_its_place_and_what_is_wrong() {
 
 #[test]
 fn numbers_are_those_of_the_documents() {
-    for (number, kind) in (1..).zip(Kind::ALL) {
-        assert_eq!(kind.number(), number);
+    let numbers: Vec<usize> = (1..=17).chain([20, 28]).collect();
+    assert_eq!(Kind::ALL.map(Kind::number)[..], numbers);
+    for (number, kind) in numbers.into_iter().zip(Kind::ALL) {
         assert_eq!(Kind::from_number(number), Some(kind));
     }
 }
