@@ -264,22 +264,32 @@ fn write_sheets(
     association: &mut [u8],
     out: &mut [u8],
 ) {
-    let f = field(question, 3);
-    let a = field(question, 4);
-    put_lines(farm, f, 126);
-    put_lines(association, a, 126);
+    put_lines(farm, field(question, 3), 126);
+    put_lines(association, field(question, 4), 126);
+    write_lent(question, text, sizes, farm, association, out);
+}
+
+fn write_lent<'a>(
+    question: &[u8],
+    text: &'a [u8],
+    sizes: &[usize],
+    farm: &'a [u8],
+    association: &'a [u8],
+    out: &mut [u8],
+) {
     let cents = number_at(question, 2) as u64;
-    let v = desk_standing::lanecockle_slip_write_standing(
-        cents,
-        text,
-        sizes,
-        front(farm, f.len()),
-        front(association, a.len()),
-        out,
-    );
+    let f = front(farm, size_at(question, 3));
+    let a = front(association, size_at(question, 4));
+    let v = desk_standing::lanecockle_slip_write_standing(cents, text, sizes, f, a, out);
     tell(v.told);
     count(b" bytes ", v.value);
     count(b" sheet ", v.sheet);
     say(b"|");
     say(front(out, v.value));
+}
+
+// How many bytes a field of a question has.
+fn size_at(question: &[u8], k: usize) -> usize {
+    let f = field(question, k);
+    f.len()
 }

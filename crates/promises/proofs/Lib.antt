@@ -2,6 +2,7 @@
 pub mod Checks
 pub mod Laws
 pub mod Ledgers
+pub mod Standings
 pub mod Listings
 pub mod Numbers
 pub mod Refusals

@@ -26,10 +26,11 @@ use Rattle.boundary.proofs.Theorems.{number-in-table}
 use Rattle.desk_checks.specs.Made.{madeOf}
 use Rattle.desk_wet.specs.Listed.{listedOf}
 use Rattle.desk_slips.specs.Slips.{centsTold, writtenOf}
+use Rattle.desk_standing.specs.Standings.{standingTold, writtenTold}
 use Rattle.desk_ledger.specs.Ledgers.{ledgerTold}
 use Rattle.desk_record.specs.Record.{recordOf}
 use Rattle.desk_judge.specs.Wages.{endedOf}
-use Rattle.promises.specs.Calls.{EveryCheckDigits, EveryMakeDigit, EveryIban, EveryOib, EveryReference, EveryListIban, EveryListReference, EveryFilled, EverySlipRead, EverySlipCents, EverySlipWrite, EveryLedgerRead, EveryJudgeBegin, EveryJudgeStep, EveryJudgeLines, EveryJudgeEnd, EveryWageFile, EveryWriteLabel, EveryWriteOrder, EveryWriteGroup, EveryWriteClosing}
+use Rattle.promises.specs.Calls.{EveryCheckDigits, EveryMakeDigit, EveryIban, EveryOib, EveryReference, EveryListIban, EveryListReference, EveryFilled, EverySlipRead, EverySlipCents, EverySlipWrite, EveryStandingText, EverySlipWriteStanding, EveryLedgerRead, EveryJudgeBegin, EveryJudgeStep, EveryJudgeLines, EveryJudgeEnd, EveryWageFile, EveryWriteLabel, EveryWriteOrder, EveryWriteGroup, EveryWriteClosing}
 use Rattle.promises.specs.Refusals.{Known}
 
 -- ---------------------------------------------------------------------------
@@ -132,6 +133,14 @@ sized-known false x = refusal-known (Size none)
 
 pub slip-write-known : EverySlipWrite (λ cents text sizes out r after. Known (r .told))
 slip-write-known κs a z w call = rw (call .answers) (sized-known (lentWhole 11 (a .1 .1 .0 .now) (a .1 .0 .now)) _)
+
+pub standing-text-known : EveryStandingText (λ n farm association r. Known (r .told))
+unfolding standingTold
+standing-text-known κs a z w call = rw call (answer-known _)
+
+pub slip-write-standing-known : EverySlipWriteStanding (λ cents text sizes farm association out r after. Known (r .told))
+unfolding writtenTold
+slip-write-standing-known κs a z w call = rw (call .answers) (written-known _)
 
 pub judge-begin-known : EveryJudgeBegin (λ day r. Known (r .told))
 judge-begin-known κs a z w call = rw call (record-known _)

@@ -62,11 +62,11 @@ cents-told s e = rw e
 -- Written, and read back
 
 -- what was written: a slip at the front of the room that reads back as what was given, and all behind it as it was
-record Wrote (cents : ℕ) (fields : List (List ℕ)) (out : List ℕ) (n : ℕ) (after : List ℕ) : Type 0 where
-  back : ReadsBack cents fields n
-  within : n ≤ length out
-  front : take n after ≡ slipText cents fields
-  rest : drop n after ≡ drop n out
+pub record Wrote (cents : ℕ) (fields : List (List ℕ)) (out : List ℕ) (n : ℕ) (after : List ℕ) : Type 0 where
+  pub back : ReadsBack cents fields n
+  pub within : n ≤ length out
+  pub front : take n after ≡ slipText cents fields
+  pub rest : drop n after ≡ drop n out
 
 module _ (cents : ℕ) (fields : List (List ℕ)) (all : length fields ≡ 11) (out : List ℕ) (z : Valued) (after : List ℕ) (h : z .told .number ≡ 0) where
   bytes-wrote : (n : ℕ) → writeAnswer cents fields (length out) ≡ written.Bytes n → after ≡ slipText cents fields ++ drop (length (slipText cents fields)) out → Wrote cents fields out n after
@@ -80,7 +80,7 @@ module _ (cents : ℕ) (fields : List (List ℕ)) (all : length fields ≡ 11) (
         rest = rw (b .size, w) (drop-append-seam s (drop (length s) out));
       }
 
-  answer-wrote : (x : Written) → writeAnswer cents fields (length out) ≡ x → z ≡ writtenOf x → after ≡ leftBySlip x (slipText cents fields) out → Wrote cents fields out (z .value) after
+  pub answer-wrote : (x : Written) → writeAnswer cents fields (length out) ≡ x → z ≡ writtenOf x → after ≡ leftBySlip x (slipText cents fields) out → Wrote cents fields out (z .value) after
   unfolding writtenOf
   answer-wrote (written.Bytes n) q e w = rw e (bytes-wrote n q w)
   answer-wrote (written.Refused r) q e w = let k : refusalNumber r ≡ 0 = rw e at h in absurd (omega (arith, number-not-zero r))
@@ -99,17 +99,27 @@ wrote {cents} {sizes} {text} {out} {z} {after} call h = whole-wrote cents (eleve
 pub slip-written-in-front : EverySlipWrite (λ cents text sizes out r after. r .told .number ≡ 0 → (r .value ≤ length out) × (drop (r .value) after ≡ drop (r .value) out))
 slip-written-in-front κs a z w call h = let s = wrote call h in (s .within, s .rest)
 
+-- what was written is accepted, and reads back as its amount and its fields
+module _ {cents : ℕ} {fields : List (List ℕ)} {out : List ℕ} {n : ℕ} {after : List ℕ} (s : Wrote cents fields out n after) where
+  pub reads-accepted : EverySlipRead (λ slip q. slip ≡ take n after → q .number ≡ 0)
+  reads-accepted κs a z w call e = told-zero _ z call .1 (ap slipAnswer (e ∙ s .front) ∙ s .back .accepted)
+
+  pub reads-cents : EverySlipCents (λ slip q. slip ≡ take n after → q ≡ valued accepted cents)
+  reads-cents κs a z w call e =
+      call ∙ (ap (λ (x : List ℕ). centsTold (slipCents x)) (e ∙ s .front) ∙ (cents-told _ (s .back .accepted) ∙ ap (λ (k : ℕ). valued accepted k) (s .back .amount)))
+
+  pub reads-field : EverySlipField (λ slip k part. slip ≡ take n after → 4 ≤ k → k ≤ 14 → take (part .length) (drop (part .start) slip) ≡ getD fields (k - 4) [])
+  reads-field κs a z w call e l u =
+      let k = a .1 .0 in
+      slip-field-handed κs a z w call ∙ (ap (λ (x : List ℕ). fieldOf x k) (e ∙ s .front) ∙ s .back .texts k l u)
+
 -- is accepted
 pub slip-written-is-accepted : EverySlipWrite (λ cents text sizes out r after. r .told .number ≡ 0 → EverySlipRead (λ slip q. slip ≡ take (r .value) after → q .number ≡ 0))
-slip-written-is-accepted κs a z w call h κs′ a′ z′ w′ call′ e =
-    let s = wrote call h in
-    told-zero _ z′ call′ .1 (ap slipAnswer (e ∙ s .front) ∙ s .back .accepted)
+slip-written-is-accepted κs a z w call h = reads-accepted (wrote call h)
 
 -- and reads back as the same amount
 pub slip-written-same-cents : EverySlipWrite (λ cents text sizes out r after. r .told .number ≡ 0 → EverySlipCents (λ slip q. slip ≡ take (r .value) after → q ≡ valued accepted cents))
-slip-written-same-cents κs a z w call h κs′ a′ z′ w′ call′ e =
-    let s = wrote call h in
-    call′ ∙ (ap (λ (x : List ℕ). centsTold (slipCents x)) (e ∙ s .front) ∙ (cents-told _ (s .back .accepted) ∙ ap (λ (n : ℕ). valued accepted n) (s .back .amount)))
+slip-written-same-cents κs a z w call h = reads-cents (wrote call h)
 
 -- the values of f at k places from n on
 abbrev listed : (ℕ → List ℕ) → ℕ → ℕ → List (List ℕ)
@@ -122,7 +132,7 @@ listed-at f n (suc k) zero h = rw (add-zero n)
 listed-at f n (suc k) (suc i) h = let z : n + suc i ≡ n + 1 + i = omega arith in rw z (listed-at f (n + 1) k i (omega arith))
 
 -- a field that was given
-given-at : (sizes text : List ℕ) (k : ℕ) → k < 11 → getD (elevenOf sizes text) k [] ≡ getD (fieldsOf sizes text) k []
+pub given-at : (sizes text : List ℕ) (k : ℕ) → k < 11 → getD (elevenOf sizes text) k [] ≡ getD (fieldsOf sizes text) k []
 unfolding givenOf
 given-at sizes text k h = listed-at (λ (i : ℕ). getD (fieldsOf sizes text) i []) 0 11 k h ∙ rw (zero-add k)
 
@@ -131,9 +141,8 @@ pub slip-written-same-fields :
     EverySlipWrite (λ cents text sizes out r after. r .told .number ≡ 0 →
     EverySlipField (λ slip n part. slip ≡ take (r .value) after → 4 ≤ n → n ≤ 14 → take (part .length) (drop (part .start) slip) ≡ getD (fieldsOf sizes text) (n - 4) []))
 slip-written-same-fields κs a z w call h κs′ a′ z′ w′ call′ e l u =
-    let s = wrote call h in
     let n = a′ .1 .0 in
-    slip-field-handed κs′ a′ z′ w′ call′ ∙ (ap (λ (x : List ℕ). fieldOf x n) (e ∙ s .front) ∙ (s .back .texts n l u ∙ given-at (a .1 .1 .0 .now) (a .1 .0 .now) (n - 4) (omega arith)))
+    reads-field (wrote call h) κs′ a′ z′ w′ call′ e l u ∙ given-at (a .1 .1 .0 .now) (a .1 .0 .now) (n - 4) (omega arith)
 
 -- ---------------------------------------------------------------------------
 -- Read, and written again

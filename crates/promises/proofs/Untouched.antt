@@ -16,9 +16,11 @@ use Rattle.boundary.specs.declared.Told.{Told}
 use Rattle.boundary.specs.declared.Valued.{Valued}
 use Rattle.boundary.specs.Told.{refusal, valued, toldOf}
 use Rattle.desk_slips.specs.Slips.{writtenOf}
-use Rattle.standing_slip.specs.Filled.{elevenOf}
+use Rattle.standing_slip.specs.Filled.{elevenOf, standingSlip}
+use Rattle.desk_standing.specs.declared.StandingWritten.{StandingWritten}
+use Rattle.desk_standing.specs.Standings.{sheetNumber, writtenTold}
 use Rattle.desk_writers.specs.Writes.{WritesLine}
-use Rattle.promises.specs.Calls.{EveryFilled, EverySlipWrite, EveryWriteLabel, EveryWriteOrder, EveryWriteGroup, EveryWriteClosing}
+use Rattle.promises.specs.Calls.{EveryFilled, EverySlipWrite, EverySlipWriteStanding, EveryWriteLabel, EveryWriteOrder, EveryWriteGroup, EveryWriteClosing}
 
 -- ---------------------------------------------------------------------------
 -- Wet slips
@@ -57,6 +59,13 @@ slip-write-untouched κs a z w call =
     let out = a .1 .1 .1 .0 .now in
     whole-kept (lentWhole 11 (a .1 .1 .0 .now) (a .1 .0 .now)) (writeAnswer (a .0) fields (length out)) (slipText (a .0) fields) out (w .1 .1 .1 .0) z (call .answers) (call .leaves)
 
+pub slip-write-standing-untouched : EverySlipWriteStanding (λ cents text sizes farm association out r after. (r .told .number ≡ 0 → ⊥) → after ≡ out)
+unfolding writtenTold
+slip-write-standing-untouched κs a z w call h =
+    let out = a .1 .1 .1 .1 .1 .0 .now in
+    let s = standingSlip (a .0) (a .1 .1 .0 .now) (a .1 .0 .now) (a .1 .1 .1 .0 .now) (a .1 .1 .1 .1 .0 .now) (length out) in
+    slip-kept (s .written) _ out (w .1 .1 .1 .1 .1 .0) (writtenOf (s .written)) refl (call .leaves) (λ e. h (ap (λ (t : StandingWritten). t .told .number) (call .answers) ∙ e))
+
 -- ---------------------------------------------------------------------------
 -- Wage lines
 
@@ -86,6 +95,14 @@ not-whole fields sizes text h = ne-eqb (together (take fields sizes)) (length te
 
 pub slip-write-lent-whole : EverySlipWrite (λ cents text sizes out r after. (together (take 11 sizes) ≡ length text → ⊥) → (r ≡ valued (refusal (Size none)) 0) × (after ≡ out))
 slip-write-lent-whole κs a z w call h = let n = not-whole 11 (a .1 .1 .0 .now) (a .1 .0 .now) h in (rw n at (call .answers), rw n at (call .leaves))
+
+pub slip-write-standing-lent-whole :
+    EverySlipWriteStanding (λ cents text sizes farm association out r after. (together (take 11 sizes) ≡ length text → ⊥) →
+    (r .told ≡ refusal (Size none)) × ((r .value ≡ 0) × ((r .sheet ≡ 0) × (after ≡ out))))
+unfolding writtenTold standingSlip sheetNumber writtenOf
+slip-write-standing-lent-whole κs a z w call h =
+    let n = not-whole 11 (a .1 .1 .0 .now) (a .1 .0 .now) h in
+    (rw (call .answers, n), (rw (call .answers, n), (rw (call .answers, n), rw n at (call .leaves))))
 
 -- of a line whose fields are not lent whole
 line-not-whole :

@@ -9,12 +9,15 @@ use borrow.Fn.Kinds.{PK, RK, Out, Dens, resT, endedOf}
 use Rattle.text.specs.declared.Part.{Part}
 use Rattle.boundary.specs.declared.Told.{Told}
 use Rattle.boundary.specs.declared.Valued.{Valued}
+use Rattle.desk_standing.specs.declared.StandingTold.{StandingTold}
+use Rattle.desk_standing.specs.declared.StandingWritten.{StandingWritten}
 use Rattle.desk_ledger.specs.declared.Ledger.{Ledger}
 use Rattle.desk_record.specs.declared.Record.{Record}
 use Rattle.desk_judge.specs.declared.Ended.{Ended}
 use Rattle.desk_checks.proofs as checks
 use Rattle.desk_wet.proofs as wet
 use Rattle.desk_slips.proofs as slips
+use Rattle.desk_standing.proofs as standings
 use Rattle.desk_ledger.proofs as ledgers
 use Rattle.desk_judge.proofs as judge
 use Rattle.desk_writers.proofs as writers
@@ -86,6 +89,21 @@ abbrev pub EverySlipWrite : (ℕ → List ℕ → List ℕ → List ℕ → Valu
 EverySlipWrite C =
     Every _ slips.lanecockle_slip_write.Kinds.ps slips.lanecockle_slip_write.Kinds.r slips.lanecockle_slip_write.Reads.Post
     (λ κs a z w. C (a .0) (a .1 .0 .now) (a .1 .1 .0 .now) (a .1 .1 .1 .0 .now) z (w .1 .1 .1 .0))
+
+-- ---------------------------------------------------------------------------
+-- Standing text
+
+-- the field's number, the farm's sheet, the association's, answer
+abbrev pub EveryStandingText : (ℕ → List ℕ → List ℕ → StandingTold → Type 0) → Type 0
+EveryStandingText C =
+    Every _ standings.lanecockle_standing_text.Kinds.ps standings.lanecockle_standing_text.Kinds.r standings.lanecockle_standing_text.Reads.Post
+    (λ κs a z w. C (a .0) (a .1 .0 .now) (a .1 .1 .0 .now) z)
+
+-- cents, the fields' text and sizes, the farm's sheet, the association's, room, answer, what is left in the room
+abbrev pub EverySlipWriteStanding : (ℕ → List ℕ → List ℕ → List ℕ → List ℕ → List ℕ → StandingWritten → List ℕ → Type 0) → Type 0
+EverySlipWriteStanding C =
+    Every _ standings.lanecockle_slip_write_standing.Kinds.ps standings.lanecockle_slip_write_standing.Kinds.r standings.lanecockle_slip_write_standing.Reads.Post
+    (λ κs a z w. C (a .0) (a .1 .0 .now) (a .1 .1 .0 .now) (a .1 .1 .1 .0 .now) (a .1 .1 .1 .1 .0 .now) (a .1 .1 .1 .1 .1 .0 .now) z (w .1 .1 .1 .1 .1 .0))
 
 -- ---------------------------------------------------------------------------
 -- Slips of either currency

@@ -2,4 +2,5 @@
 pub mod Calls
 pub mod Listings
 pub mod Refusals
+pub mod Standings
 pub mod Wages

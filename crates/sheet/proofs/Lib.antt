@@ -2,4 +2,5 @@
 pub mod Laws
 pub mod Tables
 pub mod Theorems
+pub mod First
 pub mod One

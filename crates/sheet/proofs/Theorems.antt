@@ -54,7 +54,7 @@ line-read n t h = go (one-of n h)
     go (fourteen e) = rw e (refl, refl)
 
 -- its number's bytes are no line feed
-number-free : (n : ℕ) (t : List ℕ) → allOf Line t ≡ true → allOf Line (numberText n ++ (61 ∷ t)) ≡ true
+pub number-free : (n : ℕ) (t : List ℕ) → allOf Line t ≡ true → allOf Line (numberText n ++ (61 ∷ t)) ≡ true
 unfolding allOf
 number-free n t e = go (ltb n 10)
   where
@@ -71,7 +71,7 @@ each-free (more {l = l} a s v w) = one-line (number-free (l .number) (l .text) (
 -- A sheet that is written from right fields is right, and reads back as them
 
 -- a written line is right behind one of a lower number
-line-right : (last : ℕ) (l : FieldLine) → last < l .number → isStanding (l .number) ≡ true → fieldVerdict Euro (l .number) [] (l .text) ≡ 0 → isRight last (lineOf l) ≡ true
+pub line-right : (last : ℕ) (l : FieldLine) → last < l .number → isStanding (l .number) ≡ true → fieldVerdict Euro (l .number) [] (l .text) ≡ 0 → isRight last (lineOf l) ≡ true
 line-right last l a s v = let r = line-read (l .number) (l .text) s in rw (r .0, r .1, lt-ltb last (l .number) a, v)
 
 right-written : {last : ℕ} {ls : List FieldLine} (k : ℕ) → RightLines last ls → badFrom k last (map (λ (l : FieldLine). lineOf l) ls ++ ([] ∷ [])) ≡ 0

@@ -59,3 +59,13 @@ StandsAs Nothing s t = t ≡ []
 abbrev pub isHeld : Held → Bool
 isHeld (At p) = true
 isHeld Nothing = false
+
+-- line k is the first malformed one: those before it are right fields, and no right field behind them is it
+pub record FirstMalformed (s : List ℕ) (k : ℕ) : Type 0 where
+  pub before : List FieldLine
+  pub rest : List ℕ
+  pub right : RightLines 0 before
+  pub counted : k ≡ length before + 1
+  pub whole : s ≡ sheetText before ++ rest
+  pub there : rest ≡ [] → ⊥
+  pub wrong : (l : FieldLine) (t : List ℕ) → RightLines 0 (before ++ (l ∷ [])) → rest ≡ lineOf l ++ (10 ∷ t) → ⊥

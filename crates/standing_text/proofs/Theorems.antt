@@ -33,7 +33,7 @@ supplied-accepted Nothing (At p) = refl
 supplied-accepted Nothing Nothing = refl
 
 -- what is answered, by whether the number is one of document 02's and by what both sheets are judged to be
-abbrev asked : Bool → Answer → ℕ → List ℕ → List ℕ → Standing
+abbrev pub asked : Bool → Answer → ℕ → List ℕ → List ℕ → Standing
 asked t x n farm association =
     cond t (afterSheets (bothJudged farm association .sheet) x (suppliedBy (lineHeld n farm) (lineHeld n association)))
     (record { sheet = Neither; answer = Refused (Refusal.Field none); part = noPart })

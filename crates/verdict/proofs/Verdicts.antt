@@ -3,9 +3,11 @@
 use Rattle.refusal.proofs.Basics.{_≡_, refl, sym, _∙_, arith, ℕ, _-_, _≤_, _<_, ne-eqb, eqb-true, Bool, true, false, cond, _&&_, false≢true, eqb, leb, _↔_, both-true, and-second}
 use Rattle.refusal.specs.declared.Answer.{Answer}
 use Rattle.refusal.specs.declared.Answer.the-variants.{Accepted, Refused}
+use Rattle.refusal.specs.declared.Place.{Place}
 use Rattle.refusal.specs.declared.Refusal.{Refusal}
-use Rattle.refusal.specs.Refusal.{firstOf}
-use Rattle.verdict.specs.Verdict.{onlyIf, andThen, verdictByte, answerOf, Within}
+use Rattle.refusal.specs.declared.Refusal.the-variants.{Size, Ends, Byte, Length, Form, Check, Model, Parts, Digit, Misplaced, Date, Orders, Sum, Unfinished, Room, Marks, Beyond, Sheet, Field}
+use Rattle.refusal.specs.Refusal.{refusalPlace, neededOf, refusalOf, firstOf}
+use Rattle.verdict.specs.Verdict.{onlyIf, andThen, verdictNumber, verdictByte, answerOf, Within}
 
 -- ---------------------------------------------------------------------------
 -- What a chain answers, as its code goes
@@ -76,6 +78,34 @@ first-both (Refused r) b e = let z : _≡_ {A = ℕ} 0 1 = cc in absurd (omega a
 pub first-joined : (a b c : Answer) → firstOf a (firstOf b c) ≡ firstOf (firstOf a b) c
 first-joined Accepted b c = refl
 first-joined (Refused r) b c = refl
+
+-- ---------------------------------------------------------------------------
+-- What a refusal tells
+
+-- its place, and no needed number
+pub told-place : (v field byte : ℕ) (r : Refusal) → answerOf v field byte ≡ Refused r → (refusalPlace r ≡ record { line = 0; field = field; byte = byte }) × (neededOf r ≡ 0)
+told-place v field byte r e = go (eqb v 0) e
+  where
+    at : Place
+    at = record { line = 0; field = field; byte = byte }
+
+    Tells : Refusal → Type 0
+    Tells x = (refusalPlace x ≡ at) × (neededOf x ≡ 0)
+
+    chosen : (b : Bool) (x y : Refusal) → Tells x → Tells y → Tells (cond b x y)
+    chosen true x y f g = f
+    chosen false x y f g = g
+
+    every : (k : ℕ) → Tells (refusalOf k at 0)
+    every k =
+        chosen (eqb k 1) (Size at) _ (refl, refl) (chosen (eqb k 2) (Ends at) _ (refl, refl) (chosen (eqb k 3) (Byte at) _ (refl, refl) (chosen (eqb k 4) (Length at) _ (refl, refl)
+        (chosen (eqb k 5) (Form at) _ (refl, refl) (chosen (eqb k 6) (Check at) _ (refl, refl) (chosen (eqb k 7) (Model at) _ (refl, refl) (chosen (eqb k 8) (Parts at) _ (refl, refl)
+        (chosen (eqb k 9) (Digit at) _ (refl, refl) (chosen (eqb k 10) (Misplaced at) _ (refl, refl) (chosen (eqb k 11) (Date at) _ (refl, refl) (chosen (eqb k 12) (Orders at) _ (refl, refl)
+        (chosen (eqb k 13) (Sum at) _ (refl, refl) (chosen (eqb k 14) (Unfinished at) _ (refl, refl) (chosen (eqb k 15) (Room at 0) _ (refl, refl) (chosen (eqb k 16) (Marks at) _ (refl, refl) (chosen (eqb k 20) (Sheet at) _ (refl, refl) (chosen (eqb k 28) (Field at) (Beyond at) (refl, refl) (refl, refl))))))))))))))))))
+
+    go : (b : Bool) → cond b Accepted (Refused (refusalOf (verdictNumber v) at 0)) ≡ Refused r → Tells r
+    go true f = let z : _≡_ {A = ℕ} 0 1 = cc in absurd (omega arith)
+    go false f = let z : refusalOf (verdictNumber v) at 0 ≡ r = cc in rw (← z) (every (verdictNumber v))
 
 -- ---------------------------------------------------------------------------
 -- A 3's byte lies within the text

@@ -1,14 +1,14 @@
 -- Laws of a line's places: the byte that a verdict tells, answers joined, the places from one up to another, and the first that is refused.
 -- Assumes nothing.
 use Rattle.refusal.proofs.Basics.{_≡_, refl, sym, ap, _∙_, arith, ℕ, zero, suc, _+_, _-_, _≤_, _<_, _^_, length, drop, getD, length-take, List·getD-eq-default, leb-true, ltb-true, ltb-false, eqb-true, ne-eqb, List, [], _∷_, Bool, true, false, cond, eqb, leb, ltb, add-one}
-use Rattle.refusal.specs.Refusal.{none, refusalNumber, refusalPlace, neededOf, refusalOf, answerNumber, firstOf}
+use Rattle.refusal.specs.Refusal.{none, refusalNumber, refusalPlace, answerNumber, firstOf}
 use Rattle.verdict.specs.Verdict.{verdictByte, verdictNumber, answerOf, answerAt, Within}
 use Rattle.refusal.specs.declared.Answer.{Answer}
 use Rattle.refusal.specs.declared.Answer.the-variants.{Accepted, Refused}
 use Rattle.refusal.specs.declared.Place.{Place}
 use Rattle.refusal.specs.declared.Refusal.{Refusal}
-use Rattle.refusal.specs.declared.Refusal.the-variants.{Size, Ends, Byte, Length, Form, Check, Model, Parts, Digit, Misplaced, Date, Orders, Sum, Unfinished, Room, Marks, Beyond, Sheet, Field}
-use Rattle.verdict.proofs.Verdicts.{byte-within}
+use Rattle.refusal.specs.declared.Refusal.the-variants.{Size}
+use Rattle.verdict.proofs.Verdicts.{told-place, byte-within}
 use Rattle.wage_places.specs.declared.LineType.{LineType}
 use Rattle.wage_places.specs.declared.LineType.the-variants.{Label, Group, Order, Closing}
 use Rattle.wage_places.specs.declared.Spot.{Spot}
@@ -61,31 +61,6 @@ size-right n a e = go (eqb n 1002) refl e
     go : (b : Bool) → eqb n 1002 ≡ b → cond b a (Refused (Size none)) ≡ Accepted → (n ≡ 1002) × (a ≡ Accepted)
     go true z h = (eqb-true n 1002 z, h)
     go false z h = let z : _≡_ {A = ℕ} 0 1 = cc in absurd (omega arith)
-
--- what a refusal tells: its place, and no needed number
-pub told-place : (v field byte : ℕ) (r : Refusal) → answerOf v field byte ≡ Refused r → (refusalPlace r ≡ record { line = 0; field = field; byte = byte }) × (neededOf r ≡ 0)
-told-place v field byte r e = go (eqb v 0) e
-  where
-    at : Place
-    at = record { line = 0; field = field; byte = byte }
-
-    Tells : Refusal → Type 0
-    Tells x = (refusalPlace x ≡ at) × (neededOf x ≡ 0)
-
-    chosen : (b : Bool) (x y : Refusal) → Tells x → Tells y → Tells (cond b x y)
-    chosen true x y f g = f
-    chosen false x y f g = g
-
-    every : (k : ℕ) → Tells (refusalOf k at 0)
-    every k =
-        chosen (eqb k 1) (Size at) _ (refl, refl) (chosen (eqb k 2) (Ends at) _ (refl, refl) (chosen (eqb k 3) (Byte at) _ (refl, refl) (chosen (eqb k 4) (Length at) _ (refl, refl)
-        (chosen (eqb k 5) (Form at) _ (refl, refl) (chosen (eqb k 6) (Check at) _ (refl, refl) (chosen (eqb k 7) (Model at) _ (refl, refl) (chosen (eqb k 8) (Parts at) _ (refl, refl)
-        (chosen (eqb k 9) (Digit at) _ (refl, refl) (chosen (eqb k 10) (Misplaced at) _ (refl, refl) (chosen (eqb k 11) (Date at) _ (refl, refl) (chosen (eqb k 12) (Orders at) _ (refl, refl)
-        (chosen (eqb k 13) (Sum at) _ (refl, refl) (chosen (eqb k 14) (Unfinished at) _ (refl, refl) (chosen (eqb k 15) (Room at 0) _ (refl, refl) (chosen (eqb k 16) (Marks at) _ (refl, refl) (chosen (eqb k 20) (Sheet at) _ (refl, refl) (chosen (eqb k 28) (Field at) (Beyond at) (refl, refl) (refl, refl))))))))))))))))))
-
-    go : (b : Bool) → cond b Accepted (Refused (refusalOf (verdictNumber v) at 0)) ≡ Refused r → Tells r
-    go true f = let z : _≡_ {A = ℕ} 0 1 = cc in absurd (omega arith)
-    go false f = let z : refusalOf (verdictNumber v) at 0 ≡ r = cc in rw (← z) (every (verdictNumber v))
 
 -- the byte that a refusal tells: of a 3 one of the n bytes that were judged, of any other the first of them
 pub told-byte :

@@ -6,7 +6,7 @@ use Rattle.verdict.specs.Verdict.{verdictByte}
 use Rattle.refusal.specs.declared.Answer.the-variants.{Accepted, Refused}
 use Rattle.refusal.specs.declared.Place.{Place}
 use Rattle.refusal.specs.declared.Refusal.{Refusal}
-use Rattle.verdict.proofs.Verdicts.{answer-accepted, accepted-answer, first-both}
+use Rattle.verdict.proofs.Verdicts.{answer-accepted, accepted-answer, first-both, told-place}
 use Rattle.text.specs.Bytes.{bytesVerdict}
 use Rattle.classes.specs.declared.Class.the-variants.{Digits}
 use Rattle.wage_places.specs.declared.LineType.{LineType}
@@ -17,7 +17,7 @@ use Rattle.wage_places.proofs.Laws.{each, each-at}
 use Rattle.wage_places.proofs.Theorems.{placeAt, found-spot, place-size}
 use Rattle.wage_contents.specs.Contents.{amongVerdict}
 use Rattle.wage_fields.specs.Rules.{ruleVerdict, placeVerdict, placeAnswer, placesFrom, placesAnswer}
-use Rattle.wage_fields.proofs.Laws.{size-right, accept-both, rule-within, told-place, told-byte, Stops, stops}
+use Rattle.wage_fields.proofs.Laws.{size-right, accept-both, rule-within, told-byte, Stops, stops}
 
 -- ---------------------------------------------------------------------------
 -- Accepted exactly when

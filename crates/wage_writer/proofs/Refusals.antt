@@ -10,7 +10,7 @@ use Rattle.wage_places.specs.declared.LineType.{LineType}
 use Rattle.wage_places.specs.declared.Spot.{Spot}
 use Rattle.wage_places.specs.Places.{spots}
 use Rattle.wage_fields.specs.Rules.{placeVerdict, placeAnswer}
-use Rattle.wage_fields.proofs.Laws.{told-place}
+use Rattle.verdict.proofs.Verdicts.{told-place}
 use Rattle.wage_draft.specs.Draft.{Draft, placed, goingOn, drafted, wrongLength}
 use Rattle.wage_draft.proofs.Laws.{drafted-first, no-places}
 use Rattle.line_room.proofs.Laws.{noRoom}
