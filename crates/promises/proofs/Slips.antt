@@ -22,7 +22,7 @@ use Rattle.slip_writer.specs.declared.Written.the-variants as written
 use Rattle.slip_writer.specs.Writer.{slipText, writeAnswer, leftBySlip}
 use Rattle.slip_writer.specs.Claims.{ReadsBack, slipFields}
 use Rattle.slip_writer.proofs.Theorems.{bytes-counted, written-is-accepted, read-and-written-again, accepted-is-written}
-use Rattle.lent_fields.specs.Fields.{fieldsOf, lentWhole}
+use Rattle.lent_fields.specs.Fields.{fieldsOf, givenOf, lentWhole}
 use Rattle.lent_fields.proofs.Laws.{fields-joined, joined-lent-whole}
 use Rattle.boundary.specs.declared.Valued.{Valued}
 use Rattle.boundary.specs.Told.{accepted, refusal, valued}

@@ -57,16 +57,17 @@ asked-zero : (s : Standing) (z : StandingTold) → z ≡ standingTold s → (z .
 unfolding standingTold
 asked-zero s z e = told-zero (s .answer) (z .told) (ap (λ (t : StandingTold). t .told) e)
 
+-- no bytes have no part
+none-of-none : (l k : ℕ) (s : List ℕ) → length s ≡ 0 → take l (drop k s) ≡ []
+none-of-none l k s e = let h : length s ≤ k = omega arith in rw (drop-of-length-le s h) (take-nil l)
+
 -- the text that is told is the standing text
 bytes-told : (s : Standing) (farm association : List ℕ) → toldText (standingTold s) farm association ≡ standingBytes s farm association
 unfolding standingTold sheetNumber bytesFrom
 bytes-told s farm association = go (s .sheet)
   where
-    nothing : take (s .part .length) (drop (s .part .start) []) ≡ []
-    nothing = let h : length [] ≤ s .part .start = omega arith in rw (drop-of-length-le [] h) (take-nil (s .part .length))
-
     go : (x : Sheet) → take (s .part .length) (drop (s .part .start) (sheetOf (sheetNumber x) farm association)) ≡ bytesFrom x (s .part) farm association
-    go Neither = nothing
+    go Neither = none-of-none (s .part .length) (s .part .start) [] refl
     go Farm = refl
     go Association = refl
 
@@ -96,7 +97,7 @@ standing-text-is κs a z w call e =
     let n = a .0 in
     let farm = a .1 .0 .now in
     let association = a .1 .1 .0 .now in
-    let x = standing.asked-exactly n farm association .0 (asked-zero _ z call .0 e) in
+    let x = standing.asked-exactly n farm association .0 (asked-zero (standingOf n farm association) z call .0 e) in
     rw call (bytes-told (standingOf n farm association) farm association ∙ standing.standing-text-is n farm association (x .0) (x .1 .0) (x .1 .1))
 
 -- and the sheet that is told is the one that has the line
@@ -108,7 +109,7 @@ standing-sheet-is κs a z w call e =
     let n = a .0 in
     let farm = a .1 .0 .now in
     let association = a .1 .1 .0 .now in
-    let x = standing.asked-exactly n farm association .0 (asked-zero _ z call .0 e) in
+    let x = standing.asked-exactly n farm association .0 (asked-zero (standingOf n farm association) z call .0 e) in
     rw call (ap sheetNumber (standing.standing-sheet-is n farm association (x .0) (x .1 .0) (x .1 .1)) ∙ go (isAmong n (fieldsIn farm)) (isAmong n (fieldsIn association)))
   where
     go : (t u : Bool) → sheetNumber (cond t Farm (cond u Association Neither)) ≡ cond t 1 (cond u 2 0)
@@ -148,9 +149,12 @@ standing-text-written-back fs gs u v κs a z w call f g h =
 sheets-refused :
     (farm association : List ℕ) (r : Refusal) (t : Told) (k : ℕ) → bothJudged farm association .answer ≡ answer.Refused r → t ≡ refusal r → k ≡ sheetNumber (bothJudged farm association .sheet)
     → SheetRefused farm association t k
-unfolding sheetsJudged sheetNumber
+unfolding sheetsJudged sheetNumber toldOf
 sheets-refused farm association r t k e told sheet = go (eqb (badLine farm) 0) (eqb (badLine association) 0) refl refl e sheet
   where
+    same : (n : ℕ) → answer.Refused (Refusal.Sheet (record { line = n; field = 0; byte = 0 })) ≡ answer.Refused r → refusal r ≡ malformedLine n
+    same n h = ap (λ (x : Answer). toldOf x) (sym h)
+
     judged : Bool → Bool → Judged
     judged x y = cond x (cond y (record { sheet = Neither; answer = answer.Accepted }) (malformedIn Association (badLine association))) (malformedIn Farm (badLine farm))
 
@@ -162,9 +166,6 @@ sheets-refused farm association r t k e told sheet = go (eqb (badLine farm) 0) (
     go false y p q h s =
         let is : malformedIn Farm (badLine farm) .answer ≡ answer.Refused r = h in
         farms (badLine farm) (bad-is-first farm (eqb-false (badLine farm) 0 p)) (told ∙ same (badLine farm) is) s
-
-    same : (n : ℕ) → answer.Refused (Refusal.Sheet (record { line = n; field = 0; byte = 0 })) ≡ answer.Refused r → refusal r ≡ malformedLine n
-    same n h = ap (λ (x : Answer). toldOf x) (sym h)
 
 -- what is told of a refused question
 refused-told :
@@ -229,11 +230,11 @@ standing-text-writable κs a z w call h κs′ a′ z′ w′ call′ given =
     let is : getD (elevenOf sizes text) (n - 4) [] ≡ standingText n farm association =
       given-at sizes text (n - 4) (omega (arith, b .0, b .1)) ∙ (given ∙ (ap (λ (t : StandingTold). toldText t farm association) call ∙ bytes-told (standingOf n farm association) farm association)) in
     rw (call′ .answers)
-    (go (lentWhole 11 sizes text) (written-elsewhere (a′ .0) (elevenOf sizes text) (length (a′ .1 .1 .1 .0 .now)) n (b .0) (b .1) refl (λ m. rw is (standing.standing-obeys n m farm association h))))
+    (go (lentWhole 11 sizes text) _ (written-elsewhere (a′ .0) (elevenOf sizes text) (length (a′ .1 .1 .1 .0 .now)) n (b .0) (b .1) refl (λ m. rw is (standing.standing-obeys n m farm association h))))
   where
-    go : (t : Bool) {x : Valued} → (x .told .field ≡ a .0 → ⊥) → cond t x (valued (refusal (Size none)) 0) .told .field ≡ a .0 → ⊥
-    go true f e = f e
-    go false f e = omega (arith, e, standing-within (a .0) h .0)
+    go : (t : Bool) (x : Valued) → (x .told .field ≡ a .0 → ⊥) → cond t x (valued (refusal (Size none)) 0) .told .field ≡ a .0 → ⊥
+    go true x f e = f e
+    go false x f e = omega (arith, e, standing-within (a .0) h .0)
 
 -- ---------------------------------------------------------------------------
 -- A slip written with standing text
@@ -350,8 +351,8 @@ slip-write-standing-of-empty-sheets κs a z w call f g κs′ a′ z′ w′ cal
   where
     go :
         (t : Bool) (x : Written) (slip old : List ℕ)
-        → z ≡ writtenTold (cond t (record { sheet = Neither; written = x }) (record { sheet = Neither; written = written.Refused (Size none) }))
-        → w .1 .1 .1 .1 .1 .0 ≡ leftBySlip (cond t (record { sheet = Neither; written = x }) (record { sheet = Neither; written = written.Refused (Size none) }) .written) slip old
+        → z ≡ writtenTold (cond {A = StandingSlip} t (record { sheet = Neither; written = x }) (record { sheet = Neither; written = written.Refused (Size none) }))
+        → w .1 .1 .1 .1 .1 .0 ≡ leftBySlip (cond {A = StandingSlip} t (record { sheet = Neither; written = x }) (record { sheet = Neither; written = written.Refused (Size none) }) .written) slip old
         → z′ ≡ cond t (writtenOf x) (valued (refusal (Size none)) 0) → w′ .1 .1 .1 .0 ≡ cond t (leftBySlip x slip old) old
         → (z .told ≡ z′ .told) × ((z .value ≡ z′ .value) × (w .1 .1 .1 .1 .1 .0 ≡ w′ .1 .1 .1 .0))
     go true x slip old c l d m = (ap (λ (y : StandingWritten). y .told) c ∙ sym (ap (λ (v : Valued). v .told) d), (ap (λ (y : StandingWritten). y .value) c ∙ sym (ap (λ (v : Valued). v .value) d), l ∙ sym m))
