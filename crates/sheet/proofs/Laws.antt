@@ -9,8 +9,8 @@ use Rattle.text.proofs.Pieces.{first-piece, next-piece, last-piece}
 use Rattle.slip_fields.specs.declared.Currency.the-variants.{Euro}
 use Rattle.slip_fields.specs.Fields.{fieldVerdict}
 use Rattle.sheet.specs.declared.Lines.{Lines}
-use Rattle.sheet.specs.Sheet.{isStanding, oneDigit, twoDigit, lineNumber, textStart, lineText, isRight, rightNumber}
-use Rattle.sheet.specs.Table.{malformedAt, linesFrom, linesOf, noTexts}
+use Rattle.sheet.specs.Sheet.{isStanding, oneDigit, twoDigit, lineNumber, textStart, lineText, isRight}
+use Rattle.sheet.specs.Mirror.{rightNumber, malformedAt, linesFrom, linesOf, noTexts}
 use Rattle.sheet.specs.Claims.{numberText}
 
 -- ---------------------------------------------------------------------------

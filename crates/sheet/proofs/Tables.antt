@@ -6,8 +6,8 @@ use Rattle.text.specs.Lines.{linesAmong}
 use Rattle.sheet.specs.declared.Lines.{Lines}
 use Rattle.sheet.specs.declared.Held.{Held}
 use Rattle.sheet.specs.declared.Held.the-variants.{At, Nothing}
-use Rattle.sheet.specs.Sheet.{isStanding, lineNumber, textStart, isRight, rightNumber, badFrom, badLine, heldFrom, lineHeld}
-use Rattle.sheet.specs.Table.{malformedAt, linesFrom, linesOf, heldIn, noTexts}
+use Rattle.sheet.specs.Sheet.{isStanding, lineNumber, textStart, isRight, badFrom, badLine, heldFrom, lineHeld}
+use Rattle.sheet.specs.Mirror.{rightNumber, malformedAt, linesFrom, linesOf, heldIn, noTexts}
 use Rattle.sheet.proofs.Laws.{standing-within}
 
 -- ---------------------------------------------------------------------------

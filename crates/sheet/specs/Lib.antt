@@ -1,4 +1,4 @@
 -- The definitions of the crate `sheet`.
 pub mod Sheet
-pub mod Table
+pub mod Mirror
 pub mod Claims

@@ -39,10 +39,6 @@ lineText p = drop (textStart (lineNumber p)) p
 abbrev pub isRight : ℕ → List ℕ → Bool
 isRight last p = ltb last (lineNumber p) && eqb (fieldVerdict Euro (lineNumber p) [] (lineText p)) 0
 
--- its number, and 0 where it is malformed
-unfoldable pub rightNumber : ℕ → List ℕ → ℕ
-rightNumber last p = cond (isRight last p) (lineNumber p) 0
-
 -- ---------------------------------------------------------------------------
 -- The sheet: its lines are the pieces between line feeds, and nothing stands behind the last
 

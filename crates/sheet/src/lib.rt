@@ -5,8 +5,8 @@
 ghost use mathlib.Core.Path.{_≡_};
 ghost use mathlib.Core.List.{[], _∷_};
 ghost use lib.ListN.{take, drop};
-ghost use Rattle.sheet.specs.Sheet.{isStanding, textStart, oneDigit, twoDigit, lineNumber, rightNumber};
-ghost use Rattle.sheet.specs.Table.{malformedAt, linesOf, heldIn};
+ghost use Rattle.sheet.specs.Sheet.{isStanding, textStart, oneDigit, twoDigit, lineNumber};
+ghost use Rattle.sheet.specs.Mirror.{rightNumber, malformedAt, linesOf, heldIn};
 use classes::Class;
 use slip_fields::Currency;
 use text::Found;

@@ -10,7 +10,7 @@ use Rattle.slip_writer.specs.declared.Written.{Written}
 use Rattle.slip_writer.specs.Writer.{slipText, writeAnswer, leftBySlip}
 use Rattle.slip_writer.specs.Steps.{WritesSlip}
 use Rattle.sheet.specs.Sheet.{isStanding, badLine}
-use Rattle.sheet.specs.Table.{linesOf, heldIn}
+use Rattle.sheet.specs.Mirror.{linesOf, heldIn}
 use Rattle.sheet.specs.declared.Lines.{Lines}
 use Rattle.sheet.proofs.Tables.{held-told}
 use Rattle.standing_text.specs.declared.Sheet.{Sheet}

@@ -4,7 +4,7 @@ use Rattle.lent_fields.specs.Fields.{givenOf}
 use Rattle.slip_given.specs.Given.{eleven}
 use Rattle.sheet.specs.declared.Lines.{Lines}
 use Rattle.sheet.specs.Sheet.{isStanding}
-use Rattle.sheet.specs.Table.{heldIn}
+use Rattle.sheet.specs.Mirror.{heldIn}
 use Rattle.standing_text.specs.Standing.{suppliedBy, standingBytes}
 
 -- one field

@@ -7,7 +7,7 @@ use Rattle.refusal.specs.declared.Refusal.{Refusal}
 use Rattle.refusal.specs.Refusal.{none}
 use Rattle.refusal.proofs.Theorems.{refused-not-accepted}
 use Rattle.sheet.specs.Sheet.{isStanding, badLine, lineHeld}
-use Rattle.sheet.specs.Table.{linesOf, heldIn}
+use Rattle.sheet.specs.Mirror.{linesOf, heldIn}
 use Rattle.sheet.proofs.Tables.{bad-told, held-told}
 use Rattle.standing_text.specs.declared.Sheet.{Sheet}
 use Rattle.standing_text.specs.declared.Judged.{Judged}

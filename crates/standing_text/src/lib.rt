@@ -4,7 +4,7 @@
 // where the text stands.
 ghost use mathlib.Core.Path.{_≡_};
 ghost use lib.ListN.{take, drop};
-ghost use Rattle.sheet.specs.Table.{heldIn};
+ghost use Rattle.sheet.specs.Mirror.{heldIn};
 ghost use Rattle.standing_text.specs.Standing.{noPart, sheetsJudged, suppliedBy, afterSheets, standingOf, bytesOf, standingBytes, standingText};
 use refusal::Answer;
 use refusal::Place;

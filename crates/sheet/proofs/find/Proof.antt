@@ -1,6 +1,6 @@
 -- `sheet::find` meets its contract: each return is the definition's choice on the tests that led there. Assumes nothing.
 use Rattle.refusal.proofs.Basics.{needs, eq-eqb, ne-eqb, lt-ltb, le-ltb}
-use Rattle.sheet.specs.Table.{heldIn}
+use Rattle.sheet.specs.Mirror.{heldIn}
 use Rattle.sheet.proofs.find.Statement.{statement}
 use Rattle.sheet.proofs.find.Tie as tie
 

@@ -1,11 +1,15 @@
 -- What reading a sheet finds, as the code keeps it: by the number of a field where its text begins and how many bytes it has.
--- proofs/Table.antt leads from it to specs/Sheet.antt.
+-- proofs/Tables.antt leads from it to specs/Sheet.antt, and nobody has to read it to believe that.
 use Rattle.refusal.specs.Basics.{ℕ, _+_, _-_, cond, List, [], _∷_, eqb, ltb, length, getD, set, replicate}
 use Rattle.text.specs.Split.{split}
 use Rattle.sheet.specs.declared.Lines.{Lines}
 use Rattle.sheet.specs.declared.Held.{Held}
 use Rattle.sheet.specs.declared.Held.the-variants.{At, Nothing}
-use Rattle.sheet.specs.Sheet.{textStart, rightNumber}
+use Rattle.sheet.specs.Sheet.{lineNumber, textStart, isRight}
+
+-- the number of a line that is right behind one of the number `last`, and 0 where it is malformed
+unfoldable pub rightNumber : ℕ → List ℕ → ℕ
+rightNumber last p = cond (isRight last p) (lineNumber p) 0
 
 -- no text
 abbrev pub noTexts : List ℕ
