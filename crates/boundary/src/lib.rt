@@ -1,6 +1,7 @@
 // The boundary: answers as plain numbers, for callers in other languages.
 //
-// Number 0 is acceptance, the others are the refusals of documents 01 and 02. Nothing is lost: `numbers-tell-all` of the crate refusal.
+// Number 0 is acceptance, the others are the refusals of documents 01 and 02. Nothing is lost: `numbers-tell-all` of the
+// crate refusal.
 ghost use mathlib.Core.Path.{_≡_};
 ghost use Rattle.boundary.specs.Told.{accepted, refusal, toldOf, verdictTold, valued};
 use refusal::Answer;

@@ -191,13 +191,7 @@ fn write(verb: usize, question: &[u8]) {
     write_in(verb, question, &mut text, &mut sizes, &mut out);
 }
 
-fn write_in(
-    verb: usize,
-    question: &[u8],
-    text: &mut [u8],
-    sizes: &mut [usize],
-    out: &mut [u8],
-) {
+fn write_in(verb: usize, question: &[u8], text: &mut [u8], sizes: &mut [usize], out: &mut [u8]) {
     let room = number_at(question, 1);
     if out.len() < room {
         say(b"unknown");

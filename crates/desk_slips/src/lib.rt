@@ -58,8 +58,8 @@ pub extern "C" fn lanecockle_slip_cents(slip: &[u8]) -> Valued
 }
 
 // Writes a slip of an amount in cents and the fields 4 to 14, which stand one behind the other in `text`; the value is how
-// many bytes were written: a slip with standing text from two empty sheets. Sizes that are not the text's are refused with 1,
-// so that no field is shortened without a word.
+// many bytes were written. It is a slip with standing text from two empty sheets. Sizes that are not the text's are refused
+// with 1, so that no field is shortened without a word.
 #[no_mangle]
 pub extern "C" fn lanecockle_slip_write(
     cents: u64,

@@ -1,8 +1,8 @@
 -- A slip written with standing text, told across the boundary. Assumes nothing.
-use Rattle.refusal.proofs.Basics.{_≡_, ap, _∙_, ℕ, length, List}
+use Rattle.refusal.proofs.Basics.{_≡_, ap, _∙_, ℕ, List}
 use Rattle.slip_writer.specs.Writer.{slipText, leftBySlip}
 use Rattle.standing_slip.specs.declared.StandingSlip.{StandingSlip}
-use Rattle.standing_slip.specs.Filled.{standingSlip, filledFields, WritesStanding}
+use Rattle.standing_slip.specs.Filled.{filledFields, WritesStanding}
 use Rattle.desk_standing.specs.declared.StandingWritten.{StandingWritten}
 use Rattle.desk_standing.specs.Standings.{writtenTold, WritesStandingTold}
 

@@ -74,13 +74,18 @@ fn tell_slip(s: StandingSlip) -> StandingWritten
 
 // Where the standing text of a field stands.
 #[no_mangle]
-pub extern "C" fn lanecockle_standing_text(field: usize, farm: &[u8], association: &[u8]) -> StandingTold
+pub extern "C" fn lanecockle_standing_text(
+    field: usize,
+    farm: &[u8],
+    association: &[u8],
+) -> StandingTold
     ensures { λ r. ⌜ r ≡ standingTold (standingOf field (now (farm .entry)) (now (association .entry))) ⌝ }
 {
     tell(standing_text::ask(field, farm, association))
 }
 
-// Writes a slip as `lanecockle_slip_write` does, each of the fields 4 to 9, 13 and 14 that is given empty taken from the sheets.
+// Writes a slip as `lanecockle_slip_write` does, each of the fields 4 to 9, 13 and 14 that is given empty taken from the
+// sheets.
 #[no_mangle]
 pub extern "C" fn lanecockle_slip_write_standing<'a>(
     cents: u64,

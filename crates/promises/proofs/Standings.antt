@@ -1,14 +1,13 @@
 -- Document 02, W2, said of the calls of standing text: accepted exactly when, whose text it is, the refusals in their order, and a slip
 -- written with standing text.
 -- Assumes nothing.
-use Rattle.refusal.proofs.Basics.{_≡_, refl, sym, ap, _∙_, arith, ℕ, _+_, _-_, _^_, _≤_, _<_, length, take, drop, getD, take-nil, drop-of-length-le, List, [], map, Bool, true, false, cond, eqb, ltb, ne-eqb, eqb-true, eqb-false, _↔_}
-use Rattle.refusal.specs.Refusal.{none, refusalNumber, refusalPlace}
+use Rattle.refusal.proofs.Basics.{_≡_, refl, sym, ap, _∙_, arith, ℕ, _+_, _-_, _^_, _≤_, length, take, drop, getD, take-nil, drop-of-length-le, List, [], map, Bool, true, false, cond, eqb, ltb, eqb-true, eqb-false, _↔_}
+use Rattle.refusal.specs.Refusal.{none, refusalNumber}
 use Rattle.refusal.specs.declared.Answer.{Answer}
 use Rattle.refusal.specs.declared.Answer.the-variants as answer
 use Rattle.refusal.specs.declared.Refusal.{Refusal}
-use Rattle.refusal.specs.declared.Refusal.the-variants.{Size, Length, Room, Field}
+use Rattle.refusal.specs.declared.Refusal.the-variants.{Size, Length, Room}
 use Rattle.refusal.proofs.Theorems.{refused-not-accepted}
-use Rattle.text.specs.declared.Part.{Part}
 use Rattle.text.specs.Split.{joined}
 use Rattle.lent_fields.specs.Fields.{fieldsOf, givenOf, lentWhole}
 use Rattle.lent_fields.proofs.Laws.{fields-joined, joined-lent-whole}
@@ -16,31 +15,29 @@ use Rattle.slip_fields.specs.declared.Currency.the-variants.{Euro}
 use Rattle.slip_fields.specs.Fields.{fieldVerdict}
 use Rattle.slip_given.specs.Given.{givenAnswer}
 use Rattle.slip_given.proofs.Laws.{not-there}
-use Rattle.slip.specs.Slip.{slipAnswer}
-use Rattle.slip_handed.specs.Handed.{fieldOf, slipCents}
 use Rattle.slip_writer.specs.declared.Written.{Written}
 use Rattle.slip_writer.specs.declared.Written.the-variants as written
-use Rattle.slip_writer.specs.Writer.{slipText, afterFields, writtenInRoom, writeAnswer, leftBySlip}
+use Rattle.slip_writer.specs.Writer.{slipText, afterFields, writeAnswer, leftBySlip}
 use Rattle.sheet.specs.Sheet.{isStanding, badLine}
 use Rattle.sheet.specs.Claims.{FieldLine, RightLines, sheetText, fieldsIn, textAmong, isAmong}
 use Rattle.sheet.proofs.Laws.{standing-within}
-use Rattle.sheet.proofs.Theorems.{right-exactly, written-right, written-back}
+use Rattle.sheet.proofs.Theorems.{right-exactly, written-back}
 use Rattle.sheet.proofs.First.{bad-is-first}
 use Rattle.standing_text.specs.declared.Sheet.{Sheet}
 use Rattle.standing_text.specs.declared.Sheet.the-variants.{Neither, Farm, Association}
 use Rattle.standing_text.specs.declared.Judged.{Judged}
 use Rattle.standing_text.specs.declared.Standing.{Standing}
-use Rattle.standing_text.specs.Standing.{noPart, malformedIn, sheetsJudged, suppliedBy, afterSheets, bothJudged, standingOf, bytesFrom, standingBytes, standingText}
+use Rattle.standing_text.specs.Standing.{malformedIn, sheetsJudged, bothJudged, standingOf, bytesFrom, standingBytes, standingText}
 use Rattle.standing_text.proofs.Laws.{neither-bad}
 use Rattle.standing_text.proofs.Theorems as standing
 use Rattle.standing_slip.specs.declared.StandingSlip.{StandingSlip}
-use Rattle.standing_slip.specs.Filled.{elevenOf, filledField, filledFrom, filledFields, slipAfterSheets, standingSlip}
+use Rattle.standing_slip.specs.Filled.{elevenOf, filledField, filledFields, slipAfterSheets, standingSlip}
 use Rattle.standing_slip.proofs.Theorems.{filled-at, slip-of-empty-sheets, with-empty-sheets}
 use Rattle.boundary.specs.declared.Told.{Told}
 use Rattle.boundary.specs.declared.Valued.{Valued}
 use Rattle.boundary.specs.Told.{accepted, refusal, toldOf, valued}
 use Rattle.boundary.proofs.Theorems.{number-not-zero}
-use Rattle.desk_slips.specs.Slips.{centsTold, writtenOf, WritesSlipGiven}
+use Rattle.desk_slips.specs.Slips.{writtenOf}
 use Rattle.desk_standing.specs.declared.StandingTold.{StandingTold}
 use Rattle.desk_standing.specs.declared.StandingWritten.{StandingWritten}
 use Rattle.desk_standing.specs.Standings.{sheetNumber, standingTold, writtenTold, WritesStandingTold}
@@ -228,7 +225,7 @@ standing-text-writable κs a z w call h κs′ a′ z′ w′ call′ given =
     let sizes = a′ .1 .1 .0 .now in
     let b = standing-within n h in
     let is : getD (elevenOf sizes text) (n - 4) [] ≡ standingText n farm association =
-      given-at sizes text (n - 4) (omega (arith, b .0, b .1)) ∙ (given ∙ (ap (λ (t : StandingTold). toldText t farm association) call ∙ bytes-told (standingOf n farm association) farm association)) in
+    given-at sizes text (n - 4) (omega (arith, b .0, b .1)) ∙ (given ∙ (ap (λ (t : StandingTold). toldText t farm association) call ∙ bytes-told (standingOf n farm association) farm association)) in
     rw (call′ .answers)
     (go (lentWhole 11 sizes text) _ (written-elsewhere (a′ .0) (elevenOf sizes text) (length (a′ .1 .1 .1 .0 .now)) n (b .0) (b .1) refl (λ m. rw is (standing.standing-obeys n m farm association h))))
   where
@@ -324,8 +321,7 @@ slip-write-standing-is-slip-write κs a z w call h f g κs′ a′ z′ w′ cal
     let whole : lentWhole 11 (map length fields) (joined fields) ≡ true = joined-lent-whole fields in
     let again : elevenOf (map length fields) (joined fields) ≡ fields = rw (fields-joined fields) in
     let d : z′ ≡ writtenOf (writeAnswer (a .0) fields room) = rw (cents, text, sizes, out, whole, again) at (call′ .answers) in
-    let l : w′ .1 .1 .1 .0 ≡ leftBySlip (writeAnswer (a .0) fields room) (slipText (a .0) fields) (a .1 .1 .1 .1 .1 .0 .now) = rw (cents, text, sizes, out, whole, again) at (call′ .leaves) in
-    (
+    let l : w′ .1 .1 .1 .0 ≡ leftBySlip (writeAnswer (a .0) fields room) (slipText (a .0) fields) (a .1 .1 .1 .1 .1 .0 .now) = rw (cents, text, sizes, out, whole, again) at (call′ .leaves) in (
       ap (λ (t : StandingWritten). t .told) c ∙ sym (ap (λ (v : Valued). v .told) d),
       (
         ap (λ (t : StandingWritten). t .value) c ∙ sym (ap (λ (v : Valued). v .value) d),

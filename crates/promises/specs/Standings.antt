@@ -12,7 +12,8 @@ use Rattle.boundary.specs.declared.Told.{Told}
 use Rattle.boundary.specs.Told.{refusal}
 use Rattle.desk_standing.specs.declared.StandingTold.{StandingTold}
 
--- a right sheet: one that is written from fields, "numbers 4 to 9, 13 and 14 .. ascending, each at most once, each text obeying its field's rule in 01"
+-- a right sheet: one that is written from fields, "numbers 4 to 9, 13 and 14 .. ascending, each at most once, each text obeying its field's
+-- rule in 01"
 abbrev pub RightSheet : List ℕ → Type 0
 RightSheet s = (ls : List FieldLine) × ((RightLines 0 ls) × (s ≡ sheetText ls))
 

@@ -1,6 +1,6 @@
 -- "with the first such line": the line that a refused sheet tells is its first malformed one.
 -- Assumes nothing.
-use Rattle.refusal.proofs.Basics.{_≡_, refl, sym, ap, _∙_, arith, ℕ, _+_, _<_, length, getD, length-append, ne-eqb, eqb-true, List, [], _∷_, _++_, append-assoc, Bool, true, false, cond, not, eqb, ltb, false≢true, and-false, both-true, and-second}
+use Rattle.refusal.proofs.Basics.{_≡_, refl, sym, ap, _∙_, arith, ℕ, _+_, length, getD, length-append, ne-eqb, eqb-true, List, [], _∷_, _++_, append-assoc, Bool, true, false, cond, eqb, ltb, false≢true, and-false, both-true}
 use Rattle.classes.specs.Classes.{permits}
 use Rattle.classes.specs.declared.Class.the-variants.{Line}
 use Rattle.text.specs.Bytes.{allOf}
@@ -9,9 +9,8 @@ use Rattle.text.specs.Lines.{joinLines, linesAmong, lastPiece, EachLine, none a
 use Rattle.text.proofs.Pieces.{first-piece}
 use Rattle.text.proofs.Lines.{split-line, split-join}
 use Rattle.slip_fields.specs.declared.Currency.the-variants.{Euro}
-use Rattle.slip_fields.specs.Fields.{fieldVerdict}
 use Rattle.slip_fields.proofs.Theorems.{no-line-feed}
-use Rattle.sheet.specs.Sheet.{isStanding, lineNumber, isRight, badFrom, badLine}
+use Rattle.sheet.specs.Sheet.{lineNumber, isRight, badFrom, badLine}
 use Rattle.sheet.specs.Claims.{FieldLine, lineOf, sheetText, fieldOf, RightLines, none, more, FirstMalformed}
 use Rattle.sheet.proofs.Laws.{numbered}
 use Rattle.sheet.proofs.Tables.{right-above}

@@ -1,6 +1,6 @@
 -- Laws of one line of a sheet, and how the loop goes through a sheet line by line.
 -- Assumes nothing.
-use Rattle.refusal.proofs.Basics.{_≡_, refl, sym, ap, _∙_, arith, ℕ, zero, suc, _+_, _-_, _≤_, _<_, length, take, drop, getD, set, length-drop, length-set, length-append, ne-eqb, eq-eqb, eqb-true, eqb-false, le-leb, lt-leb, leb-true, lt-ltb, le-ltb, ltb-true, List, [], _∷_, _++_, Bool, true, false, cond, _&&_, _||_, eqb, leb, ltb, false≢true, length-take-le, left, entered, both-true, and-second, List·getD-eq-default, append-nil}
+use Rattle.refusal.proofs.Basics.{_≡_, refl, sym, ap, _∙_, arith, ℕ, _+_, _-_, _≤_, _<_, length, take, drop, set, length-drop, length-set, length-append, ne-eqb, eq-eqb, eqb-true, le-leb, leb-true, lt-ltb, le-ltb, List, [], _∷_, _++_, Bool, true, false, cond, _&&_, _||_, eqb, leb, ltb, false≢true, length-take-le, both-true}
 use Rattle.classes.specs.declared.Class.the-variants.{Line}
 use Rattle.text.specs.declared.Found.the-variants.{At, Nothing}
 use Rattle.text.specs.Bytes.{firstBad}
@@ -8,7 +8,6 @@ use Rattle.text.specs.Split.{split}
 use Rattle.text.proofs.Pieces.{first-piece, next-piece, last-piece}
 use Rattle.slip_fields.specs.declared.Currency.the-variants.{Euro}
 use Rattle.slip_fields.specs.Fields.{fieldVerdict}
-use Rattle.sheet.specs.declared.Lines.{Lines}
 use Rattle.sheet.specs.Sheet.{isStanding, oneDigit, twoDigit, lineNumber, textStart, lineText, isRight}
 use Rattle.sheet.specs.Mirror.{rightNumber, malformedAt, linesFrom, linesOf, noTexts}
 use Rattle.sheet.specs.Claims.{numberText}

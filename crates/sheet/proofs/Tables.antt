@@ -1,6 +1,6 @@
 -- What reading a sheet finds is what the definitions say: its first malformed line, and where the text of each field stands.
 -- Assumes nothing.
-use Rattle.refusal.proofs.Basics.{_≡_, refl, sym, ap, _∙_, arith, ℕ, zero, suc, _+_, _-_, _≤_, _<_, length, getD, set, replicate, length-set, getD-set-same, getD-set-other, ne-eqb, eq-eqb, eqb-true, eqb-false, le-ltb, ltb-true, List, [], _∷_, Bool, true, false, cond, _&&_, eqb, ltb, false≢true, both-true}
+use Rattle.refusal.proofs.Basics.{_≡_, refl, sym, ap, _∙_, arith, ℕ, zero, suc, _+_, _-_, _≤_, _<_, length, getD, set, replicate, length-set, getD-set-same, getD-set-other, ne-eqb, eqb-true, eqb-false, le-ltb, ltb-true, List, [], _∷_, Bool, true, false, cond, eqb, ltb, both-true}
 use Rattle.text.specs.Split.{split}
 use Rattle.text.specs.Lines.{linesAmong}
 use Rattle.sheet.specs.declared.Lines.{Lines}

@@ -1,7 +1,7 @@
 -- What is promised of a sheet: it is right exactly when it is written from right fields, a sheet that is written reads back as its
 -- fields, the text that is told stands in it, and each text obeys its field's rule.
 -- Assumes nothing.
-use Rattle.refusal.proofs.Basics.{_≡_, refl, sym, ap, _∙_, arith, ℕ, zero, suc, _+_, _-_, _≤_, _<_, length, take, drop, getD, length-append, length-drop, ne-eqb, eq-eqb, eqb-true, eqb-false, le-leb, lt-ltb, leb-true, List, [], _∷_, _++_, map, append-nil, append-assoc, Bool, true, false, cond, not, _&&_, _||_, eqb, leb, ltb, false≢true, both-true, and-second, _↔_, inl, inr, take-all, drop-append-add, drop-append-seam, take-append-seam, drop-append-le}
+use Rattle.refusal.proofs.Basics.{_≡_, refl, sym, ap, _∙_, arith, ℕ, _+_, _-_, _≤_, _<_, length, drop, length-append, length-drop, ne-eqb, eqb-true, le-leb, lt-ltb, leb-true, List, [], _∷_, _++_, map, append-nil, append-assoc, Bool, true, false, cond, _&&_, _||_, eqb, leb, ltb, false≢true, both-true, _↔_, inl, inr, drop-append-add, take-append-seam, drop-append-le}
 use Rattle.classes.specs.declared.Class.the-variants.{Line}
 use Rattle.text.specs.Bytes.{allOf}
 use Rattle.text.specs.Split.{split}
@@ -12,11 +12,10 @@ use Rattle.slip_fields.specs.declared.Currency.the-variants.{Euro}
 use Rattle.slip_fields.specs.Fields.{fieldVerdict}
 use Rattle.slip_fields.proofs.Theorems.{no-line-feed}
 use Rattle.slip_fields.proofs.Plain.{text-exactly, thirteenth-exactly}
-use Rattle.sheet.specs.declared.Held.{Held}
-use Rattle.sheet.specs.declared.Held.the-variants.{At, Nothing}
+use Rattle.sheet.specs.declared.Held.the-variants.{At}
 use Rattle.sheet.specs.Sheet.{isStanding, lineNumber, textStart, lineText, isRight, badFrom, badLine, heldFrom, lineHeld}
 use Rattle.sheet.specs.Claims.{FieldLine, numberText, lineOf, sheetText, RightLines, none, more, fieldOf, fieldsIn, textAmong, isAmong, StandsAs, isHeld}
-use Rattle.sheet.proofs.Laws.{Numbered, numbered, text-within}
+use Rattle.sheet.proofs.Laws.{numbered, text-within}
 use Rattle.sheet.proofs.Tables.{right-above, right-on, right-last}
 
 -- ---------------------------------------------------------------------------
@@ -172,8 +171,7 @@ module _ (n : ℕ) (above : 0 < n) where
       go true z ih =
           let e = eqb-true (lineNumber p) n z in
           let w : textStart n ≤ length p = rw e at (text-within p (λ (y : lineNumber p ≡ 0). omega (arith, y, e))) in
-          let rest : List ℕ = 10 ∷ joinLines ms in
-          (
+          let rest : List ℕ = 10 ∷ joinLines ms in (
             omega (arith, w, length-append front (p ++ rest), length-append p rest),
             rw (e, drop-append-add front (p ++ rest) (textStart n), drop-append-le (textStart n) p rest w, ← (length-drop (textStart n) p)) (take-append-seam (drop (textStart n) p) rest),
           )

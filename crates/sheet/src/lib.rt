@@ -3,8 +3,6 @@
 // Document 02, W2. A sheet is read once, line by line: it is right, and then it is known where the text of each field stands,
 // or its first malformed line is told. Each text is judged by the slip's own rule, `slip_fields::judge_field`.
 ghost use mathlib.Core.Path.{_≡_};
-ghost use mathlib.Core.List.{[], _∷_};
-ghost use lib.ListN.{take, drop};
 ghost use Rattle.sheet.specs.Sheet.{isStanding, textStart, oneDigit, twoDigit, lineNumber};
 ghost use Rattle.sheet.specs.Mirror.{rightNumber, malformedAt, linesOf, heldIn};
 use classes::Class;

@@ -1,20 +1,16 @@
 -- How the loops go through a slip piece by piece.
 -- Assumes nothing.
-use Rattle.refusal.proofs.Basics.{_≡_, refl, sym, ap, _∙_, arith, ℕ, suc, _+_, _-_, _≤_, _<_, length, take, drop, getD, length-drop, ne-eqb, eq-eqb, le-leb, lt-leb, List, [], _∷_, Bool, true, false, cond, not, eqb, leb, drop-drop, length-take-le, add-one, left, entered, and-first, and-second}
+use Rattle.refusal.proofs.Basics.{_≡_, refl, sym, ap, _∙_, arith, ℕ, _+_, _-_, _≤_, _<_, length, take, drop, getD, length-drop, ne-eqb, eq-eqb, le-leb, lt-leb, List, [], _∷_, true, false, eqb, leb, length-take-le, left, entered, and-first, and-second}
 use Rattle.refusal.specs.Refusal.{none, firstOf}
 use Rattle.verdict.specs.Verdict.{answerAt}
 use Rattle.refusal.specs.declared.Answer.{Answer}
 use Rattle.refusal.specs.declared.Answer.the-variants.{Accepted, Refused}
 use Rattle.refusal.specs.declared.Refusal.{Refusal}
 use Rattle.refusal.specs.declared.Refusal.the-variants.{Size, Ends}
-use Rattle.classes.specs.Classes.{permits}
-use Rattle.text.specs.Bytes.{later, firstBad, countOf}
-use Rattle.classes.specs.declared.Class.{Class}
+use Rattle.text.specs.Bytes.{firstBad, countOf}
 use Rattle.classes.specs.declared.Class.the-variants.{Line}
-use Rattle.text.specs.declared.Found.{Found}
 use Rattle.text.specs.declared.Found.the-variants.{At, Nothing}
 use Rattle.text.specs.Split.{split}
-use Rattle.text.proofs.Laws.{to-the-end}
 use Rattle.text.proofs.Pieces.{first-piece, next-piece, last-piece}
 use Rattle.slip_fields.specs.declared.Currency.{Currency}
 use Rattle.slip_fields.specs.Fields.{fieldVerdict}

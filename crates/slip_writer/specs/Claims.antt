@@ -1,5 +1,5 @@
 -- What is claimed of slips written and read (proofs/Theorems.antt): a slip's amount and fields, and what is read back.
-use Rattle.refusal.specs.Basics.{ℕ, _-_, _^_, _<_, _≤_, _≡_, true, List, [], _∷_, length, getD}
+use Rattle.refusal.specs.Basics.{ℕ, _-_, _^_, _<_, _≤_, _≡_, List, [], length, getD}
 use Rattle.refusal.specs.declared.Answer.the-variants.{Accepted}
 use Rattle.text.specs.Split.{split}
 use Rattle.text.specs.Digits.{digitsText}

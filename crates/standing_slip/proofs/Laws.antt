@@ -7,7 +7,6 @@ use Rattle.refusal.specs.declared.Refusal.the-variants.{Size}
 use Rattle.refusal.specs.Refusal.{none}
 use Rattle.lent_fields.specs.Fields.{givenOf, lentWhole}
 use Rattle.slip_writer.specs.declared.Written.{Written}
-use Rattle.slip_writer.specs.Writer.{slipText, writeAnswer, leftBySlip}
 use Rattle.slip_writer.specs.Steps.{WritesSlip}
 use Rattle.sheet.specs.Sheet.{isStanding, badLine}
 use Rattle.sheet.specs.Mirror.{linesOf, heldIn}
@@ -18,8 +17,7 @@ use Rattle.standing_text.specs.declared.Judged.{Judged}
 use Rattle.standing_text.specs.Standing.{suppliedBy, bothJudged, standingOf, bytesFrom, standingText, standingBytes}
 use Rattle.standing_text.proofs.Laws.{neither-bad}
 use Rattle.standing_text.proofs.Theorems.{standing-supplied}
-use Rattle.standing_slip.specs.declared.StandingSlip.{StandingSlip}
-use Rattle.standing_slip.specs.Filled.{elevenOf, filledField, filledFrom, filledFields, standingSlip, WritesStanding}
+use Rattle.standing_slip.specs.Filled.{filledField, filledFields, standingSlip, WritesStanding}
 use Rattle.standing_slip.specs.Steps.{fieldBy, fieldsBy}
 
 -- ---------------------------------------------------------------------------

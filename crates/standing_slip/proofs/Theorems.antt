@@ -1,7 +1,7 @@
 -- What is promised of a slip written with standing text: with two empty sheets it is the slip of the fields that are given; a field is
 -- the one that is given, or where that is empty the standing text; and no refusal of the writer is told of a field with standing text.
 -- Assumes nothing.
-use Rattle.refusal.proofs.Basics.{_≡_, refl, sym, ap, _∙_, arith, ℕ, zero, suc, _+_, _-_, _≤_, _<_, length, getD, ne-eqb, List, [], _∷_, Bool, true, false, cond, eqb, add-zero, add-one}
+use Rattle.refusal.proofs.Basics.{_≡_, refl, arith, ℕ, zero, suc, _+_, _<_, length, getD, ne-eqb, List, [], _∷_, Bool, true, false, cond, add-zero}
 use Rattle.refusal.specs.Refusal.{none}
 use Rattle.refusal.specs.declared.Refusal.the-variants.{Size}
 use Rattle.lent_fields.specs.Fields.{lentWhole}
@@ -11,7 +11,6 @@ use Rattle.sheet.specs.Sheet.{isStanding, badFrom, heldFrom}
 use Rattle.text.specs.Split.{split}
 use Rattle.standing_text.specs.declared.Sheet.{Sheet}
 use Rattle.standing_text.specs.Standing.{sheetsJudged, suppliedBy, standingOf, bytesFrom, standingText}
-use Rattle.standing_slip.specs.declared.StandingSlip.{StandingSlip}
 use Rattle.standing_slip.specs.Filled.{elevenOf, filledField, filledFrom, filledFields, standingSlip}
 
 -- ---------------------------------------------------------------------------

@@ -1,18 +1,16 @@
 -- What asking for a standing text answers, by what reading both sheets found.
 -- Assumes nothing.
 use Rattle.refusal.proofs.Basics.{_≡_, refl, sym, ap, _∙_, arith, ℕ, _≤_, _<_, length, drop, take, take-nil, drop-of-length-le, List, [], true, false, cond, eqb, eqb-true, Bool}
-use Rattle.refusal.specs.declared.Answer.{Answer}
 use Rattle.refusal.specs.declared.Answer.the-variants.{Accepted, Refused}
 use Rattle.refusal.specs.declared.Refusal.{Refusal}
 use Rattle.refusal.specs.Refusal.{none}
 use Rattle.refusal.proofs.Theorems.{refused-not-accepted}
-use Rattle.sheet.specs.Sheet.{isStanding, badLine, lineHeld}
+use Rattle.sheet.specs.Sheet.{isStanding, badLine}
 use Rattle.sheet.specs.Mirror.{linesOf, heldIn}
 use Rattle.sheet.proofs.Tables.{bad-told, held-told}
 use Rattle.standing_text.specs.declared.Sheet.{Sheet}
 use Rattle.standing_text.specs.declared.Judged.{Judged}
-use Rattle.standing_text.specs.declared.Standing.{Standing}
-use Rattle.standing_text.specs.Standing.{noPart, malformedIn, sheetsJudged, suppliedBy, afterSheets, bothJudged, standingOf}
+use Rattle.standing_text.specs.Standing.{noPart, malformedIn, sheetsJudged, suppliedBy, bothJudged, standingOf}
 
 -- ---------------------------------------------------------------------------
 -- Both sheets

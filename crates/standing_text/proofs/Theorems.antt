@@ -1,12 +1,11 @@
 -- What is promised of standing text: when it is accepted, whose text it is, where that stands, and that the slip's rule accepts it.
 -- Assumes nothing.
-use Rattle.refusal.proofs.Basics.{_≡_, refl, sym, ap, _∙_, ℕ, _+_, _≤_, arith, length, List, [], Bool, true, false, cond, eqb, _↔_, leb-true, eqb-true, false≢true}
+use Rattle.refusal.proofs.Basics.{_≡_, refl, sym, _∙_, ℕ, _+_, _≤_, arith, length, List, [], Bool, true, false, cond, _↔_, false≢true}
 use Rattle.refusal.specs.Refusal.{none}
 use Rattle.refusal.specs.declared.Answer.{Answer}
 use Rattle.refusal.specs.declared.Answer.the-variants.{Accepted, Refused}
 use Rattle.refusal.specs.declared.Refusal.{Refusal}
 use Rattle.refusal.proofs.Theorems.{refused-not-accepted}
-use Rattle.text.specs.declared.Part.{Part}
 use Rattle.slip_fields.specs.declared.Currency.the-variants.{Euro}
 use Rattle.slip_fields.specs.Fields.{fieldVerdict}
 use Rattle.slip_fields.proofs.Theorems.{before-matters-to-12-alone}

@@ -3,9 +3,8 @@
 // Document 02, W2. Both sheets are judged whole, the farm's first, whatever is asked for; the answer is the part of that sheet
 // where the text stands.
 ghost use mathlib.Core.Path.{_≡_};
-ghost use lib.ListN.{take, drop};
 ghost use Rattle.sheet.specs.Mirror.{heldIn};
-ghost use Rattle.standing_text.specs.Standing.{noPart, sheetsJudged, suppliedBy, afterSheets, standingOf, bytesOf, standingBytes, standingText};
+ghost use Rattle.standing_text.specs.Standing.{sheetsJudged, suppliedBy, standingOf, bytesOf, standingBytes, standingText};
 use refusal::Answer;
 use refusal::Place;
 use refusal::Refusal;
@@ -87,7 +86,13 @@ pub fn supply(n: usize, farm: Lines, association: Lines) -> Standing
         Held::At(p) => supplied(Sheet::Farm, p),
         Held::Nothing => match sheet::find(association, n) {
             Held::At(p) => supplied(Sheet::Association, p),
-            Held::Nothing => supplied(Sheet::Neither, Part { start: 0, length: 0 }),
+            Held::Nothing => supplied(
+                Sheet::Neither,
+                Part {
+                    start: 0,
+                    length: 0,
+                },
+            ),
         },
     }
 }

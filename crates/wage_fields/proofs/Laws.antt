@@ -2,7 +2,7 @@
 -- Assumes nothing.
 use Rattle.refusal.proofs.Basics.{_≡_, refl, sym, ap, _∙_, arith, ℕ, zero, suc, _+_, _-_, _≤_, _<_, _^_, length, drop, getD, length-take, List·getD-eq-default, leb-true, ltb-true, ltb-false, eqb-true, ne-eqb, List, [], _∷_, Bool, true, false, cond, eqb, leb, ltb, add-one}
 use Rattle.refusal.specs.Refusal.{none, refusalNumber, refusalPlace, answerNumber, firstOf}
-use Rattle.verdict.specs.Verdict.{verdictByte, verdictNumber, answerOf, answerAt, Within}
+use Rattle.verdict.specs.Verdict.{verdictByte, answerAt, Within}
 use Rattle.refusal.specs.declared.Answer.{Answer}
 use Rattle.refusal.specs.declared.Answer.the-variants.{Accepted, Refused}
 use Rattle.refusal.specs.declared.Place.{Place}

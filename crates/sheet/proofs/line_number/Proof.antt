@@ -1,5 +1,5 @@
 -- `sheet::line_number` meets its contract: each return is the definition's choice on the tests that led there. Assumes nothing.
-use Rattle.refusal.proofs.Basics.{_≡_, arith, needs, _≤_, length, eq-eqb, ne-eqb, List·getD-eq-default}
+use Rattle.refusal.proofs.Basics.{arith, needs, _≤_, length, eq-eqb, ne-eqb, List·getD-eq-default}
 use Rattle.sheet.specs.Sheet.{lineNumber}
 use Rattle.sheet.proofs.line_number.Statement.{statement}
 use Rattle.sheet.proofs.line_number.Tie as tie

@@ -1,5 +1,5 @@
 -- `sheet::right_number` meets its contract: its number is above the one before it, and its text obeys. Assumes nothing.
-use Rattle.refusal.proofs.Basics.{_≡_, sym, _∙_, ap, arith, needs, ℕ, _<_, _≤_, length, drop, List, []}
+use Rattle.refusal.proofs.Basics.{_≡_, sym, _∙_, arith, needs, _≤_, length, []}
 use Rattle.text.proofs.Laws.{to-the-end}
 use Rattle.slip_fields.specs.declared.Currency.the-variants.{Euro}
 use Rattle.slip_fields.specs.Fields.{fieldVerdict}

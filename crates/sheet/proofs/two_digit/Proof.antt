@@ -1,5 +1,5 @@
 -- `sheet::two_digit` meets its contract: its tests are the definition's. Assumes nothing.
-use Rattle.refusal.proofs.Basics.{eq-eqb, ne-eqb}
+use Rattle.refusal.proofs.Basics.{ne-eqb}
 use Rattle.sheet.proofs.two_digit.Statement.{statement}
 use Rattle.sheet.proofs.two_digit.Tie as tie
 

@@ -1,5 +1,5 @@
 -- `standing_slip::field` meets its contract: as it is given, or what the sheets supply. Assumes nothing.
-use Rattle.refusal.proofs.Basics.{_≡_, sym, ap, _∙_, needs, ℕ, length, List, not-true, not-false}
+use Rattle.refusal.proofs.Basics.{sym, ap, _∙_, needs, length, not-true, not-false}
 use Rattle.standing_slip.proofs.Laws.{field-given, field-alone, field-supplied}
 use Rattle.standing_slip.proofs.field.Statement.{statement}
 use Rattle.standing_slip.proofs.field.Tie as tie

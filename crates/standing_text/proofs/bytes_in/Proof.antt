@@ -1,5 +1,5 @@
 -- `standing_text::bytes_in` meets its contract: the arm says which sheet it is. Assumes nothing.
-use Rattle.refusal.proofs.Basics.{_∙_, needs}
+use Rattle.refusal.proofs.Basics.{needs}
 use Rattle.standing_text.specs.Standing.{bytesFrom}
 use Rattle.standing_text.proofs.bytes_in.Statement.{statement}
 use Rattle.standing_text.proofs.bytes_in.Tie as tie

@@ -1,5 +1,5 @@
 -- `standing_text::judge_sheets` meets its contract: each return is the definition's choice on the tests that led there. Assumes nothing.
-use Rattle.refusal.proofs.Basics.{_∙_, needs, ne-eqb}
+use Rattle.refusal.proofs.Basics.{needs, ne-eqb}
 use Rattle.standing_text.specs.Standing.{sheetsJudged}
 use Rattle.standing_text.proofs.judge_sheets.Statement.{statement}
 use Rattle.standing_text.proofs.judge_sheets.Tie as tie
