@@ -1,7 +1,7 @@
 // One sheet of standing text: lines `number=text`, each ended by a line feed.
 //
-// Document 02, W2. A sheet is read once, line by line: it is right, and then it is known where the text of each field stands,
-// or its first malformed line is told. Each text is judged by the slip's own rule, `slip_fields::judge_field`.
+// Document 02, W2. A sheet is read once, line by line: it is right, and then it is known where the text of each field
+// stands, or its first malformed line is told. Each text is judged by the slip's own rule, `slip_fields::judge_field`.
 ghost use mathlib.Core.Path.{_≡_};
 ghost use Rattle.sheet.specs.Sheet.{isStanding, textStart, oneDigit, twoDigit, lineNumber};
 ghost use Rattle.sheet.specs.Mirror.{rightNumber, malformedAt, linesOf, heldIn};
@@ -10,8 +10,8 @@ use slip_fields::Currency;
 use text::Found;
 use text::Part;
 
-// What reading a sheet finds: its first malformed line, or 0; and by the number of a field where its text begins, 0 where the
-// sheet has no such line, and how many bytes it has.
+// What reading a sheet finds: its first malformed line, or 0; and by the number of a field where its text begins, 0 where
+// the sheet has no such line, and how many bytes it has.
 pub struct Lines {
     pub bad: usize,
     pub starts: [usize; 15],

@@ -73,8 +73,8 @@ fn write_filled<'a>(
     )
 }
 
-// Writes a slip of an amount in cents and the fields 4 to 14, which stand one behind the other in `text`, at the front of `out`.
-// Refusals: 1 where the sizes are not the text's; 20 of the sheets; then the writer's.
+// Writes a slip of an amount in cents and the fields 4 to 14, which stand one behind the other in `text`, at the front of
+// `out`. Refusals: 1 where the sizes are not the text's; 20 of the sheets; then the writer's.
 pub fn write<'a>(
     cents: u64,
     text: &'a [u8],

@@ -1,7 +1,7 @@
 // Standing text for slips: the text of a field from the farm's sheet, or else from the association's.
 //
-// Document 02, W2. Both sheets are judged whole, the farm's first, whatever is asked for; the answer is the part of that sheet
-// where the text stands.
+// Document 02, W2. Both sheets are judged whole, the farm's first, whatever is asked for; the answer is the part of that
+// sheet where the text stands.
 ghost use mathlib.Core.Path.{_≡_};
 ghost use Rattle.sheet.specs.Mirror.{heldIn};
 ghost use Rattle.standing_text.specs.Standing.{sheetsJudged, suppliedBy, standingOf, bytesOf, standingBytes, standingText};
@@ -25,8 +25,8 @@ pub struct Judged {
     pub answer: Answer,
 }
 
-// The standing text of a field: the sheet that supplied it and where it stands there; or a refusal, and for 20 the sheet whose
-// line it tells.
+// The standing text of a field: the sheet that supplied it and where it stands there; or a refusal, and for 20 the sheet
+// whose line it tells.
 pub struct Standing {
     pub sheet: Sheet,
     pub answer: Answer,
