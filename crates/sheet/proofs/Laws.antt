@@ -15,21 +15,33 @@ use Rattle.sheet.specs.Claims.{numberText}
 -- ---------------------------------------------------------------------------
 -- The number of a line
 
--- a field with standing text is 4 to 9, 13 or 14
-pub standing-within : (n : ℕ) → isStanding n ≡ true → (4 ≤ n) × (n ≤ 14)
+-- 4 to 9, 13 or 14
+pub data OneOf (n : ℕ) : Type 0 where
+  low : 4 ≤ n → n ≤ 9 → OneOf n
+  thirteen : n ≡ 13 → OneOf n
+  fourteen : n ≡ 14 → OneOf n
+
+pub one-of : (n : ℕ) → isStanding n ≡ true → OneOf n
 unfolding isStanding
-standing-within n e = go (leb 4 n) (leb n 9) (eqb n 13) (eqb n 14) refl refl refl refl e
+one-of n e = go (leb 4 n) (leb n 9) (eqb n 13) (eqb n 14) refl refl refl refl e
   where
-    go :
-        (a b c d : Bool) → leb 4 n ≡ a → leb n 9 ≡ b → eqb n 13 ≡ c → eqb n 14 ≡ d → ((a && b) || (c || d)) ≡ true
-        → (4 ≤ n) × (n ≤ 14)
-    go true true c d p q r t h = let x = leb-true 4 n p in let y = leb-true n 9 q in (omega arith, omega arith)
-    go true false true d p q r t h = let x = eqb-true n 13 r in (omega arith, omega arith)
-    go true false false true p q r t h = let x = eqb-true n 14 t in (omega arith, omega arith)
+    go : (a b c d : Bool) → leb 4 n ≡ a → leb n 9 ≡ b → eqb n 13 ≡ c → eqb n 14 ≡ d → ((a && b) || (c || d)) ≡ true → OneOf n
+    go true true c d p q r t h = low (leb-true 4 n p) (leb-true n 9 q)
+    go true false true d p q r t h = thirteen (eqb-true n 13 r)
+    go true false false true p q r t h = fourteen (eqb-true n 14 t)
     go true false false false p q r t h = absurd (false≢true h)
-    go false b true d p q r t h = let x = eqb-true n 13 r in (omega arith, omega arith)
-    go false b false true p q r t h = let x = eqb-true n 14 t in (omega arith, omega arith)
+    go false b true d p q r t h = thirteen (eqb-true n 13 r)
+    go false b false true p q r t h = fourteen (eqb-true n 14 t)
     go false b false false p q r t h = absurd (false≢true h)
+
+-- so it is small
+pub standing-within : (n : ℕ) → isStanding n ≡ true → (4 ≤ n) × (n ≤ 14)
+standing-within n h = go (one-of n h)
+  where
+    go : OneOf n → (4 ≤ n) × (n ≤ 14)
+    go (low a b) = (a, omega arith)
+    go (thirteen e) = (omega arith, omega arith)
+    go (fourteen e) = (omega arith, omega arith)
 
 -- a line that has a number: it begins with that number and `=`
 pub record Numbered (p : List ℕ) : Type 0 where

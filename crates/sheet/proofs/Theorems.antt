@@ -1,7 +1,7 @@
 -- What is promised of a sheet: it is right exactly when it is written from right fields, a sheet that is written reads back as its
 -- fields, the text that is told stands in it, and each text obeys its field's rule.
 -- Assumes nothing.
-use Rattle.refusal.proofs.Basics.{_≡_, refl, sym, ap, _∙_, arith, ℕ, _+_, _-_, _≤_, _<_, length, drop, length-append, length-drop, ne-eqb, eqb-true, le-leb, lt-ltb, leb-true, List, [], _∷_, _++_, map, append-nil, append-assoc, Bool, true, false, cond, _&&_, _||_, eqb, leb, ltb, false≢true, both-true, _↔_, inl, inr, drop-append-add, take-append-seam, drop-append-le}
+use Rattle.refusal.proofs.Basics.{_≡_, refl, sym, ap, _∙_, arith, ℕ, _+_, _-_, _≤_, _<_, length, drop, length-append, length-drop, ne-eqb, eqb-true, le-leb, lt-ltb, List, [], _∷_, _++_, map, append-nil, append-assoc, Bool, true, false, cond, eqb, ltb, both-true, _↔_, inl, inr, drop-append-add, take-append-seam, drop-append-le}
 use Rattle.classes.specs.declared.Class.the-variants.{Line}
 use Rattle.text.specs.Bytes.{allOf}
 use Rattle.text.specs.Split.{split}
@@ -15,30 +15,11 @@ use Rattle.slip_fields.proofs.Plain.{text-exactly, thirteenth-exactly}
 use Rattle.sheet.specs.declared.Held.the-variants.{At}
 use Rattle.sheet.specs.Sheet.{isStanding, lineNumber, textStart, lineText, isRight, badFrom, badLine, heldFrom, lineHeld}
 use Rattle.sheet.specs.Claims.{FieldLine, numberText, lineOf, sheetText, RightLines, none, more, fieldOf, fieldsIn, textAmong, isAmong, StandsAs, isHeld}
-use Rattle.sheet.proofs.Laws.{numbered, text-within}
+use Rattle.sheet.proofs.Laws.{OneOf, low, thirteen, fourteen, one-of, numbered, text-within}
 use Rattle.sheet.proofs.Tables.{right-above, right-on, right-last}
 
 -- ---------------------------------------------------------------------------
 -- A line that is written, read
-
--- 4 to 9, 13 or 14
-data OneOf (n : ℕ) : Type 0 where
-  low : 4 ≤ n → n ≤ 9 → OneOf n
-  thirteen : n ≡ 13 → OneOf n
-  fourteen : n ≡ 14 → OneOf n
-
-one-of : (n : ℕ) → isStanding n ≡ true → OneOf n
-unfolding isStanding
-one-of n e = go (leb 4 n) (leb n 9) (eqb n 13) (eqb n 14) refl refl refl refl e
-  where
-    go : (a b c d : Bool) → leb 4 n ≡ a → leb n 9 ≡ b → eqb n 13 ≡ c → eqb n 14 ≡ d → ((a && b) || (c || d)) ≡ true → OneOf n
-    go true true c d p q r t h = low (leb-true 4 n p) (leb-true n 9 q)
-    go true false true d p q r t h = thirteen (eqb-true n 13 r)
-    go true false false true p q r t h = fourteen (eqb-true n 14 t)
-    go true false false false p q r t h = absurd (false≢true h)
-    go false b true d p q r t h = thirteen (eqb-true n 13 r)
-    go false b false true p q r t h = fourteen (eqb-true n 14 t)
-    go false b false false p q r t h = absurd (false≢true h)
 
 -- a written line has its number and its text
 pub line-read : (n : ℕ) (t : List ℕ) → isStanding n ≡ true → (lineNumber (numberText n ++ (61 ∷ t)) ≡ n) × (drop (textStart n) (numberText n ++ (61 ∷ t)) ≡ t)

@@ -19,7 +19,7 @@ use Rattle.slip_fields.proofs.Accepted.{sized-exactly}
 use Rattle.slip_fields.proofs.Theorems.{first-is-hrvhub30, hrvhub30-accepted, second-is-currency, currency-accepted, third-is-digits, digits-accepted}
 
 -- a text of no byte
-no-byte : (s : List ℕ) → length s ≡ 0 → s ≡ []
+pub no-byte : (s : List ℕ) → length s ≡ 0 → s ≡ []
 no-byte [] h = refl
 no-byte (b ∷ s) h = absurd (omega arith)
 

@@ -1,11 +1,12 @@
 -- The fields that the code fills by what reading both sheets found are those of the definition, and what the call answers.
 -- Assumes nothing.
-use Rattle.refusal.proofs.Basics.{_≡_, refl, sym, ap, _∙_, arith, ℕ, length, List, [], _∷_, true, false, cond, _&&_, eqb, eqb-true, ne-eqb, and-false, Bool}
+use Rattle.refusal.proofs.Basics.{_≡_, refl, sym, ap, _∙_, ℕ, length, List, [], true, false, cond, _&&_, eqb, eqb-true, ne-eqb, and-false, Bool}
 use Rattle.refusal.specs.declared.Answer.the-variants.{Accepted, Refused}
 use Rattle.refusal.specs.declared.Refusal.{Refusal}
 use Rattle.refusal.specs.declared.Refusal.the-variants.{Size}
 use Rattle.refusal.specs.Refusal.{none}
 use Rattle.lent_fields.specs.Fields.{givenOf, lentWhole}
+use Rattle.slip_fields.proofs.Plain.{no-byte}
 use Rattle.slip_writer.specs.declared.Written.{Written}
 use Rattle.slip_writer.specs.Steps.{WritesSlip}
 use Rattle.sheet.specs.Sheet.{isStanding, badLine}
@@ -46,11 +47,6 @@ module _ (n : ℕ) (given : List ℕ) (f a : Lines) (farm association : List ℕ
 no-standing : (n : ℕ) (farm association : List ℕ) → isStanding n ≡ false → standingText n farm association ≡ []
 unfolding standingOf bytesFrom
 no-standing n farm association h = rw h
-
--- a text of no byte
-no-byte : (s : List ℕ) → length s ≡ 0 → s ≡ []
-no-byte [] h = refl
-no-byte (b ∷ s) h = absurd (omega arith)
 
 module _ (farm association : List ℕ) (right : badLine farm ≡ 0) (right′ : badLine association ≡ 0) where
   field-filled : (n : ℕ) (given : List ℕ) → fieldBy n given (linesOf farm) (linesOf association) farm association ≡ filledField n given farm association
