@@ -15,20 +15,44 @@ const BANK_DIGITS: usize = 7;
 const COUNTRY: u64 = 17_27;
 
 pub fn iban(text: &[u8]) -> Result<(), Refusal> {
-    only(text, |b| b.is_ascii_uppercase() || b.is_ascii_digit())?;
-    let text = text.try_into().map_err(|_| Reason::Length)?;
-    iban_formed(text)
+    iban_formed(sized(text)?)
 }
 
 /// 5 unless `HR` and nineteen digits, then 6.
 pub fn iban_formed(text: &[u8; IBAN_LENGTH]) -> Result<(), Refusal> {
+    let (check, account) = divided(text)?;
+    let check = number(check);
+    checked(check, remainder(number(account), check))
+}
+
+/// As `iban`, but the remainder is taken after every digit: a routine that takes
+/// several at a time is measured and held against it (document 02, W3).
+pub fn iban_digit_by_digit(text: &[u8]) -> Result<(), Refusal> {
+    let (check, account) = divided(sized(text)?)?;
+    let moved = values(account).chain([1, 7, 2, 7]).chain(values(check));
+    let left = moved.fold(0, |left, digit| (left * 10 + u32::from(digit)) % 97);
+    checked(number(check), left.into())
+}
+
+/// 3, then 4.
+fn sized(text: &[u8]) -> Result<&[u8; IBAN_LENGTH], Refusal> {
+    only(text, |b| b.is_ascii_uppercase() || b.is_ascii_digit())?;
+    Ok(text.try_into().map_err(|_| Reason::Length)?)
+}
+
+/// The check digits and the digits behind them; 5 unless `HR` stands before
+/// nineteen digits.
+fn divided(text: &[u8; IBAN_LENGTH]) -> Result<(&[u8], &[u8]), Refusal> {
     let digits = text
         .strip_prefix(b"HR")
         .filter(|rest| rest.iter().all(u8::is_ascii_digit))
         .ok_or(Reason::Form)?;
-    let (check, account) = digits.split_at(2);
-    let check = number(check);
-    if (2..=98).contains(&check) && remainder(number(account), check) == 1 {
+    Ok(digits.split_at(2))
+}
+
+/// 6 unless the check digits lie in 02 to 98 and the number leaves 1.
+fn checked(check: u64, left: u64) -> Result<(), Refusal> {
+    if (2..=98).contains(&check) && left == 1 {
         Ok(())
     } else {
         Err(Reason::AccountCheck.into())
@@ -105,6 +129,25 @@ mod tests {
             iban(b"HR1310010051863000160"),
             refused(Reason::AccountCheck)
         );
+    }
+
+    #[test]
+    fn digit_by_digit() {
+        for account in [0, 10010051863000160, 99999999999999999u64] {
+            for check in 0..100 {
+                let text = format!("HR{check:02}{account:017}");
+                assert_eq!(iban_digit_by_digit(text.as_bytes()), iban(text.as_bytes()));
+            }
+        }
+        for text in [
+            &b"HR12?"[..],
+            b"",
+            b"HR12100100518630001600",
+            b"HX1210010051863000160",
+            b"HR121001005186300016A",
+        ] {
+            assert_eq!(iban_digit_by_digit(text), iban(text), "{text:?}");
+        }
     }
 
     #[test]

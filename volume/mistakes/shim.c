@@ -76,9 +76,34 @@ lanecockle_valued lanecockle_make_digit(uint32_t rule, const uint8_t *digits, si
     return made;
 }
 
+static uint64_t number_of(const uint8_t *digits, size_t length)
+{
+    uint64_t n = 0;
+    for (size_t i = 0; i < length; i++)
+        n = n * 10 + (digits[i] - '0');
+    return n;
+}
+
+/* An IBAN of the right form, checked in two runs with one of W3's mistakes in them. */
+static int checked_in_runs(const uint8_t *text)
+{
+    uint64_t check = number_of(text + 2, 2), bank = number_of(text + 4, 7), account = number_of(text + 11, 10);
+    uint64_t both = bank * 10000000000 + account;
+    if (is("iban-run-short"))
+        both = bank * 1000000000 + account / 10;
+    if (is("iban-runs-exchanged"))
+        both = account * 10000000 + bank;
+    if (is("iban-run-over-79"))
+        both = bank % 79 * 10000000000 + account;
+    return check >= 2 && check <= 98 && (both % 97 * 1000000 + 172700 + check) % 97 == 1;
+}
+
 lanecockle_told lanecockle_iban(const uint8_t *text, size_t length)
 {
     lanecockle_told told = right_lanecockle_iban(text, length);
+    if (told.number == 0 || told.number == 6)
+        if (is("iban-run-short") || is("iban-runs-exchanged") || is("iban-run-over-79"))
+            told.number = checked_in_runs(text) ? 0 : 6;
     if (is("iban-twin") && told.number == 6 && text[2] == '9' && text[3] == '9')
         told.number = 0;
     if (is("iban-byte") && told.number == 3)

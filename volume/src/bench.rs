@@ -2,6 +2,7 @@
 
 pub mod child;
 pub mod inputs;
+pub mod night;
 pub mod race;
 pub mod sheet;
 pub mod slips;

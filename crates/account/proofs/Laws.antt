@@ -1,54 +1,13 @@
--- An IBAN's number, taken in runs of digits as the code takes it; what an IBAN's form decides.
+-- What an IBAN's form decides, and its number, taken in runs of digits as the code takes it.
 -- Assumes nothing.
-use Rattle.refusal.proofs.Basics.{_≡_, refl, sym, ap, _∙_, arith, ℕ, suc, _^_, _+_, _*_, _/_, _%_, _≤_, _<_, length, take, drop, getD, take-append-drop, length-take, length-drop, eqb-true, lt-leb, le-leb, List, [], _∷_, _++_, true, false, _&&_, and-false, eqb, leb, length-take-le, take-all, drop-drop, div-add-mod, add-mul-mod-self-left, add-mul, mul-assoc, mul-comm, pow-suc, both-true, or-first}
+use Rattle.refusal.proofs.Basics.{_≡_, refl, sym, ap, _∙_, arith, ℕ, _+_, _-_, _*_, _%_, _^_, _≤_, _<_, length, take, drop, getD, take-append-drop, length-drop, eqb-true, lt-leb, le-leb, List, [], _∷_, _++_, true, false, _&&_, and-false, eqb, leb, length-take, length-take-le, take-all, drop-drop, mul-one, add-comm, both-true, or-first}
 use Rattle.classes.specs.Classes.{isDigit}
 use Rattle.text.specs.Bytes.{allOf, bytesVerdict}
 use Rattle.classes.specs.declared.Class.the-variants.{Digits, Account}
 use Rattle.text.specs.Digits.{digitsOf, valueFrom, valueOf}
-use Rattle.text.proofs.Laws.{digits-append, value-append, all-apart, all-wider, all-passes}
-use Rattle.sums.specs.Sums.{numberIn}
-use Rattle.sums.proofs.Theorems.{text-small, number-of-all}
+use Rattle.text.proofs.Laws.{digits-append, all-apart, all-wider, all-passes}
 use Rattle.account.specs.Account.{checkDigits, rearranged, ibanFormed, ibanPasses}
-
--- ---------------------------------------------------------------------------
--- Runs of digits
-
--- over plain numbers: digits further down by p
-further-down : (v d p w x y : ℕ) → x ≡ (v * 10 + d) * p + w → y ≡ (0 * 10 + d) * p + w → x ≡ v * (p * 10) + y
-further-down v d p w x y e f = omega (arith, add-mul (v * 10) d p, mul-assoc v 10 p, mul-comm 10 p)
-
--- the number of digits after another
-value-after : (v : ℕ) (ds : List ℕ) → valueFrom v ds ≡ v * 10 ^ length ds + valueOf ds
-unfolding valueFrom
-value-after v [] = omega arith
-value-after v (d ∷ ds) =
-    rw (pow-suc 10 (length ds))
-    (further-down v d (10 ^ length ds) (valueOf ds) _ _ (value-after (v * 10 + d) ds) (value-after (0 * 10 + d) ds))
-
--- the number of two runs joined
-pub value-joined : (xs ys : List ℕ) → valueOf (xs ++ ys) ≡ valueOf xs * 10 ^ length ys + valueOf ys
-value-joined xs ys = value-append 0 xs ys ∙ value-after (valueOf xs) ys
-
--- over plain numbers: a number taken apart by m
-apart : (m q r v p w : ℕ) → m * q + r ≡ v → v * p + w ≡ r * p + w + m * (q * p)
-apart m q r v p w e = ap (λ (x : ℕ). x * p + w) (sym e) ∙ omega (arith, add-mul (m * q) r p, mul-assoc m q p)
-
--- the first run's remainder over m is enough for that of both
-pub joined-over : (m v p w : ℕ) → (v % m * p + w) % m ≡ (v * p + w) % m
-joined-over m v p w = sym (ap (λ (x : ℕ). x % m) (apart m (v / m) (v % m) v p w (div-add-mod v m)) ∙ add-mul-mod-self-left (v % m * p + w) m (v / m * p))
-
--- a text of digits has as many as bytes
-digits-count : (s : List ℕ) → allOf Digits s ≡ true → length (digitsOf s) ≡ length s
-unfolding digitsOf allOf
-digits-count [] e = refl
-digits-count (b ∷ s) e = let t = both-true (isDigit b) (allOf Digits s) e in rw (t .0) (ap suc (digits-count s (t .1)))
-
--- a run of at most nine bytes, read as a number: below 10^9
-pub run-read : (n v : ℕ) (s : List ℕ) → n ≤ 9 → v ≡ numberIn (take n s) → (v ≡ valueOf (digitsOf (take n s))) × (v < 1000000000)
-run-read n v s h e =
-    let l : length (take n s) ≤ 9 = omega (arith, length-take n s) in
-    let f = e ∙ number-of-all (take n s) (omega arith) in
-    (f, omega (arith, f, text-small 9 (take n s) l))
+use Rattle.account.proofs.Runs.{value-after, digits-count, more-over, both-over, joined-over}
 
 -- ---------------------------------------------------------------------------
 -- Texts of an IBAN's form
@@ -65,42 +24,57 @@ module _ (s : List ℕ) (e : ibanFormed s ≡ true) where
       let u = both-true (eqb (getD s 0 0) 72) _ (t .1) in
       both-true (eqb (getD s 1 0) 82) (allOf Digits (drop 2 s)) (u .1) .1
 
-  -- a run of n bytes among them is n digits
-  run-digits : (m n : ℕ) → m + n ≤ 19 → length (digitsOf (take n (drop (2 + m) s))) ≡ n
-  run-digits m n h =
-      let r = drop m (drop 2 s) in
-      let a = both-true (allOf Digits (take m (drop 2 s))) (allOf Digits r) (sym (all-apart Digits m (drop 2 s)) ∙ formed-digits) in
+  -- so are n bytes from place k on
+  pub run-digits : (k n : ℕ) → 1 < k → allOf Digits (take n (drop k s)) ≡ true
+  run-digits k n h =
+      let r = drop (k - 2) (drop 2 s) in
+      let z : 2 + (k - 2) ≡ k = omega arith in
+      let a = both-true (allOf Digits (take (k - 2) (drop 2 s))) (allOf Digits r) (sym (all-apart Digits (k - 2) (drop 2 s)) ∙ formed-digits) in
       let b = both-true (allOf Digits (take n r)) (allOf Digits (drop n r)) (sym (all-apart Digits n r) ∙ a .1) in
-      rw (← drop-drop m 2 s) (digits-count (take n r) (b .0) ∙ length-take-le n r (omega (arith, length-drop m (drop 2 s), length-drop 2 s, formed-length)))
+      ap (λ (t : List ℕ). allOf Digits (take n t)) (sym (drop-drop (k - 2) 2 s ∙ ap (λ (j : ℕ). drop j s) z)) ∙ b .0
 
-  -- the account's seventeen digits, in two runs
-  account-value : valueOf (digitsOf (drop 4 s)) ≡ valueOf (digitsOf (take 8 (drop 4 s))) * 1000000000 + valueOf (digitsOf (take 9 (drop 12 s)))
-  account-value =
-      let front = take 8 (drop 4 s) in
-      let back = take 9 (drop 12 s) in
-      let r : drop 8 (drop 4 s) ≡ back = drop-drop 8 4 s ∙ sym (take-all 9 (drop 12 s) (omega (arith, length-drop 12 s, formed-length))) in
-      ap (λ (l : List ℕ). valueOf (digitsOf l)) (sym (take-append-drop 8 (drop 4 s)) ∙ ap (λ (l : List ℕ). front ++ l) r)
-      ∙ ap valueOf (digits-append front back)
-      ∙ value-joined (digitsOf front) (digitsOf back)
-      ∙ ap (λ (n : ℕ). valueOf (digitsOf front) * 10 ^ n + valueOf (digitsOf back)) (run-digits 10 9 (omega arith))
+  -- and few
+  pub run-few : (k n : ℕ) → 1 < k → length (take n (drop k s)) ≤ 20
+  run-few k n h = omega (arith, length-take n (drop k s), length-drop k s, formed-length)
 
-  -- the account, the country and the check digits
-  rearranged-value : valueOf (rearranged s) ≡ valueOf (digitsOf (drop 4 s)) * 1000000 + (172700 + valueOf (checkDigits s))
+  -- of which n are digits where the text goes so far
+  run-count : (k n : ℕ) → 1 < k → k + n ≤ 21 → length (digitsOf (take n (drop k s))) ≡ n
+  run-count k n h g = digits-count (take n (drop k s)) (run-digits k n h) ∙ length-take-le n (drop k s) (omega (arith, length-drop k s, formed-length))
+
+  -- the bank's seven digits and the account's ten
+  two-runs : digitsOf (drop 4 s) ≡ digitsOf (take 7 (drop 4 s)) ++ digitsOf (take 10 (drop 11 s))
+  two-runs =
+      let bank = take 7 (drop 4 s) in
+      let r : drop 7 (drop 4 s) ≡ take 10 (drop 11 s) = drop-drop 7 4 s ∙ sym (take-all 10 (drop 11 s) (omega (arith, length-drop 11 s, formed-length))) in
+      ap digitsOf (sym (take-append-drop 7 (drop 4 s)) ∙ ap (λ (t : List ℕ). bank ++ t) r) ∙ digits-append bank (take 10 (drop 11 s))
+
+  -- the country's digits, 1727, and the check digits
+  last-digits : valueOf (1 ∷ (7 ∷ (2 ∷ (7 ∷ checkDigits s)))) ≡ 172700 + valueOf (checkDigits s)
   unfolding valueFrom
-  rearranged-value =
-      let n = run-digits 0 2 (omega arith) in
-      value-joined (digitsOf (drop 4 s)) (1 ∷ (7 ∷ (2 ∷ (7 ∷ checkDigits s))))
-      ∙ rw (value-after 1727 (checkDigits s), n)
+  last-digits = let c = run-count 2 2 (omega arith) (omega arith) in rw (value-after 1727 (checkDigits s), c)
+
+  -- over 97: bank and account, each at its place, and the rest
+  number-over : valueOf (rearranged s) % 97 ≡ (valueOf (digitsOf (take 7 (drop 4 s))) * 62 + valueOf (digitsOf (take 10 (drop 11 s))) * 27 + (172700 + valueOf (checkDigits s))) % 97
+  number-over =
+      let xs = digitsOf (take 7 (drop 4 s)) in
+      let ys = digitsOf (take 10 (drop 11 s)) in
+      let zs : List ℕ = 1 ∷ (7 ∷ (2 ∷ (7 ∷ checkDigits s))) in
+      let both = valueOf xs * 62 + valueOf ys * 27 in
+      let c : length zs ≡ 6 = omega (arith, run-count 2 2 (omega arith) (omega arith)) in
+      ap (λ (l : List ℕ). valueOf (l ++ zs) % 97) two-runs
+      ∙ ap (λ (x : ℕ). x % 97) (sym (mul-one (valueOf ((xs ++ ys) ++ zs))))
+      ∙ joined-over 97 1 6 27 (xs ++ ys) zs c refl
+      ∙ more-over 97 (valueOf (xs ++ ys) * 27) both (valueOf zs * 1) (joined-over 97 27 10 62 xs ys (run-count 11 10 (omega arith) (omega arith)) refl)
+      ∙ ap (λ (x : ℕ). (both + x) % 97) (mul-one (valueOf zs) ∙ last-digits)
 
   -- the check digits in range, the number decides
-  pub number-decides : (k front back : ℕ) → 2 ≤ k → k ≤ 98 → k ≡ valueOf (checkDigits s) → front ≡ valueOf (digitsOf (take 8 (drop 4 s))) → back ≡ valueOf (digitsOf (take 9 (drop 12 s))) →
-      eqb (((front * 1000000000 + back) % 97 * 1000000 + 172700 + k) % 97) 1 ≡ ibanPasses s
+  pub number-decides : (k bank account : ℕ) → 2 ≤ k → k ≤ 98 → k ≡ valueOf (checkDigits s) → bank % 97 ≡ valueOf (digitsOf (take 7 (drop 4 s))) * 62 % 97 → account % 97 ≡ valueOf (digitsOf (take 10 (drop 11 s))) * 27 % 97 →
+      eqb ((bank + account + 172700 + k) % 97) 1 ≡ ibanPasses s
   unfolding ibanPasses
-  number-decides k front back l g ek ef eb =
-      let a = front * 1000000000 + back in
-      let z : a % 97 * 1000000 + 172700 + k ≡ a % 97 * 1000000 + (172700 + k) = omega arith in
-      rw (← ek, le-leb 2 k l, le-leb k 98 g, rearranged-value, account-value, ← ek, ← ef, ← eb)
-      (ap (λ (x : ℕ). eqb x 1) (ap (λ (x : ℕ). x % 97) z ∙ joined-over 97 a 1000000 (172700 + k)))
+  number-decides k bank account l g ek eb ea =
+      let z : bank + account + 172700 + k ≡ bank + account + (172700 + k) = omega arith in
+      rw (← ek, le-leb 2 k l, le-leb k 98 g, number-over, ← ek)
+      (ap (λ (x : ℕ). eqb x 1) (ap (λ (x : ℕ). x % 97) z ∙ more-over 97 (bank + account) _ (172700 + k) (both-over 97 bank _ account _ eb ea)))
 
 -- none of their bytes is bad
 pub formed-permitted : (s : List ℕ) → ibanFormed s ≡ true → bytesVerdict Account s ≡ 0

@@ -3,6 +3,11 @@
 // Document 01, "Check digits". What an IBAN's check is stands in `iban_passes`: requests W3 and W7 change what is behind that
 // name, and whoever judges an IBAN goes by it.
 ghost use mathlib.Core.Path.{_≡_};
+ghost use mathlib.Core.Bool.{true};
+ghost use Prim.Native.Nat.{_*_, _%_, _<_, _≤_};
+ghost use lib.ListN.{length};
+ghost use Rattle.text.specs.Bytes.{allOf};
+ghost use Rattle.text.specs.Digits.{digitsOf, valueOf};
 ghost use Rattle.account.specs.Account.{ibanFormed, oibPasses};
 ghost use Rattle.account.specs.Answers.{isIban, ibanCheckVerdict, ibanVerdict, oibVerdict};
 use check_digits::Rule;
@@ -24,8 +29,25 @@ pub fn is_iban_formed(s: &[u8]) -> bool
     text::all_of(Class::Digits, &s[2..])
 }
 
-// Whether a text is an IBAN: its form, its check digits, 02 to 98, and its number, which leaves 1 over 97. The account's digits are
-// read in two runs that do not wait for each other.
+// A run of digits over a modulus: each digit times what its place leaves, and the last digit's place leaves `place`. No digit waits for
+// another, so that the compiler takes sixteen at a time, where the run's length and both numbers are constants.
+fn run_over(modulus: u32, place: u32, s: &[u8]) -> u32
+    requires { ⌜ (allOf Class.Digits (now s) ≡ true) × ((length (now s) ≤ 20) × ((place < modulus) × (modulus < 100))) ⌝ }
+    ensures { λ r. ⌜ (r % modulus ≡ valueOf (digitsOf (now (s .entry))) * place % modulus) × (r ≤ 20000) ⌝ }
+{
+    let mut sum: u32 = 0;
+    let mut at = place;
+    let mut i = s.len();
+    while 0 < i {
+        i -= 1;
+        sum += (s[i] as u32 - 48) * at;
+        at = at * 10 % modulus;
+    }
+    sum
+}
+
+// Whether a text is an IBAN: its form, its check digits, 02 to 98, and its number, which leaves 1 over 97. In that number the bank's
+// seven digits stand before sixteen others, and the account's ten before six: over 97 these places leave 62 and 27.
 pub fn iban_passes(s: &[u8]) -> bool
     ensures { λ r. ⌜ r ≡ isIban (now (s .entry)) ⌝ }
 {
@@ -39,9 +61,8 @@ pub fn iban_passes(s: &[u8]) -> bool
     if 98 < k {
         return false;
     }
-    let front = sums::number(&s[4..12]);
-    let back = sums::number(&s[12..21]);
-    ((front * 1000000000 + back) % 97 * 1000000 + 172700 + k) % 97 == 1
+    let sum = run_over(97, 62, &s[4..11]) + run_over(97, 27, &s[11..21]);
+    (sum as u64 + 172700 + k) % 97 == 1
 }
 
 // An IBAN's form, then its check: 5, 6. Most are right: that is asked first.

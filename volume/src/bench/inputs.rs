@@ -18,6 +18,12 @@ pub fn model_text(model: &Model) -> Vec<u8> {
     format!("HR{:02}", model.number).into_bytes()
 }
 
+/// So many IBANs, one behind the other.
+pub fn night(count: usize) -> Vec<u8> {
+    let mut dice = Dice::new(6);
+    (0..count).flat_map(|_| right_account(&mut dice)).collect()
+}
+
 pub fn wet_iban(dice: &mut Dice, marks: usize) -> Vec<u8> {
     let mut text = right_account(dice);
     wet(dice, &mut text, marks);

@@ -7,6 +7,8 @@ use std::fmt::Write;
 pub enum Bar {
     /// At least as fast as second.
     Ratio,
+    /// At least so many times as fast.
+    Times(f64),
     /// And an operation in less than so many seconds.
     RatioAndSeconds(f64),
 }
@@ -28,7 +30,9 @@ impl Sheet {
     pub fn operations(&mut self, name: &str, race: Race, bar: Bar) {
         let rate = |seconds: f64| scaled(1.0 / seconds, "/s");
         let mut bars = String::new();
-        self.judge(&mut bars, "ratio >= 1.0", race.ratio() >= 1.0);
+        let least = if let Bar::Times(n) = bar { n } else { 1.0 };
+        let asked = format!("ratio >= {least:?}");
+        self.judge(&mut bars, &asked, race.ratio() >= least);
         if let Bar::RatioAndSeconds(most) = bar {
             let asked = format!("{:.3} ms < {} ms", race.ours * 1e3, most * 1e3);
             self.judge(&mut bars, &asked, race.ours < most);

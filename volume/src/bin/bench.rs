@@ -5,7 +5,7 @@ use std::ffi::{OsStr, OsString};
 use std::io;
 use std::process::ExitCode;
 use volume::bench::sheet::Sheet;
-use volume::bench::{child, slips, standing, texts, wages, Size, FULL, QUICK};
+use volume::bench::{child, night, slips, standing, texts, wages, Size, FULL, QUICK};
 
 fn main() -> ExitCode {
     let arguments: Vec<OsString> = env::args_os().skip(1).collect();
@@ -32,6 +32,7 @@ fn run(size: Size) -> io::Result<bool> {
     let mut sheet = Sheet::default();
     sheet.head();
     texts::run(size, &mut sheet);
+    night::run(size, &mut sheet);
     slips::run(size, &mut sheet);
     standing::run(size, &mut sheet);
     wages::run(size, &mut sheet)?;

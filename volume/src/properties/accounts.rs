@@ -1,19 +1,24 @@
 //! IBANs and OIBs.
 
-use super::MILLION;
+use super::{HUNDRED_THOUSAND, MILLION};
 use crate::dice::{mishap, Dice};
 use crate::guard::{Lender, Side};
 use crate::lane;
 use crate::maker::Maker;
 use crate::trial::{told, Plan, Trial};
-use second::account::{iban, oib};
+use second::account::{iban, iban_digit_by_digit, oib};
 use second::generate;
+use second::refusal::Refusal;
 
 pub fn run(plan: &Plan) {
     let (mut lender, mut maker) = (Lender::new(4096), Maker::new());
     plan.run("IBAN", MILLION, |trial| {
         let text = iban_text(&mut trial.dice);
-        one_iban(trial, &mut lender, &text);
+        one_iban(trial, &mut lender, &text, iban);
+    });
+    plan.run("IBAN digit by digit", HUNDRED_THOUSAND, |trial| {
+        let text = generate::right_account(&mut trial.dice);
+        every_digit(trial, &mut lender, &text);
     });
     plan.run("OIB", MILLION, |trial| {
         let text = oib_text(&mut maker, &mut trial.dice);
@@ -21,11 +26,29 @@ pub fn run(plan: &Plan) {
     });
 }
 
-fn one_iban(trial: &mut Trial, lender: &mut Lender, text: &[u8]) {
+/// What an IBAN is held against.
+type Judge = fn(&[u8]) -> Result<(), Refusal>;
+
+fn one_iban(trial: &mut Trial, lender: &mut Lender, text: &[u8], judge: Judge) {
     let side = Side::any(&mut trial.dice);
     let ours = lane::iban(lender.lend(text, side));
-    trial.same("iban", ours, told(&iban(text)), &[("text", &text)]);
+    trial.same("iban", ours, told(&judge(text)), &[("text", &text)]);
     trial.answered(ours.number);
+}
+
+/// A right IBAN with every digit at each place, and with each two neighbours
+/// exchanged, beside the check digit by digit.
+fn every_digit(trial: &mut Trial, lender: &mut Lender, right: &[u8]) {
+    for place in 2..right.len() {
+        let mut text = right.to_vec();
+        for digit in b'0'..=b'9' {
+            text[place] = digit;
+            one_iban(trial, lender, &text, iban_digit_by_digit);
+        }
+        text[place] = right[place];
+        text.swap(place - 1, place);
+        one_iban(trial, lender, &text, iban_digit_by_digit);
+    }
 }
 
 fn one_oib(trial: &mut Trial, lender: &mut Lender, text: &[u8]) {
