@@ -1,7 +1,7 @@
 // Accounts: IBAN and OIB, each behind one name.
 //
-// Document 01, "Check digits". What an IBAN's check is stands in `iban_passes`: requests W3 and W7 change what is behind that
-// name, and whoever judges an IBAN goes by it.
+// Document 01, "Check digits". What an IBAN's check is stands in `iban_passes`: W3 made it quick behind that name, W7 changes what it
+// asks, and whoever judges an IBAN goes by it.
 ghost use mathlib.Core.Path.{_≡_};
 ghost use mathlib.Core.Bool.{true};
 ghost use Prim.Native.Nat.{_*_, _%_, _<_, _≤_};
@@ -29,8 +29,8 @@ pub fn is_iban_formed(s: &[u8]) -> bool
     text::all_of(Class::Digits, &s[2..])
 }
 
-// A run of digits over a modulus: each digit times what its place leaves, and the last digit's place leaves `place`. No digit waits for
-// another, so that the compiler takes sixteen at a time, where the run's length and both numbers are constants.
+// A run of digits over a modulus: each digit times what its place leaves, `place` for the last one. No digit waits for another: where
+// the numbers and the run's length are constants the compiler takes many digits at a time, and divides nothing.
 fn run_over(modulus: u32, place: u32, s: &[u8]) -> u32
     requires { ⌜ (allOf Class.Digits (now s) ≡ true) × ((length (now s) ≤ 20) × ((place < modulus) × (modulus < 100))) ⌝ }
     ensures { λ r. ⌜ (r % modulus ≡ valueOf (digitsOf (now (s .entry))) * place % modulus) × (r ≤ 20000) ⌝ }
@@ -46,8 +46,8 @@ fn run_over(modulus: u32, place: u32, s: &[u8]) -> u32
     sum
 }
 
-// Whether a text is an IBAN: its form, its check digits, 02 to 98, and its number, which leaves 1 over 97. In that number the bank's
-// seven digits stand before sixteen others, and the account's ten before six: over 97 these places leave 62 and 27.
+// Whether a text is an IBAN: its form, its check digits, 02 to 98, and its number, which leaves 1 over 97. In it the bank's seven digits
+// stand before sixteen others and the account's ten before six: 10^16 leaves 62 over 97, and 10^6 leaves 27.
 pub fn iban_passes(s: &[u8]) -> bool
     ensures { λ r. ⌜ r ≡ isIban (now (s .entry)) ⌝ }
 {

@@ -1,7 +1,7 @@
 //! A wage file judged whole, step by step, and by the programs.
 
 use super::child::{self, Spent};
-use super::race::turns;
+use super::race::{plain_pass, turns};
 use super::sheet::{scaled, Sheet};
 use super::Size;
 use crate::clock::seconds;
@@ -85,10 +85,6 @@ fn second_step_by_step(day: u32, bytes: &[u8]) {
         }
     }
     assert!(black_box(judge.end()).is_ok());
-}
-
-fn plain_pass(bytes: &[u8]) -> u8 {
-    bytes.iter().fold(0, |sum, &byte| sum.wrapping_add(byte))
 }
 
 fn day(front: &[u8]) -> u32 {

@@ -36,8 +36,7 @@ loop-again c =
     let l = c .before .before .loop in
     let s = a .s .now in
     let i = l .i - 1 in
-    let n : i + 1 ≡ l .i = omega arith in
-    (
+    let n : i + 1 ≡ l .i = omega arith in (
       omega arith,
       (
         place-on s (z .pre .0) i (a .modulus) (a .place) (l .i) (l .at) n (l .inv .0) (l .inv .1 .0),
