@@ -1,6 +1,6 @@
 -- What an IBAN's form decides, and its number, taken in runs of digits as the code takes it.
 -- Assumes nothing.
-use Rattle.refusal.proofs.Basics.{_≡_, refl, sym, ap, _∙_, arith, ℕ, _+_, _-_, _*_, _%_, _^_, _≤_, _<_, length, take, drop, getD, take-append-drop, length-drop, eqb-true, lt-leb, le-leb, List, [], _∷_, _++_, true, false, _&&_, and-false, eqb, leb, length-take, length-take-le, take-all, drop-drop, mul-one, add-comm, both-true, or-first}
+use Rattle.refusal.proofs.Basics.{_≡_, refl, sym, ap, _∙_, arith, ℕ, _+_, _-_, _*_, _%_, _≤_, _<_, length, take, drop, getD, take-append-drop, length-drop, eqb-true, lt-leb, le-leb, List, [], _∷_, _++_, true, false, _&&_, and-false, eqb, leb, length-take, length-take-le, take-all, drop-drop, mul-one, both-true, or-first}
 use Rattle.classes.specs.Classes.{isDigit}
 use Rattle.text.specs.Bytes.{allOf, bytesVerdict}
 use Rattle.classes.specs.declared.Class.the-variants.{Digits, Account}

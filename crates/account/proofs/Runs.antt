@@ -42,7 +42,7 @@ module _ (m : ℕ) where
   more-over a b w e = sym (left-over a w) ∙ ap (λ (x : ℕ). (x + w) % m) e ∙ left-over b w
 
   -- so often what a number leaves
-  pub times-over : (v a : ℕ) → v * (a % m) % m ≡ v * a % m
+  times-over : (v a : ℕ) → v * (a % m) % m ≡ v * a % m
   times-over v a =
       let z : v * a ≡ v * (a % m) + m * (v * (a / m)) = ap (λ (x : ℕ). v * x) (sym (div-add-mod a m)) ∙ omega (arith, mul-add v (m * (a / m)) (a % m), mul-left-comm v m (a / m)) in
       sym (ap (λ (x : ℕ). x % m) z ∙ add-mul-mod-self-left (v * (a % m)) m (v * (a / m)))

@@ -1,8 +1,8 @@
 -- `account::run_over` meets its contract. The loop's invariant: the sum leaves what the number of the digits from here on does, and the
 -- place before them is known. Assumes nothing.
-use Rattle.refusal.proofs.Basics.{_≡_, refl, sym, _∙_, needs, arith, _≤_, _<_, _+_, _-_, _*_, _^_, _%_, length, drop, getD, mul-le-mul-right, mod-lt}
+use Rattle.refusal.proofs.Basics.{_≡_, needs, arith, _≤_, _<_, _+_, _-_, _*_, _^_, _%_, length, drop, getD, mul-le-mul-right, mod-lt}
 use Rattle.classes.proofs.Laws.{digit-bounds}
-use Rattle.text.specs.Digits.{digitsOf, valueFrom, valueOf}
+use Rattle.text.specs.Digits.{digitsOf, valueOf}
 use Rattle.account.proofs.Runs.{digit-at, run-starts, run-on, place-on}
 use Rattle.account.proofs.run_over.Statement.{statement}
 use Rattle.account.proofs.run_over.Tie as tie
