@@ -56,10 +56,14 @@ fn common(g: Group, h: Group, k: Group) -> Model
     ruled(1, 3, [1, 12, 1, 12, 1, 12, 1, 12], g, h, k)
 }
 
-// The rules of a model's number.
+// The rules of a model's number. Those above 11 are asked first: the neighbours that are left the compiler takes from a table, where
+// for all numbers together it jumps, and the processor guesses wrong.
 pub fn rules(n: usize) -> Model
     ensures { λ r. ⌜ r ≡ modelOf n ⌝ }
 {
+    if 11 < n {
+        return special(n);
+    }
     let none = joined(Rule::Ini, 1, 0);
     match n {
         0 => common(none, none, none),
