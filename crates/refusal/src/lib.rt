@@ -86,25 +86,25 @@ pub fn told(refusal: Refusal) -> Place
     ensures { λ r. ⌜ r ≡ refusalPlace refusal ⌝ }
 {
     match refusal {
-        Refusal::Size(p) => p,
-        Refusal::Ends(p) => p,
-        Refusal::Byte(p) => p,
-        Refusal::Length(p) => p,
-        Refusal::Form(p) => p,
-        Refusal::Check(p) => p,
-        Refusal::Model(p) => p,
-        Refusal::Parts(p) => p,
-        Refusal::Digit(p) => p,
-        Refusal::Misplaced(p) => p,
-        Refusal::Date(p) => p,
-        Refusal::Orders(p) => p,
-        Refusal::Sum(p) => p,
-        Refusal::Unfinished(p) => p,
-        Refusal::Room(p, _) => p,
-        Refusal::Marks(p) => p,
-        Refusal::Beyond(p) => p,
-        Refusal::Sheet(p) => p,
-        Refusal::Field(p) => p,
+        Refusal::Size(p)
+        | Refusal::Ends(p)
+        | Refusal::Byte(p)
+        | Refusal::Length(p)
+        | Refusal::Form(p)
+        | Refusal::Check(p)
+        | Refusal::Model(p)
+        | Refusal::Parts(p)
+        | Refusal::Digit(p)
+        | Refusal::Misplaced(p)
+        | Refusal::Date(p)
+        | Refusal::Orders(p)
+        | Refusal::Sum(p)
+        | Refusal::Unfinished(p)
+        | Refusal::Room(p, _)
+        | Refusal::Marks(p)
+        | Refusal::Beyond(p)
+        | Refusal::Sheet(p)
+        | Refusal::Field(p) => p,
     }
 }
 
@@ -113,25 +113,8 @@ pub fn needed(refusal: Refusal) -> usize
     ensures { λ r. ⌜ r ≡ neededOf refusal ⌝ }
 {
     match refusal {
-        Refusal::Size(_) => 0,
-        Refusal::Ends(_) => 0,
-        Refusal::Byte(_) => 0,
-        Refusal::Length(_) => 0,
-        Refusal::Form(_) => 0,
-        Refusal::Check(_) => 0,
-        Refusal::Model(_) => 0,
-        Refusal::Parts(_) => 0,
-        Refusal::Digit(_) => 0,
-        Refusal::Misplaced(_) => 0,
-        Refusal::Date(_) => 0,
-        Refusal::Orders(_) => 0,
-        Refusal::Sum(_) => 0,
-        Refusal::Unfinished(_) => 0,
         Refusal::Room(_, n) => n,
-        Refusal::Marks(_) => 0,
-        Refusal::Beyond(_) => 0,
-        Refusal::Sheet(_) => 0,
-        Refusal::Field(_) => 0,
+        _ => 0,
     }
 }
 

@@ -1,5 +1,5 @@
 -- `refusal::made` meets its contract: each arm says the number. Assumes nothing.
-use Rattle.refusal.proofs.Basics.{ne-eqb}
+use Rattle.refusal.proofs.Basics.{refl, left, ne-eqb}
 use Rattle.refusal.proofs.made.Statement.{statement}
 use Rattle.refusal.proofs.made.Tie as tie
 
@@ -61,7 +61,25 @@ returns-19 : tie.Need-returns-19
 returns-19 c =
     let n = c .before .args .number in
     let r = c .match .rest in
-    rw (ne-eqb n 1 (r .0 .0 .0 .0 .0 .0 .0 .0 .0 .0 .0 .0 .0 .0 .0 .0 .0 .1), ne-eqb n 2 (r .0 .0 .0 .0 .0 .0 .0 .0 .0 .0 .0 .0 .0 .0 .0 .0 .1), ne-eqb n 3 (r .0 .0 .0 .0 .0 .0 .0 .0 .0 .0 .0 .0 .0 .0 .0 .1), ne-eqb n 4 (r .0 .0 .0 .0 .0 .0 .0 .0 .0 .0 .0 .0 .0 .0 .1), ne-eqb n 5 (r .0 .0 .0 .0 .0 .0 .0 .0 .0 .0 .0 .0 .0 .1), ne-eqb n 6 (r .0 .0 .0 .0 .0 .0 .0 .0 .0 .0 .0 .0 .1), ne-eqb n 7 (r .0 .0 .0 .0 .0 .0 .0 .0 .0 .0 .0 .1), ne-eqb n 8 (r .0 .0 .0 .0 .0 .0 .0 .0 .0 .0 .1), ne-eqb n 9 (r .0 .0 .0 .0 .0 .0 .0 .0 .0 .1), ne-eqb n 10 (r .0 .0 .0 .0 .0 .0 .0 .0 .1), ne-eqb n 11 (r .0 .0 .0 .0 .0 .0 .0 .1), ne-eqb n 12 (r .0 .0 .0 .0 .0 .0 .1), ne-eqb n 13 (r .0 .0 .0 .0 .0 .1), ne-eqb n 14 (r .0 .0 .0 .0 .1), ne-eqb n 15 (r .0 .0 .0 .1), ne-eqb n 16 (r .0 .0 .1), ne-eqb n 20 (r .0 .1), ne-eqb n 28 (r .1))
+    left _ _ _ _ (ne-eqb n 1 (r .0 .0 .0 .0 .0 .0 .0 .0 .0 .0 .0 .0 .0 .0 .0 .0 .0 .1)) (
+    left _ _ _ _ (ne-eqb n 2 (r .0 .0 .0 .0 .0 .0 .0 .0 .0 .0 .0 .0 .0 .0 .0 .0 .1)) (
+    left _ _ _ _ (ne-eqb n 3 (r .0 .0 .0 .0 .0 .0 .0 .0 .0 .0 .0 .0 .0 .0 .0 .1)) (
+    left _ _ _ _ (ne-eqb n 4 (r .0 .0 .0 .0 .0 .0 .0 .0 .0 .0 .0 .0 .0 .0 .1)) (
+    left _ _ _ _ (ne-eqb n 5 (r .0 .0 .0 .0 .0 .0 .0 .0 .0 .0 .0 .0 .0 .1)) (
+    left _ _ _ _ (ne-eqb n 6 (r .0 .0 .0 .0 .0 .0 .0 .0 .0 .0 .0 .0 .1)) (
+    left _ _ _ _ (ne-eqb n 7 (r .0 .0 .0 .0 .0 .0 .0 .0 .0 .0 .0 .1)) (
+    left _ _ _ _ (ne-eqb n 8 (r .0 .0 .0 .0 .0 .0 .0 .0 .0 .0 .1)) (
+    left _ _ _ _ (ne-eqb n 9 (r .0 .0 .0 .0 .0 .0 .0 .0 .0 .1)) (
+    left _ _ _ _ (ne-eqb n 10 (r .0 .0 .0 .0 .0 .0 .0 .0 .1)) (
+    left _ _ _ _ (ne-eqb n 11 (r .0 .0 .0 .0 .0 .0 .0 .1)) (
+    left _ _ _ _ (ne-eqb n 12 (r .0 .0 .0 .0 .0 .0 .1)) (
+    left _ _ _ _ (ne-eqb n 13 (r .0 .0 .0 .0 .0 .1)) (
+    left _ _ _ _ (ne-eqb n 14 (r .0 .0 .0 .0 .1)) (
+    left _ _ _ _ (ne-eqb n 15 (r .0 .0 .0 .1)) (
+    left _ _ _ _ (ne-eqb n 16 (r .0 .0 .1)) (
+    left _ _ _ _ (ne-eqb n 20 (r .0 .1)) (
+    left _ _ _ _ (ne-eqb n 28 (r .1)) (
+    refl))))))))))))))))))
 
 pub made-spec : {M : Type 1} → statement M
 made-spec =
