@@ -502,7 +502,9 @@ class Bad(Served):
 class Serving(unittest.TestCase):
     def serve(self, *lent: object) -> "subprocess.Popen[str]":
         """A process that serves the page."""
-        code = f"import sys; from lanecockle import page; sys.exit(page.serve(*{lent!r}))"
+        # where the tests run in the background of a shell, a process of theirs would ignore the signal that ends the page
+        code = ("import signal, sys; signal.signal(signal.SIGINT, signal.default_int_handler); "
+                f"from lanecockle import page; sys.exit(page.serve(*{lent!r}))")
         environment = dict(os.environ, PYTHONPATH=str(PACKAGE.parent))
         process = subprocess.Popen([sys.executable, "-B", "-W", "error", "-c", code], env=environment, text=True,
                                    stdout=subprocess.PIPE, stderr=subprocess.PIPE)
