@@ -11,6 +11,9 @@ use second::reference::{Model, MODELS};
 use second::wet::{list_iban, list_reference, WHOLE_ROOM};
 use std::hint::black_box;
 
+/// How many times as fast as digit by digit an IBAN is checked (document 02,
+/// W3).
+const DIGIT_BY_DIGIT: f64 = 3.0;
 /// The bar of a listing of four marks.
 const LISTING: f64 = 0.002;
 
@@ -23,6 +26,13 @@ pub fn run(size: Size, sheet: &mut Sheet) {
         |text| account::iban(text),
     );
     sheet.operations("IBAN", race, Bar::Ratio);
+    let race = over(
+        size,
+        &texts,
+        |text| lane::iban(text),
+        |text| account::iban_digit_by_digit(text),
+    );
+    sheet.operations("IBAN, digit by digit", race, Bar::Times(DIGIT_BY_DIGIT));
 
     let texts = made(2, oib);
     let race = over(
