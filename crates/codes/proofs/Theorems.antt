@@ -1,9 +1,9 @@
 -- What is promised of the codes: 55 of three digits, ascending; each is found at its place, and nothing else is found.
 -- Assumes nothing.
-use Rattle.refusal.proofs.Basics.{_≡_, refl, arith, ℕ, zero, suc, _≤_, _<_, length, getD, ltb-true, leb-true, eq-eqb, ne-eqb, List, [], _∷_, Bool, true, _&&_, ltb, leb, _↔_, both-true}
+use Rattle.refusal.proofs.Basics.{_≡_, refl, arith, ℕ, zero, suc, _≤_, _<_, length, getD, ltb-true, leb-true, eq-eqb, ne-eqb, List, [], _∷_, Bool, true, false≢true, _&&_, ltb, leb, _↔_, both-true}
 use Rattle.text.specs.declared.Found.{Found}
 use Rattle.text.specs.declared.Found.the-variants.{At, Nothing}
-use Rattle.codes.specs.Codes.{codes, firstIn, codePlace}
+use Rattle.codes.specs.Codes.{codes, firstIn, codePlace, isFound, isCode}
 use Rattle.codes.proofs.Laws.{place-tells}
 
 -- ---------------------------------------------------------------------------
@@ -83,6 +83,15 @@ module _ (n : ℕ) where
       back : (f : Found) → codePlace n ≡ f → ((i : ℕ) → i < 55 → getD codes i 0 ≡ n → ⊥) → codePlace n ≡ Nothing
       back (At i) e g = let w = place-exactly i .0 e in absurd (g i (w .0) (w .1))
       back Nothing e g = e
+
+  -- a number is a code exactly when it stands in the list
+  pub code-exactly : (isCode n ≡ true) ↔ ((i : ℕ) × (i < 55) × (getD codes i 0 ≡ n))
+  unfolding isCode
+  code-exactly = (there (codePlace n) refl, λ w. rw (place-exactly (w .0) .1 (w .1, w .2)))
+    where
+      there : (f : Found) → codePlace n ≡ f → isFound f ≡ true → (i : ℕ) × (i < 55) × (getD codes i 0 ≡ n)
+      there (At i) e t = let w = place-exactly i .0 e in (i, w .0, w .1)
+      there Nothing e t = absurd (false≢true t)
 
   -- a code has three digits
   pub code-bounds : (i : ℕ) → codePlace n ≡ At i → (100 ≤ n) × (n ≤ 699)

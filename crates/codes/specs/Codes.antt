@@ -1,5 +1,5 @@
 -- Source 004, the list of kinds of personal income: the 55 codes, in its order.
-use Rattle.refusal.specs.Basics.{ℕ, cond, List, [], _∷_, eqb}
+use Rattle.refusal.specs.Basics.{ℕ, Bool, true, false, cond, List, [], _∷_, eqb}
 use Rattle.text.specs.Bytes.{later}
 use Rattle.text.specs.declared.Found.{Found}
 use Rattle.text.specs.declared.Found.the-variants.{At, Nothing}
@@ -22,3 +22,12 @@ firstIn n (c ∷ cs) = cond (eqb n c) (At 0) (later (firstIn n cs))
 -- where a code stands in the list; another number stands nowhere
 unfoldable pub codePlace : ℕ → Found
 codePlace n = firstIn n codes
+
+-- whether something was found
+abbrev pub isFound : Found → Bool
+isFound (At i) = true
+isFound Nothing = false
+
+-- "a code of 004's list"
+unfoldable pub isCode : ℕ → Bool
+isCode n = isFound (codePlace n)

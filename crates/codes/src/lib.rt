@@ -1,8 +1,9 @@
 // The codes of kinds of personal income.
 //
-// Source 004's list, "ŠIFARNIK VRSTA OSOBNIH PRIMANJA": 55 codes, ascending. Requests W4, W6 and W14 go by it too.
+// Source 004's list, "ŠIFARNIK VRSTA OSOBNIH PRIMANJA": 55 codes, ascending. A wage order's code and the third part of a wage
+// reference (document 02, W4) are of it; requests W6 and W14 go by it too.
 ghost use mathlib.Core.Path.{_≡_};
-ghost use Rattle.codes.specs.Codes.{firstIn, codePlace};
+ghost use Rattle.codes.specs.Codes.{firstIn, codePlace, isCode};
 use text::Found;
 
 // The codes, in the order of the list.
@@ -91,4 +92,14 @@ pub fn place(code: u64) -> Found
 {
     let list = CODES;
     place_in(&list, code)
+}
+
+// Whether a number is a code of the list.
+pub fn is_code(n: u64) -> bool
+    ensures { λ r. ⌜ r ≡ isCode n ⌝ }
+{
+    match place(n) {
+        Found::At(_) => true,
+        Found::Nothing => false,
+    }
 }

@@ -1,4 +1,4 @@
 -- The laws of the crate `groups`.
-pub mod Stretches
+pub mod Laws
 pub mod Theorems
 pub mod One

@@ -5,3 +5,6 @@ use Rattle.groups.proofs as here
 
 pub obeys-at-one : One _ here.obeys_at.Kinds.ps here.obeys_at.Kinds.r here.obeys_at.Reads.Post
 obeys-at-one κs a z z′ w w′ p q = p ∙ sym q
+
+pub groups-at-one : One _ here.groups_at.Kinds.ps here.groups_at.Kinds.r here.groups_at.Reads.Post
+groups-at-one κs a z z′ w w′ p q = p ∙ sym q

@@ -1,9 +1,10 @@
 -- What is promised of check groups, over every list of groups and every text.
 -- Assumes nothing.
-use Rattle.refusal.proofs.Basics.{_≡_, refl, sym, arith, ℕ, List, [], _∷_, List·Memᴰ, List·Memᴰ·head, List·Memᴰ·tail, List·Memᴰ·not-nil, List·Memᴰ·cases-cons, true, _↔_, ⊎-elim, both-true, and-second}
+use Rattle.refusal.proofs.Basics.{_≡_, refl, arith, ℕ, List, [], _∷_, List·Memᴰ, true, _↔_}
 use Rattle.text.specs.Split.{joined}
 use Rattle.check_digits.specs.CheckDigit.{passes}
 use Rattle.models.specs.declared.Group.{Group}
+use Rattle.models.proofs.Every.{every-each, each-every}
 use Rattle.groups.specs.Groups.{present, groupRight, groupsRight}
 
 -- ---------------------------------------------------------------------------
@@ -23,16 +24,8 @@ group-ends g ps = go (present g ps)
 
 -- where the groups are right, every one of them ends in its check digit
 pub groups-right-every : (gs : List Group) (ps : List (List ℕ)) → groupsRight gs ps ≡ true → (g : Group) → List·Memᴰ g gs → EndsRight g ps
-unfolding groupsRight
-groups-right-every [] ps e g m = absurd (List·Memᴰ·not-nil m)
-groups-right-every (h ∷ gs) ps e g m =
-    let w = both-true (groupRight h (present h ps)) (groupsRight gs ps) e in
-    ⊎-elim (λ (q : g ≡ h). rw q (group-ends h ps .0 (w .0))) (groups-right-every gs ps (w .1) g) (List·Memᴰ·cases-cons m)
+groups-right-every gs ps e g m = group-ends g ps .0 (every-each (λ (h : Group). groupRight h (present h ps)) gs e g m)
 
 -- and where every one does, the groups are right
 pub every-groups-right : (gs : List Group) (ps : List (List ℕ)) → ((g : Group) → List·Memᴰ g gs → EndsRight g ps) → groupsRight gs ps ≡ true
-unfolding groupsRight
-every-groups-right [] ps h = refl
-every-groups-right (g ∷ gs) ps h =
-    sym (and-second (groupRight g (present g ps)) (groupsRight gs ps) true (group-ends g ps .1 (h g (List·Memᴰ·head refl)))
-    (sym (every-groups-right gs ps (λ k m. h k (List·Memᴰ·tail m)))))
+every-groups-right gs ps h = each-every (λ (g : Group). groupRight g (present g ps)) gs (λ g m. group-ends g ps .1 (h g m))

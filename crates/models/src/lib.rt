@@ -1,10 +1,10 @@
 // The models of references: each model's rules as one value.
 //
-// Document 01, "Reference models", with source 003. A model's choices stand in one decision, `rules` and `special`;
-// whoever judges a reference goes by the value that it gives.
+// Document 01, "Reference models", with source 003, and document 02, W4. A model's choices stand in one decision, `rules` and
+// `special`; whoever judges a reference goes by the value that it gives.
 ghost use mathlib.Core.Path.{_≡_};
 ghost use Prim.Native.Nat.{_≤_, _<_, _+_};
-ghost use Rattle.models.specs.Models.{model, plain, over, modelOf, specialOf};
+ghost use Rattle.models.specs.Models.{asks, holding, model, plain, over, modelOf, specialOf};
 use check_digits::Rule;
 
 // A check group: how many parts stand before it, how many it joins, and the rule that its last digit obeys.
@@ -14,12 +14,27 @@ pub struct Group {
     pub rule: Rule,
 }
 
-// A model's rules: how many parts, the least and most digits of each of four, and its check groups.
+// What a part may be asked to hold: a given number, or a code of kinds of personal income (crate `codes`).
+pub enum Content {
+    Number(u32),
+    Code,
+}
+
+// What is asked of one part: how many parts stand before it, and what it holds.
+pub struct Asked {
+    pub skipped: u8,
+    pub content: Content,
+}
+
+// A model's rules: how many parts, the least and most digits of each of four, from how many parts on it asks what two of them
+// hold (from none is never), and its check groups.
 pub struct Model {
     pub handled: bool,
     pub fewest: u8,
     pub most: u8,
     pub lengths: [u8; 8],
+    pub from: u8,
+    pub asked: [Asked; 2],
     pub groups: [Group; 4],
 }
 
@@ -35,17 +50,48 @@ fn joined(rule: Rule, first: u8, last: u8) -> Group
     }
 }
 
-// A model of its parts, lengths and three groups.
+// What a part, counted from 1, is asked to hold.
+fn asking(content: Content, part: u8) -> Asked
+    requires { ⌜ 0 < part ⌝ }
+    ensures { λ r. ⌜ r ≡ asks content part ⌝ }
+{
+    Asked {
+        skipped: part - 1,
+        content,
+    }
+}
+
+// A model of its parts, lengths and three groups, whose parts may hold anything.
 fn ruled(fewest: u8, most: u8, lengths: [u8; 8], g: Group, h: Group, k: Group) -> Model
     ensures { λ r. ⌜ r ≡ model fewest most lengths g h k ⌝ }
 {
     let none = joined(Rule::Ini, 1, 0);
+    let nothing = asking(Content::Number(0), 1);
     Model {
         handled: true,
         fewest,
         most,
         lengths,
+        from: 0,
+        asked: [nothing, nothing],
         groups: [g, h, k, none],
+    }
+}
+
+// A model of which two parts hold what is asked, from so many parts on.
+fn holding(from: u8, a: Asked, b: Asked, model: Model) -> Model
+    ensures { λ r. ⌜ r ≡ holding from a b model ⌝ }
+{
+    let lengths = model.lengths;
+    let groups = model.groups;
+    Model {
+        handled: model.handled,
+        fewest: model.fewest,
+        most: model.most,
+        lengths,
+        from,
+        asked: [a, b],
+        groups,
     }
 }
 
@@ -85,7 +131,7 @@ pub fn rules(n: usize) -> Model
     }
 }
 
-// The rules of the models with lengths or a check of their own; another number is not handled.
+// The rules of the models with lengths, contents or a check of their own; another number is not handled.
 fn special(n: usize) -> Model
     ensures { λ r. ⌜ r ≡ specialOf n ⌝ }
 {
@@ -103,14 +149,24 @@ fn special(n: usize) -> Model
         ),
         17 => common(joined(Rule::Mod1110, 1, 1), none, none),
         35 => ruled(2, 2, [1, 10, 11, 11, 1, 12, 1, 12], one, two, none),
-        69 => ruled(2, 3, [5, 5, 11, 11, 3, 3, 1, 12], one, two, none),
+        69 => holding(
+            3,
+            asking(Content::Number(40002), 1),
+            asking(Content::Code, 3),
+            ruled(2, 3, [5, 5, 11, 11, 3, 3, 1, 12], one, two, none),
+        ),
         99 => ruled(0, 0, [1, 12, 1, 12, 1, 12, 1, 12], none, none, none),
-        _ => Model {
-            handled: false,
-            fewest: 0,
-            most: 0,
-            lengths: [1, 12, 1, 12, 1, 12, 1, 12],
-            groups: [none, none, none, none],
-        },
+        _ => {
+            let nothing = asking(Content::Number(0), 1);
+            Model {
+                handled: false,
+                fewest: 0,
+                most: 0,
+                lengths: [1, 12, 1, 12, 1, 12, 1, 12],
+                from: 0,
+                asked: [nothing, nothing],
+                groups: [none, none, none, none],
+            }
+        }
     }
 }

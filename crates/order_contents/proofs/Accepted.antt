@@ -12,11 +12,11 @@ use Rattle.model_text.specs.Texts.{modelNumber, modelFrom}
 use Rattle.model_text.proofs.Theorems.{HandledModel, model-accepted-exactly}
 use Rattle.reference.specs.Answers.{numberVerdict}
 use Rattle.reference.proofs.Theorems.{RightReference, reference-accepted-exactly}
-use Rattle.codes.specs.Codes.{codePlace}
+use Rattle.codes.specs.Codes.{isCode}
 use Rattle.sums.specs.Sums.{numberIn}
 use Rattle.order_contents.specs.declared.Held.the-variants.{Blank}
 use Rattle.wage_contents.specs.Contents.{tested, oneOf}
-use Rattle.order_contents.specs.Contents.{isFound, purposePlaceVerdict, signVerdict, heldFrom, heldIn, heldBlank, heldVerdict, referenceHeld, descriptionVerdict, codeVerdict}
+use Rattle.order_contents.specs.Contents.{purposePlaceVerdict, signVerdict, heldFrom, heldIn, heldBlank, heldVerdict, referenceHeld, descriptionVerdict, codeVerdict}
 use Rattle.wage_contents.proofs.Accepted.{Exactly, after-bytes, if-tested}
 
 -- blank or letters
@@ -81,7 +81,7 @@ unfolding descriptionVerdict
 description-accepted f = after-bytes Description f _ 5 refl
 
 -- a code, and with it the model that code 500 needs
-pub code-accepted : (kind : ℕ) (blank : Bool) (f : List ℕ) → Exactly (codeVerdict kind blank f) (allOf Digits f && (isFound (codePlace (numberIn f)) && not (eqb kind 5 && (eqb (numberIn f) 500 && blank))))
+pub code-accepted : (kind : ℕ) (blank : Bool) (f : List ℕ) → Exactly (codeVerdict kind blank f) (allOf Digits f && (isCode (numberIn f) && not (eqb kind 5 && (eqb (numberIn f) 500 && blank))))
 unfolding codeVerdict
 code-accepted kind blank f = after-bytes Digits f _ 5 refl
 
@@ -97,5 +97,5 @@ held-blank m = go (allOf Blanks m) (modelNumber m)
 
 -- "For kind 5, code 500 with a blank recipient's model is 5": m is the place of the recipient's model
 pub code-modelled-accepted :
-    (kind : ℕ) (m f : List ℕ) → Exactly (codeVerdict kind (heldBlank (heldIn m)) f) (allOf Digits f && (isFound (codePlace (numberIn f)) && not (eqb kind 5 && (eqb (numberIn f) 500 && allOf Blanks m))))
+    (kind : ℕ) (m f : List ℕ) → Exactly (codeVerdict kind (heldBlank (heldIn m)) f) (allOf Digits f && (isCode (numberIn f) && not (eqb kind 5 && (eqb (numberIn f) 500 && allOf Blanks m))))
 code-modelled-accepted kind m f = rw (← held-blank m) (code-accepted kind (heldBlank (heldIn m)) f)

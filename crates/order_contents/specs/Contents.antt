@@ -8,7 +8,7 @@ use Rattle.text.specs.declared.Found.{Found}
 use Rattle.text.specs.declared.Found.the-variants.{At, Nothing}
 use Rattle.model_text.specs.Texts.{modelNumber, modelFrom}
 use Rattle.reference.specs.Answers.{numberVerdict}
-use Rattle.codes.specs.Codes.{codePlace}
+use Rattle.codes.specs.Codes.{isCode}
 use Rattle.sums.specs.Sums.{numberIn}
 use Rattle.order_contents.specs.declared.Held.{Held}
 use Rattle.order_contents.specs.declared.Held.the-variants.{Blank, NoModel, Number}
@@ -66,11 +66,6 @@ referenceHeld h f = bareHeld h (trimmed f)
 unfoldable pub descriptionVerdict : List ℕ → ℕ
 descriptionVerdict f = tested Description f (not (allOf Blanks f)) 5
 
--- whether something was found
-abbrev pub isFound : Found → Bool
-isFound (At i) = true
-isFound Nothing = false
-
 -- "a code of 004's list"; "For kind 5, code 500 with a blank recipient's model is 5"
 unfoldable pub codeVerdict : ℕ → Bool → List ℕ → ℕ
-codeVerdict kind blank f = tested Digits f (isFound (codePlace (numberIn f)) && not (eqb kind 5 && (eqb (numberIn f) 500 && blank))) 5
+codeVerdict kind blank f = tested Digits f (isCode (numberIn f) && not (eqb kind 5 && (eqb (numberIn f) 500 && blank))) 5

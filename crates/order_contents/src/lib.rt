@@ -1,11 +1,10 @@
 // What only a 309 holds: purpose, sign, model and reference, description and code, one rule for each.
 //
 // Document 01, "The wage file". Each rule answers a verdict, as those of `wage_contents` do: 0, or within a field 3 with its
-// byte counted within the place, 5, 7, 8, 9.
+// byte counted within the place, 5, 7, 8, 5 of a reference's contents, 9.
 ghost use mathlib.Core.Path.{_≡_};
 ghost use lib.ListN.{getD};
-ghost use Rattle.codes.specs.Codes.{codePlace};
-ghost use Rattle.order_contents.specs.Contents.{purposePlaceVerdict, signVerdict, heldIn, heldBlank, heldVerdict, referenceHeld, descriptionVerdict, isFound, codeVerdict};
+ghost use Rattle.order_contents.specs.Contents.{purposePlaceVerdict, signVerdict, heldIn, heldBlank, heldVerdict, referenceHeld, descriptionVerdict, codeVerdict};
 use classes::Class;
 use text::Found;
 
@@ -75,7 +74,7 @@ pub fn judge_model(held: Held) -> usize
     }
 }
 
-// A reference by what its model's place holds: 3, 8, 9, and the model's own 5 and 7.
+// A reference by what its model's place holds: 3, 8, 5, 9, and the model's own 5 and 7.
 pub fn judge_reference(held: Held, f: &[u8]) -> usize
     ensures { λ r. ⌜ r ≡ referenceHeld held (now (f .entry)) ⌝ }
 {
@@ -100,16 +99,6 @@ pub fn judge_description(f: &[u8]) -> usize
     wage_contents::only_if(!text::all_blank(f), 5)
 }
 
-// Whether a number is a code of 004's list.
-fn is_code(v: u64) -> bool
-    ensures { λ r. ⌜ r ≡ isFound (codePlace v) ⌝ }
-{
-    match codes::place(v) {
-        Found::At(_) => true,
-        Found::Nothing => false,
-    }
-}
-
 // Whether a model's place holds nothing.
 fn is_blank(held: Held) -> bool
     ensures { λ r. ⌜ r ≡ heldBlank held ⌝ }
@@ -130,7 +119,7 @@ pub fn judge_code(kind: u64, recipient: Held, f: &[u8]) -> usize
     wage_contents::judge_tested(
         Class::Digits,
         f,
-        is_code(v) & !((kind == 5) & ((v == 500) & blank)),
+        codes::is_code(v) & !((kind == 5) & ((v == 500) & blank)),
         5,
     )
 }

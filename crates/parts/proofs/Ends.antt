@@ -57,7 +57,7 @@ parts-span (b ∷ s) h = omega (arith, short-span (b ∷ s) 0 (omega arith))
 -- The number of parts
 
 -- there is no part k where there are no more than k
-count-ends : (k : ℕ) (ps : List (List ℕ)) → Solid ps → spanOf ps ≤ 1024 → eqb (endOf k (endsFrom 0 ps)) 0 ≡ leb (length ps) k
+pub count-ends : (k : ℕ) (ps : List (List ℕ)) → Solid ps → spanOf ps ≤ 1024 → eqb (endOf k (endsFrom 0 ps)) 0 ≡ leb (length ps) k
 count-ends k ps s h = go (ltb k (length ps)) refl
   where
     go : (b : Bool) → ltb k (length ps) ≡ b → eqb (endOf k (endsFrom 0 ps)) 0 ≡ leb (length ps) k

@@ -4,7 +4,6 @@ use Rattle.refusal.proofs.Basics.{_≡_, refl, arith, ℕ, _+_, _-_, _<_, lengt
 use Rattle.refusal.specs.Refusal.{refusalNumber}
 use Rattle.refusal.specs.declared.Answer.the-variants.{Refused}
 use Rattle.verdict.specs.Verdict.{onlyIf, andThen}
-use Rattle.verdict.proofs.Verdicts.{answer-accepted, accepted-answer}
 use Rattle.classes.specs.declared.Class.{Class}
 use Rattle.classes.specs.declared.Class.the-variants.{Digits, Account, Reference}
 use Rattle.text.specs.Bytes.{allOf, found, firstBad, bytesVerdict}
@@ -23,7 +22,8 @@ use Rattle.account.proofs.Theorems.{iban-field-exactly, oib-accepted-exactly, w
 use Rattle.models.specs.Models.{modelOf}
 use Rattle.model_text.specs.Texts.{modelNumber}
 use Rattle.parts.specs.Parts.{partsOf, formed}
-use Rattle.groups.specs.Groups.{partsRight}
+use Rattle.part_contents.specs.Contents.{contentsRight}
+use Rattle.groups.specs.Groups.{groupsRight}
 use Rattle.reference.specs.Answers.{numberVerdict, referenceVerdict}
 use Rattle.reference.proofs.Theorems.{RightReference, reference-accepted-exactly}
 use Rattle.boundary.specs.declared.Told.{Told}
@@ -31,17 +31,11 @@ use Rattle.boundary.specs.declared.Valued.{Valued}
 use Rattle.boundary.specs.Told.{valued, noRule, toldOf, verdictTold}
 use Rattle.boundary.proofs.Theorems.{number-not-zero}
 use Rattle.desk_checks.specs.Made.{madeOf}
-use Rattle.promises.proofs.Laws.{told-zero}
+use Rattle.promises.proofs.Laws.{told-zero, verdict-zero}
 use Rattle.promises.specs.Calls.{EveryCheckDigits, EveryMakeDigit, EveryIban, EveryOib, EveryReference}
 
 -- ---------------------------------------------------------------------------
 -- Accepted exactly when
-
--- a call that tells a verdict answers 0 exactly when its rule holds
-verdict-zero : {A : Type 0} (v : ℕ) (z : Told) → z ≡ verdictTold v → (v ≡ 0) ↔ A → (z .number ≡ 0) ↔ A
-verdict-zero v z e rule =
-    let zero = told-zero _ z e in
-    (λ h. rule .0 (answer-accepted v 0 _ (zero .0 h)), λ a. zero .1 (accepted-answer v 0 _ (rule .1 a)))
 
 -- an IBAN is accepted exactly when it is `HR` and nineteen digits that pass its check
 pub iban-exactly : EveryIban (λ text r. (r .number ≡ 0) ↔ (isIban text ≡ true))
@@ -123,7 +117,8 @@ number-tells s (At k) =
     then-tells n _ _ (only-tells n (model .handled) 7 refl)
     (then-tells n _ _ (bytes-tell Reference s)
     (then-tells n _ _ (only-tells n (leb n 22) 4 refl)
-    (then-tells n _ _ (only-tells n (formed model s) 8 refl) (only-tells n (partsRight model (partsOf s)) 9 refl))))
+    (then-tells n _ _ (only-tells n (formed model s) 8 refl)
+    (then-tells n _ _ (only-tells n (contentsRight model (partsOf s)) 5 refl) (only-tells n (groupsRight (model .groups) (partsOf s)) 9 refl)))))
 number-tells s Nothing = other-tells (length s) 5 refl
 
 -- the answer that tells it

@@ -8,4 +8,5 @@ pub mod Numbers
 pub mod Refusals
 pub mod Slips
 pub mod Untouched
+pub mod WageReferences
 pub mod Wages

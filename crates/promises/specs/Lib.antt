@@ -3,4 +3,5 @@ pub mod Calls
 pub mod Listings
 pub mod Refusals
 pub mod Standings
+pub mod WageReferences
 pub mod Wages

@@ -14,7 +14,8 @@ use Rattle.model_text.proofs.Theorems.{HandledModel}
 use Rattle.models.specs.Models.{modelOf}
 use Rattle.parts.specs.Parts.{partsOf, formed}
 use Rattle.parts.proofs.Pieces.{formed-bytes}
-use Rattle.groups.specs.Groups.{partsRight}
+use Rattle.part_contents.specs.Contents.{contentsRight}
+use Rattle.groups.specs.Groups.{groupsRight, partsRight}
 use Rattle.reference.specs.Answers.{obeys, textVerdict, modelledVerdict, numberVerdict, referenceVerdict}
 
 -- ---------------------------------------------------------------------------
@@ -29,13 +30,15 @@ accepted-obeys model s = (λ e. accepted e, λ e. obeyed e)
         let a = both-pass (bytesVerdict Reference s) _ e in
         let b = both-pass (onlyIf (leb (length s) 22) 4) _ (a .1) in
         let c = both-pass (onlyIf (formed model s) 8) _ (b .1) in
-        rw (test-holds (leb (length s) 22) 4 refl (b .0), test-holds (formed model s) 8 refl (c .0), test-holds (partsRight model (partsOf s)) 9 refl (c .1))
+        let d = both-pass (onlyIf (contentsRight model (partsOf s)) 5) _ (c .1) in
+        rw (test-holds (leb (length s) 22) 4 refl (b .0), test-holds (formed model s) 8 refl (c .0), test-holds (contentsRight model (partsOf s)) 5 refl (d .0), test-holds (groupsRight (model .groups) (partsOf s)) 9 refl (d .1))
 
     obeyed : (leb (length s) 22 && obeys model s) ≡ true → textVerdict model s ≡ 0
     obeyed e =
         let a = both-true (leb (length s) 22) (obeys model s) e in
         let b = both-true (formed model s) (partsRight model (partsOf s)) (a .1) in
-        rw (all-passes Reference s (formed-bytes model s (b .0)), a .0, b .0, b .1)
+        let c = both-true (contentsRight model (partsOf s)) (groupsRight (model .groups) (partsOf s)) (b .1) in
+        rw (all-passes Reference s (formed-bytes model s (b .0)), a .0, b .0, c .0, c .1)
 
 -- "digits and hyphens, at most 22 characters, obeying the model": the text s is a reference of the model whose text is m
 pub record RightReference (m s : List ℕ) : Type 0 where
@@ -80,7 +83,8 @@ modelled-within model s =
     then-within n _ _ (only (model .handled) 7 (omega arith))
     (then-within n _ _ (bytes-within Reference s)
     (then-within n _ _ (only (leb n 22) 4 (omega arith))
-    (then-within n _ _ (only (formed model s) 8 (omega arith)) (only (partsRight model (partsOf s)) 9 (omega arith)))))
+    (then-within n _ _ (only (formed model s) 8 (omega arith))
+    (then-within n _ _ (only (contentsRight model (partsOf s)) 5 (omega arith)) (only (groupsRight (model .groups) (partsOf s)) 9 (omega arith))))))
 
 number-within : (s : List ℕ) (f : Found) → Within (length s) (numberVerdict s f)
 number-within s (At n) = modelled-within (modelOf n) s

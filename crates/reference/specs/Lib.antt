@@ -1,2 +1,3 @@
 -- The definitions of the crate `reference`.
 pub mod Answers
+pub mod Before

@@ -1,6 +1,7 @@
 // References: whether a text obeys its model, and what judging one answers.
 //
-// Document 01, "Reference models". A model is the value that `models` gives; `parts` reads the text, `groups` checks it.
+// Document 01, "Reference models", and document 02, W4. A model is the value that `models` gives; `parts` reads the text,
+// `part_contents` and `groups` check it.
 ghost use mathlib.Core.Path.{_≡_};
 ghost use Rattle.models.specs.Models.{modelOf};
 ghost use Rattle.reference.specs.Answers.{obeys, modelledVerdict, referenceVerdict};
@@ -8,7 +9,7 @@ use classes::Class;
 use models::Model;
 use text::Found;
 
-// Whether a text obeys a model: its parts, and their check groups.
+// Whether a text obeys a model: its parts, what they hold, and their check groups.
 pub fn obeys(model: Model, s: &[u8]) -> bool
     ensures { λ r. ⌜ r ≡ obeys model (now (s .entry)) ⌝ }
 {
@@ -18,8 +19,8 @@ pub fn obeys(model: Model, s: &[u8]) -> bool
     }
 }
 
-// A reference under a model's rules: 7, then 3 with its byte, 4, 8 and 9. What is formed has no byte for 3, so that only
-// what is not is looked through for one; an empty one has no group to check.
+// A reference under a model's rules: 7, then 3 with its byte, 4, 8, 5 and 9. What is formed has no byte for 3, so that only
+// what is not is looked through for one; of an empty one nothing is asked.
 fn judged(model: Model, s: &[u8]) -> usize
     ensures { λ r. ⌜ r ≡ modelledVerdict model (now (s .entry)) ⌝ }
 {
@@ -34,7 +35,10 @@ fn judged(model: Model, s: &[u8]) -> usize
             if 22 < s.len() {
                 return 4;
             }
-            if groups::obeys_at(model, ends, s) {
+            if !part_contents::contents_at(model, ends, s) {
+                return 5;
+            }
+            if groups::groups_at(model, ends, s) {
                 return 0;
             }
             9
@@ -59,7 +63,7 @@ pub fn numbered(n: usize, s: &[u8]) -> usize
     judged(models::rules(n), s)
 }
 
-// A reference by its model's text: 5 and 7 of the model, then 3 with its byte, 4, 8 and 9 of the reference.
+// A reference by its model's text: 5 and 7 of the model, then 3 with its byte, 4, 8, 5 and 9 of the reference.
 pub fn reference(model: &[u8], s: &[u8]) -> usize
     ensures { λ r. ⌜ r ≡ referenceVerdict (now (model .entry)) (now (s .entry)) ⌝ }
 {

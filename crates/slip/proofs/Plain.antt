@@ -14,7 +14,8 @@ use Rattle.models.specs.Models.{modelOf}
 use Rattle.model_text.specs.Texts.{modelNumber}
 use Rattle.model_text.proofs.Theorems.{HandledModel}
 use Rattle.parts.specs.Parts.{partsOf, formed}
-use Rattle.groups.specs.Groups.{present, partsRight}
+use Rattle.part_contents.specs.Contents.{contentsRight}
+use Rattle.groups.specs.Groups.{present, groupsRight, partsRight}
 use Rattle.groups.proofs.Theorems.{groups-right-every}
 use Rattle.reference.proofs.Theorems.{RightReference}
 use Rattle.slip_fields.specs.declared.Currency.{Currency}
@@ -139,7 +140,8 @@ module _ (c : Currency) (s : List ℕ) where
       let w = accepted-plainly .0 e .twelfth in
       let z : w .model .number ≡ n = same-number (sym (w .model .named) ∙ q) in
       let o = both-true (formed (modelOf n) (fieldText s 12)) (partsRight (modelOf n) (partsOf (fieldText s 12))) (rw z at (w .obeyed)) in
-      groups-right-every (modelOf n .groups) (partsOf (fieldText s 12)) (o .1) g m
+      let r = both-true (contentsRight (modelOf n) (partsOf (fieldText s 12))) (groupsRight (modelOf n .groups) (partsOf (fieldText s 12))) (o .1) in
+      groups-right-every (modelOf n .groups) (partsOf (fieldText s 12)) (r .1) g m
     where
       same-number : {i j : ℕ} → At i ≡ At j → i ≡ j
       same-number p = cc

@@ -1,5 +1,5 @@
--- Document 01, "Both sides of the line": the starred cases, as a single table under a single claim, proved about the definitions by
--- computing them.
+-- Document 01, "Both sides of the line": the starred cases, and with them those of document 02, W4, as a single table under a single claim,
+-- proved about the definitions by computing them.
 -- Assumes nothing.
 use Rattle.refusal.proofs.Basics.{_≡_, refl, ℕ, List, [], _∷_, _++_, Bool, true, _&&_, eqb}
 use Rattle.refusal.specs.Refusal.{answerNumber}
@@ -10,10 +10,15 @@ use Rattle.text.specs.Split.{split, joined}
 use Rattle.check_digits.specs.CheckDigit.{weighted, carriedOver, checkDigit, passes}
 use Rattle.account.specs.Account.{ibanPasses, oibPasses}
 use Rattle.account.specs.Answers.{ibanVerdict, oibVerdict}
+use Rattle.codes.specs.Codes.{firstIn, codePlace, isCode}
+use Rattle.models.specs.Every.{every}
 use Rattle.models.specs.Models.{modelOf, specialOf}
 use Rattle.parts.specs.Parts.{partsOf, partsFit, formed}
-use Rattle.groups.specs.Groups.{groupRight, groupsRight}
-use Rattle.reference.specs.Answers.{referenceVerdict}
+use Rattle.part_contents.specs.Contents.{holds as partHolds, firstHolds}
+use Rattle.groups.specs.Groups.{groupRight}
+use Rattle.reference.specs.Answers.{obeys, referenceVerdict}
+use Rattle.filling.specs.Filling.{fill}
+use Rattle.fillings.specs.Fillings.{among, fillings}
 use Rattle.characters.specs.Characters.{firstWrong, characters}
 use Rattle.slip_fields.specs.Fields.{fieldVerdict}
 use Rattle.slip.specs.Slip.{fieldsAnswer, slipAnswerIn, slipAnswer}
@@ -85,6 +90,8 @@ data Case : Type 0 where
   oib : List ℕ → ℕ → Case
   reference : List ℕ → List (List ℕ) → ℕ → Case
   slip : List ℕ → ℕ → Case
+  -- a model's number, a wet text, and the numbers that are listed
+  listing : ℕ → List (List ℕ) → List ℕ → Case
 
 -- the answer is the expected one
 unfoldable holds : Case → Bool
@@ -92,6 +99,7 @@ holds (iban s n) = eqb (verdictNumber (ibanVerdict s)) n
 holds (oib s n) = eqb (verdictNumber (oibVerdict s)) n
 holds (reference m ps n) = eqb (verdictNumber (referenceVerdict m (dashed ps))) n
 holds (slip s n) = eqb (answerNumber (slipAnswer s)) n
+holds (listing k ps ns) = same ns (fillings (obeys (modelOf k)) (dashed ps))
 
 unfoldable allHold : List Case → Bool
 allHold [] = true
@@ -118,9 +126,14 @@ starred =
     ∷ (reference (HR 2 0) [] 8
     ∷ (slip (printed 19) 9
     ∷ (slip (printed 11) 0
-    ∷ [])))))))))))))))
+    -- W4: `40003-12345678904-999`, `40002-12345678903-10`, `40002-12345678903-101`, and `40002-12345678903-10?`, which lists 0 alone
+    ∷ (reference (HR 2 69) (digitsText 5 40003 ∷ (digitsText 11 12345678904 ∷ (digitsText 3 999 ∷ []))) 5
+    ∷ (reference (HR 2 69) (digitsText 5 40002 ∷ (digitsText 11 12345678903 ∷ (digitsText 2 10 ∷ []))) 8
+    ∷ (reference (HR 2 69) (digitsText 5 40002 ∷ (digitsText 11 12345678903 ∷ (digitsText 3 101 ∷ []))) 5
+    ∷ (listing 69 (digitsText 5 40002 ∷ (digitsText 11 12345678903 ∷ ((49 ∷ (48 ∷ (63 ∷ []))) ∷ []))) (0 ∷ [])
+    ∷ [])))))))))))))))))))
 
 -- the claim
 starred-cases-hold : allHold starred ≡ true
-unfolding starred allHold holds HR dashed digitsText firstBad bytesVerdict allOf digitsOf valueFrom split weighted carriedOver checkDigit passes ibanPasses oibPasses modelOf specialOf partsOf partsFit formed joined groupRight groupsRight printed slipText joinLines same firstWrong characters fieldVerdict countOf fieldsAnswer slipAnswerIn
+unfolding starred allHold holds HR dashed digitsText firstBad bytesVerdict allOf digitsOf valueFrom split weighted carriedOver checkDigit passes ibanPasses oibPasses modelOf specialOf every firstIn codePlace isCode partHolds firstHolds partsOf partsFit formed joined groupRight fill among fillings printed slipText joinLines same firstWrong characters fieldVerdict countOf fieldsAnswer slipAnswerIn
 starred-cases-hold = refl

@@ -10,7 +10,7 @@ use Rattle.account.specs.Account.{oibPasses}
 use Rattle.account.specs.Answers.{isIban}
 use Rattle.dates.specs.Dates.{isDate}
 use Rattle.sums.specs.Sums.{numberIn}
-use Rattle.codes.specs.Codes.{codePlace}
+use Rattle.codes.specs.Codes.{isCode}
 use Rattle.model_text.proofs.Theorems.{HandledModel}
 use Rattle.reference.proofs.Theorems.{RightReference}
 use Rattle.wage_places.specs.declared.LineType.{LineType}
@@ -23,7 +23,6 @@ use Rattle.wage_line.specs.Line.{typedOf}
 use Rattle.wage_line.proofs.Theorems.{typed-exactly}
 use Rattle.wage_contents.specs.Contents.{oneOf, twoOf}
 use Rattle.wage_contents.proofs.Accepted.{bytes-accepted, among-accepted, oib-accepted, employer-accepted, currency-accepted, zeros-accepted, today-accepted, later-accepted, iban-place-accepted, iban-whole-accepted}
-use Rattle.order_contents.specs.Contents.{isFound}
 use Rattle.order_contents.proofs.Accepted.{purpose-accepted, sign-accepted, model-accepted, reference-accepted, description-accepted, code-modelled-accepted}
 use Rattle.wage_fields.specs.Rules.{ruleVerdict, placesFrom, placesAnswer, RightLine}
 use Rattle.wage_fields.proofs.Laws.{accept-both}
@@ -100,7 +99,7 @@ pub record OrderPlaces (kind : ℕ) (s : List ℕ) : Type 0 where
   -- "549–551 a code of 004's list (55 codes)"; "For kind 5, code 500 with a blank recipient's model is 5 at field 22"
   pub field-22 :
       let f = partOf Order 22 s in
-      (allOf Digits f && (isFound (codePlace (numberIn f)) && not (eqb kind 5 && (eqb (numberIn f) 500 && allOf Blanks (partOf Order 11 s))))) ≡ true
+      (allOf Digits f && (isCode (numberIn f) && not (eqb kind 5 && (eqb (numberIn f) 500 && allOf Blanks (partOf Order 11 s))))) ≡ true
   -- "552–562 OIB or zeros, for kind 5 zeros are 5"
   pub field-23 : let f = partOf Order 23 s in (allOf Digits f && cond (allOf Zeros f) (not (eqb kind 5)) (oibPasses f)) ≡ true
 

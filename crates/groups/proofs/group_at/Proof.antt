@@ -1,5 +1,6 @@
 -- `groups::group_at` meets its contract: each return is the definition's choice on the tests that led there. Assumes nothing.
-use Rattle.refusal.proofs.Basics.{sym, _∙_, needs, eq-eqb, ne-eqb, taken, left, or-first, or-second}
+use Rattle.refusal.proofs.Basics.{sym, ap, _∙_, needs, eq-eqb, ne-eqb, taken, left, or-first, or-second}
+use Rattle.check_digits.specs.CheckDigit.{passes}
 use Rattle.groups.proofs.group_at.Statement.{statement}
 use Rattle.groups.proofs.group_at.Tie as tie
 
@@ -14,19 +15,10 @@ returns-2 c =
 
 returns-3 : tie.Need-returns-3
 returns-3 c =
-    let w = c .before .before .before .before .before .before .before .before .wide .ensures in
-    let v = c .before .before .before .before .before .before .before .wide2 .ensures in
-    let e = rw (w, v) at (c .before .before .end-of2 .ensures) in
-    left _ _ _ _ (sym (or-second _ _ _ (ne-eqb _ 0 (rw v at (c .before .before .before .before .before .before .if1 .left))) (sym (ne-eqb _ 0 (rw (c .before .before .before .before .before .end-of .ensures, w) at (c .before .before .before .before .if2 .left))))))
-    (rw (sym e ∙ c .before .if3 .taken, ← w, ← (c .before .before .before .start-of .ensures)) (c .stretch-right .ensures))
-
-returns-4 : tie.Need-returns-4
-returns-4 c =
-    let w = c .before .before .before .before .before .before .before .before .wide .ensures in
-    let v = c .before .before .before .before .before .before .before .wide2 .ensures in
-    let e = rw (w, v) at (c .before .before .end-of2 .ensures) in
-    left _ _ _ _ (sym (or-second _ _ _ (ne-eqb _ 0 (rw v at (c .before .before .before .before .before .before .if1 .left))) (sym (ne-eqb _ 0 (rw (c .before .before .before .before .before .end-of .ensures, w) at (c .before .before .before .before .if2 .left))))))
-    (rw (ne-eqb _ 0 (rw e at (c .before .if3 .left)), ← e, ← w, ← (c .before .before .before .start-of .ensures)) (c .stretch-right2 .ensures))
+    let w = c .before .before .before .before .before .before .wide .ensures in
+    let v = c .before .before .before .before .before .wide2 .ensures in
+    left _ _ _ _ (sym (or-second _ _ _ (ne-eqb _ 0 (rw v at (c .before .before .before .before .if1 .left))) (sym (ne-eqb _ 0 (rw (c .before .before .before .end-of .ensures, w) at (c .before .before .if2 .left))))))
+    (c .ends-right .ensures ∙ ap (passes (c .before .before .before .before .before .before .before .before .args .g .rule)) (rw (w, v) at (c .before .stretch .ensures)))
 
 pub group-at-spec : {M : Type 1} → statement M
 group-at-spec =
@@ -35,7 +27,5 @@ group-at-spec =
     returns
     (λ c κs. search needs)
     returns-2
-    (λ c κs. search needs) (λ c. search needs) (λ c. search needs) (λ c κs. search needs) (λ c κs. search needs)
-    returns-3
-    (λ c κs. search needs)
-    returns-4)
+    (λ c. search needs) (λ c. search needs) (λ c κs. search needs) (λ c κs. search needs)
+    returns-3)

@@ -1,7 +1,7 @@
--- `groups::start_of` meets its contract: the first part begins at 0, another behind the hyphen that ends the one before. Assumes nothing.
+-- `stretches::start_of` meets its contract: the first part begins at 0, another behind the hyphen that ends the one before. Assumes nothing.
 use Rattle.refusal.proofs.Basics.{needs, arith, ne-eqb}
-use Rattle.groups.proofs.start_of.Statement.{statement}
-use Rattle.groups.proofs.start_of.Tie as tie
+use Rattle.stretches.proofs.start_of.Statement.{statement}
+use Rattle.stretches.proofs.start_of.Tie as tie
 
 returns : tie.Need-returns
 returns c = rw (c .if1 .taken)

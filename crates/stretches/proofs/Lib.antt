@@ -1,0 +1,3 @@
+-- The laws of the crate `stretches`.
+pub mod Laws
+pub mod One

@@ -1,0 +1,2 @@
+-- The definitions of the crate `stretches`.
+pub mod Mirror
