@@ -3,7 +3,8 @@
 
 use crate::account::{iban, iban_check};
 use crate::checkdigit::{values, Rule};
-use crate::reference::{Model, LONGEST, MODELS};
+use crate::codes::CODES;
+use crate::reference::{Contents, Model, LONGEST, MODELS};
 use crate::refusal::Reason;
 use crate::wet::{divide, list, WHOLE_ROOM};
 use std::io::{self, Write};
@@ -229,9 +230,22 @@ fn shape(dice: &mut Dice, model: &Model) -> Vec<usize> {
     }
 }
 
-/// Digits in parts of these lengths, with the check digits of the model.
+/// Digits in parts of these lengths, with the contents and the check digits of
+/// the model.
 fn filled(dice: &mut Dice, model: &Model, lengths: &[usize]) -> Vec<u8> {
     let mut parts: Vec<Vec<u8>> = lengths.iter().map(|&l| dice.digits(l)).collect();
+    if parts.len() >= model.lengths.len() {
+        for held in model.held {
+            let contents = match held.contents {
+                Contents::Fixed(number) => number.to_string(),
+                Contents::Code => dice.pick(&CODES).to_string(),
+            };
+            // As much of it as a part of another length has room for.
+            for (digit, right) in parts[held.part].iter_mut().zip(contents.bytes()) {
+                *digit = right;
+            }
+        }
+    }
     for group in model.groups {
         let last = group.parts.end.min(parts.len());
         if group.parts.start < last {
@@ -284,6 +298,50 @@ pub fn misshapen(dice: &mut Dice, model: &Model) -> Vec<u8> {
         _ => {}
     }
     filled(dice, model, &lengths)
+}
+
+/// A wage reference (HR69 of three parts), right, or with one thing wrong in it
+/// or two.
+pub fn wage_reference(dice: &mut Dice) -> Vec<u8> {
+    let code = dice.pick(&CODES).to_string();
+    let mut parts = [b"40002".to_vec(), oib(dice), code.into_bytes()];
+    for _ in 0..*dice.pick(&[0, 0, 1, 1, 1, 2]) {
+        let any = dice.below(parts.len());
+        match dice.below(10) {
+            // Another first part whose check digit is right.
+            0 => parts[0] = b"40010".to_vec(),
+            1 | 2 => {
+                let body = dice.digits(4);
+                parts[0] = completed(Rule::Ini, body);
+            }
+            3..=5 => parts[2] = near_code(dice),
+            6 | 7 => {
+                let part = &mut parts[dice.below(2)];
+                let place = dice.below(part.len());
+                part[place] = dice.digit();
+            }
+            8 => parts[any].push(dice.digit()),
+            _ => drop(parts[any].pop()),
+        }
+    }
+    parts.join(&b'-')
+}
+
+/// Three digits beside a code of the list, or any three.
+fn near_code(dice: &mut Dice) -> Vec<u8> {
+    let code = *dice.pick(&CODES);
+    let three = |number: u16| format!("{number:03}").into_bytes();
+    match dice.below(6) {
+        0 => three(code + 1),
+        1 => three(code - 1),
+        2 => three(code + 10),
+        3 => dice.digits(3),
+        k => {
+            let mut digits = three(code);
+            digits.swap(k - 4, k - 3);
+            digits
+        }
+    }
 }
 
 fn damage(dice: &mut Dice, text: &mut Vec<u8>) {
@@ -409,6 +467,14 @@ pub fn model_and_text(dice: &mut Dice) -> (Vec<u8>, Vec<u8>) {
         }
         _ => format!("HR{:02}", model.number).into_bytes(),
     };
+    if dice.one_in(12) {
+        let name = if dice.one_in(4) {
+            name
+        } else {
+            b"HR69".to_vec()
+        };
+        return (name, wage_reference(dice));
+    }
     let text = match dice.below(16) {
         0 | 1 => at_the_limits(dice),
         2 | 3 => misshapen(dice, model),
@@ -464,7 +530,7 @@ fn wet_line(dice: &mut Dice) -> Vec<u8> {
         text
     } else {
         let (name, mut text) = model_and_text(dice);
-        wet(dice, &mut text, marks);
+        stain(dice, &mut text, marks);
         [name, text].join(&b' ')
     }
 }
@@ -477,6 +543,17 @@ pub fn wet(dice: &mut Dice, text: &mut [u8], marks: usize) {
     for _ in 0..marks.min(dry.len()) {
         let place = dry.swap_remove(dice.below(dry.len()));
         text[place] = b'?';
+    }
+}
+
+/// Makes so many of a reference's digits unreadable, at times the last: a check
+/// digit stands there, or a code.
+pub fn stain(dice: &mut Dice, text: &mut [u8], marks: usize) {
+    if dice.one_in(5) {
+        let digits = text.iter_mut().rev().filter(|b| b.is_ascii_digit());
+        digits.take(marks).for_each(|b| *b = b'?');
+    } else {
+        wet(dice, text, marks);
     }
 }
 
@@ -537,7 +614,8 @@ fn stray(dice: &mut Dice) -> Vec<u8> {
 mod tests {
     use super::*;
     use crate::cases::Desk;
-    use std::collections::BTreeSet;
+    use crate::refusal::Refusal;
+    use std::collections::{BTreeMap, BTreeSet};
 
     fn made(seed: u64, count: usize) -> Vec<u8> {
         let mut output = Vec::new();
@@ -558,6 +636,30 @@ mod tests {
         for model in MODELS.iter().cycle().take(16_000) {
             let text = reference(&mut dice, model);
             assert_eq!(model.judge(&text), Ok(()), "HR{:02} {text:?}", model.number);
+        }
+    }
+
+    /// Each with W4's answer and that of before it.
+    #[test]
+    fn wage_references_are_right_and_wrong() {
+        let model = Model::named(b"HR69").unwrap();
+        let number = |answer: Result<(), Refusal>| answer.map_or_else(|r| r.number(), |()| 0);
+        let mut dice = Dice::new(2);
+        let mut met: BTreeMap<[u8; 2], usize> = BTreeMap::new();
+        for _ in 0..10_000 {
+            let text = wage_reference(&mut dice);
+            let answers = [model.judge(&text), model.judge_before_w4(&text)].map(number);
+            *met.entry(answers).or_default() += 1;
+        }
+        for (answers, least) in [
+            ([0, 0], 3_000),
+            ([5, 0], 1_000),
+            ([5, 9], 300),
+            ([8, 8], 500),
+            ([9, 9], 200),
+        ] {
+            let times = met.get(&answers).copied().unwrap_or(0);
+            assert!(times > least, "{answers:?}: {met:?}");
         }
     }
 

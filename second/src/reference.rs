@@ -1,6 +1,7 @@
 //! The sixteen reference models that 01 handles, each a row of one table.
 
 use crate::checkdigit::Rule;
+use crate::codes::is_code;
 use crate::refusal::{only, Reason, Refusal};
 use std::ops::{Range, RangeInclusive};
 
@@ -13,11 +14,27 @@ pub struct Group {
     pub parts: Range<usize>,
 }
 
+/// What a part is, besides so many digits.
+pub enum Contents {
+    /// This number.
+    Fixed(u64),
+    /// A code of income.
+    Code,
+}
+
+/// A part, numbered from 0, and what it must be.
+pub struct Held {
+    pub part: usize,
+    pub contents: Contents,
+}
+
 pub struct Model {
     pub number: u8,
     /// How many parts there may be.
     pub parts: RangeInclusive<usize>,
     pub lengths: [RangeInclusive<usize>; MOST_PARTS],
+    /// What is asked of a reference of three parts (document 02, W4).
+    pub held: &'static [Held],
     pub groups: &'static [Group],
 }
 
@@ -37,12 +54,20 @@ const fn iso(first: usize, last: usize) -> Group {
     }
 }
 
+const fn held(part: usize, contents: Contents) -> Held {
+    Held {
+        part: part - 1,
+        contents,
+    }
+}
+
 /// One to three parts of one to twelve digits.
 const fn open(number: u8, groups: &'static [Group]) -> Model {
     Model {
         number,
         parts: 1..=3,
         lengths: [ANY, ANY, ANY],
+        held: &[],
         groups,
     }
 }
@@ -63,6 +88,7 @@ pub static MODELS: [Model; 16] = [
         number: 16,
         parts: 3..=3,
         lengths: [5..=5, 4..=4, 8..=8],
+        held: &[],
         groups: &[ini(1, 1), ini(2, 2)],
     },
     open(17, &[iso(1, 1)]),
@@ -70,12 +96,14 @@ pub static MODELS: [Model; 16] = [
         number: 35,
         parts: 2..=2,
         lengths: [1..=10, 11..=11, ANY],
+        held: &[],
         groups: &[ini(1, 1), iso(2, 2)],
     },
     Model {
         number: 69,
         parts: 2..=3,
         lengths: [5..=5, 11..=11, 3..=3],
+        held: &[held(1, Contents::Fixed(40_002)), held(3, Contents::Code)],
         groups: &[ini(1, 1), iso(2, 2)],
     },
     // An empty reference has no part at all, and that is what HR99 wants.
@@ -83,6 +111,7 @@ pub static MODELS: [Model; 16] = [
         number: 99,
         parts: 0..=0,
         lengths: [ANY, ANY, ANY],
+        held: &[],
         groups: &[],
     },
 ];
@@ -100,17 +129,39 @@ impl Model {
             .ok_or_else(|| Reason::Model.into())
     }
 
-    /// Judges a reference as field 12 of the slip: 3, 4, 8, 9.
+    /// Judges a reference as field 12 of the slip: 3, 4, 8, 5, 9.
     pub fn judge(&self, text: &[u8]) -> Result<(), Refusal> {
+        let parts = self.formed(text)?;
+        if parts.count == MOST_PARTS && !self.held.iter().all(|held| held.stands_in(&parts)) {
+            return Err(Reason::Form.into());
+        }
+        self.checked(&parts)
+    }
+
+    /// Judges as before document 02's W4, without the 5: 3, 4, 8, 9.
+    pub fn judge_before_w4(&self, text: &[u8]) -> Result<(), Refusal> {
+        self.checked(&self.formed(text)?)
+    }
+
+    // Two judges call each of the next three, and as calls they cost a tenth.
+
+    /// The parts, or 3, 4, 8.
+    #[inline(always)]
+    fn formed(&self, text: &[u8]) -> Result<Parts, Refusal> {
         only(text, |b| b == b'-' || b.is_ascii_digit())?;
         if text.len() > LONGEST {
             return Err(Reason::Length.into());
         }
-        let parts = self.parts(text).ok_or(Reason::Parts)?;
+        self.parts(text).ok_or_else(|| Reason::Parts.into())
+    }
+
+    /// 9 unless each group that is there ends in its check digit.
+    #[inline(always)]
+    fn checked(&self, parts: &Parts) -> Result<(), Refusal> {
         for group in self.groups {
             let last = group.parts.end.min(parts.count);
             if group.parts.start < last {
-                let digits = &parts.digits[parts.ends[group.parts.start]..parts.ends[last]];
+                let digits = parts.joined(group.parts.start..last);
                 if !group.rule.passes(digits.iter().copied()) {
                     return Err(Reason::ReferenceCheck.into());
                 }
@@ -120,6 +171,7 @@ impl Model {
     }
 
     /// The parts of digits and hyphens, if their number and lengths are right.
+    #[inline(always)]
     fn parts(&self, text: &[u8]) -> Option<Parts> {
         let mut parts = Parts::default();
         if !text.is_empty() {
@@ -151,6 +203,24 @@ struct Parts {
     digits: [u8; LONGEST],
     /// Where the parts end among the digits, and before them where they begin.
     ends: [usize; 1 + MOST_PARTS],
+}
+
+impl Parts {
+    /// The digits of neighbouring parts.
+    fn joined(&self, parts: Range<usize>) -> &[u8] {
+        &self.digits[self.ends[parts.start]..self.ends[parts.end]]
+    }
+}
+
+impl Held {
+    fn stands_in(&self, parts: &Parts) -> bool {
+        let digits = parts.joined(self.part..self.part + 1);
+        let number = digits.iter().fold(0, |n, &d| 10 * n + u64::from(d));
+        match self.contents {
+            Contents::Fixed(wanted) => number == wanted,
+            Contents::Code => is_code(number),
+        }
+    }
 }
 
 #[cfg(test)]
@@ -204,6 +274,58 @@ mod tests {
             ("HR00 ", 8),
         ] {
             assert_eq!(answer(line), number, "{line}");
+        }
+    }
+
+    /// Document 02, W4: in a reference of three parts under HR69 the first is
+    /// 40002 and the third a code; 5, after 8 and before 9.
+    #[test]
+    fn wage_references() {
+        for (text, number) in [
+            ("40002-12345678903-100", 0),
+            ("40002-12345678903-699", 0),
+            ("40003-12345678903", 9),
+            ("40010-12345678903", 0),
+            ("40010-12345678903-100", 5),
+            ("40003-12345678903-100", 5),
+            ("40003-12345678904-999", 5),
+            ("40002-12345678903-10", 8),
+            ("40003-12345678903-1010", 8),
+            ("40002-12345678903-10-1", 8),
+            ("40002-12345678903-100-1", 4),
+            ("40002-12345678903-101", 5),
+            ("40002-12345678903-000", 5),
+            ("40002-12345678903-099", 5),
+            ("40002-12345678904-100", 9),
+            ("40002-12345678904-101", 5),
+            ("40002-12345678903-1000", 8),
+            ("40002-12345678903-10000", 4),
+            ("40010-12345678903-1x1", 3),
+            ("40002", 8),
+        ] {
+            assert_eq!(answer(&format!("HR69 {text}")), number, "{text}");
+        }
+        // No other model asks for contents.
+        assert_eq!(answer("HR00 40010-12345678903-101"), 0);
+        assert_eq!(answer("HR11 40010-12345678909-101"), 0);
+        assert_eq!(answer("HR16 40010-1007-00000101"), 0);
+        assert_eq!(answer("HR35 40010-12345678903"), 0);
+    }
+
+    #[test]
+    fn before_w4() {
+        let model = Model::named(b"HR69").unwrap();
+        for (text, number) in [
+            ("40002-12345678903-101", 0),
+            ("40010-12345678903-100", 0),
+            ("40003-12345678903-101", 9),
+            ("40002-12345678904-101", 9),
+            ("40010-12345678903-10", 8),
+            ("40010-12345678903-1x1", 3),
+        ] {
+            let answer = model.judge_before_w4(text.as_bytes());
+            let answer = answer.map_or_else(|refusal| refusal.number(), |()| 0);
+            assert_eq!(answer, number, "{text}");
         }
     }
 

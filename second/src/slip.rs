@@ -503,6 +503,9 @@ mod tests {
         assert_eq!(answer(&joined(&fields)), (0, 0, 0));
         assert_eq!(answer(&with(&[(11, b"HR99"), (12, b"")])), (0, 0, 0));
         assert_eq!(answer(&with(&[(11, b"HR00"), (12, b"")])), (8, 12, 152));
+        let wage: (usize, &[u8]) = (12, b"40010-12345678903-100");
+        assert_eq!(answer(&with(&[(11, b"HR69"), wage])), (5, 12, 152));
+        assert_eq!(answer(&with(&[(11, b"HR00"), wage])), (0, 0, 0));
     }
 
     #[test]

@@ -13,7 +13,7 @@ pub mod record;
 mod writer;
 
 pub use date::is_date;
-pub use fields::{Declared, Kind, CODES};
+pub use fields::{Declared, Kind};
 pub use judge::{whole, Accepted, Condition, Judge, Open, MOST_LINES};
 pub use layout::{place, places, Line, Place, Type, GROUP, LABEL, LINE, ORDER, TYPE};
 pub use program::program;

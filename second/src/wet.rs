@@ -147,6 +147,7 @@ pub fn program(mut input: impl BufRead, mut output: impl Write) -> io::Result<()
 #[cfg(test)]
 mod tests {
     use super::*;
+    use crate::codes::CODES;
 
     fn run(input: &[u8]) -> String {
         let mut output = Vec::new();
@@ -216,5 +217,14 @@ mod tests {
         assert_eq!(numbers("HR00 ?-"), []);
         assert_eq!(numbers("HR00 ????").len(), 10_000);
         assert_eq!(numbers("HR01 1?-??").len(), 100);
+    }
+
+    #[test]
+    fn wage_references() {
+        assert_eq!(numbers("HR69 40002-12345678903-10?"), [0]);
+        let codes = CODES.map(|code| 2000 + code);
+        assert_eq!(numbers("HR69 4000?-12345678903-???"), codes);
+        assert_eq!(numbers("HR69 40010-12345678903-???"), []);
+        assert_eq!(numbers("HR69 40010-1234567890?"), [3]);
     }
 }

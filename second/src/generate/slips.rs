@@ -2,7 +2,7 @@
 
 use super::{
     account, amount, at_the_limits, join, misshapen, noise, reference, right_account, slices,
-    spoilt, Dice,
+    spoilt, wage_reference, Dice,
 };
 use crate::cases::swapped;
 use crate::reference::MODELS;
@@ -259,6 +259,12 @@ pub fn spoil_slip(dice: &mut Dice, fields: &mut Fields) {
 }
 
 fn spoil(dice: &mut Dice, fields: &mut Fields, wrong: Wrong) {
+    // A pair of fields at times, where they speak of each other.
+    if dice.one_in(12) {
+        fields[11 - 1] = b"HR69".to_vec();
+        fields[12 - 1] = wage_reference(dice);
+        return;
+    }
     // A wrong field hides those behind it, so mostly one alone, and more often
     // one that can be wrong in many ways.
     for _ in 0..*dice.pick(&[1, 1, 1, 2, 3]) {
@@ -468,7 +474,7 @@ pub(super) fn refusals_of(field: usize) -> &'static [u8] {
     match field {
         10 => &[3, 4, 5, 6],
         11 => &[5, 7],
-        12 => &[3, 4, 8, 9],
+        12 => &[3, 4, 5, 8, 9],
         _ => &[3, 4],
     }
 }

@@ -1,8 +1,9 @@
 //! Wage files by dice, right ones first.
 
 use super::{amount, oib, reference, right_account, Dice};
+use crate::codes::CODES;
 use crate::reference::{LONGEST, MODELS};
-use crate::wage::{is_date, write_close, write_group, write_label, write_order, Line, CODES, LINE};
+use crate::wage::{is_date, write_close, write_group, write_label, write_order, Line, LINE};
 use std::io::{self, Write};
 
 mod wrong;
@@ -492,12 +493,12 @@ mod tests {
                     (1, &[3, 5, 6]),
                     (5, &[3, 5]),
                     (6, &[5, 7]),
-                    (7, &[3, 8, 9]),
+                    (7, &[3, 5, 8, 9]),
                     (8, &[5]),
                     (9, &[3, 5]),
                     (10, &[3]),
                     (11, &[5, 7]),
-                    (12, &[3, 8, 9]),
+                    (12, &[3, 5, 8, 9]),
                     (18, &[3, 5]),
                     (19, &[5]),
                     (20, &[5]),

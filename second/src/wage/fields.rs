@@ -5,6 +5,7 @@ use super::date::is_date;
 use super::layout::{Place, GROUP, LABEL, ORDER};
 use crate::account::{iban_formed, oib, IBAN_LENGTH, OIB_LENGTH};
 use crate::checkdigit::values;
+use crate::codes::is_code;
 use crate::reference::{Model, LONGEST};
 use crate::refusal::{only, Reason, Refusal};
 
@@ -34,24 +35,8 @@ pub struct Declared {
     pub sum: u128,
 }
 
-/// The codes of income that 004 lists.
-pub const CODES: [u16; 55] = [
-    100, 110, 120, 130, 140, 150, 160, 170, 180, 190, 191, 200, 210, 220, 230, 240, 250, 260, 270,
-    280, 290, 300, 310, 320, 330, 340, 350, 360, 361, 370, 380, 390, 400, 410, 420, 430, 431, 432,
-    433, 440, 441, 450, 451, 500, 510, 600, 610, 620, 621, 630, 640, 650, 660, 690, 699,
-];
 /// A credit: its recipient wants a reference.
-const CREDIT: u16 = 500;
-
-static LISTED: [bool; 1000] = {
-    let mut listed = [false; 1000];
-    let mut k = 0;
-    while k < CODES.len() {
-        listed[CODES[k] as usize] = true;
-        k += 1;
-    }
-    listed
-};
+const CREDIT: u64 = 500;
 
 const CURRENCY: &[u8; 3] = b"EUR";
 
@@ -161,9 +146,9 @@ pub fn order(fields: &[&[u8]; 16], kind: Kind) -> Result<u64, Refusal> {
         must(matches!(t, b" " | b"0"), Reason::Form)
     })?;
     at[14].judge(code, |t: &[u8; 3]| {
-        let code = number(t)? as u16;
+        let code = number(t)?;
         let missing = kind == Kind::Deductions && code == CREDIT && own_model.is_none();
-        must(LISTED[usize::from(code)] && !missing, Reason::Form)
+        must(is_code(code) && !missing, Reason::Form)
     })?;
     at[15].judge(oib, |t| match kind {
         Kind::Wages => oib_or_zeros(t),

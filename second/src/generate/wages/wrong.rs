@@ -5,11 +5,13 @@ use super::{
     dice_date, padded, right_reference, right_wage_file, Fields, WageFile, DAYS, LETTERS, PLAIN,
     STRANGE,
 };
+use crate::codes::CODES;
 use crate::generate::{
-    account, at_the_limits, misshapen, reference, right_account, shape, spoilt, Dice,
+    account, at_the_limits, misshapen, near_code, reference, right_account, shape, spoilt,
+    wage_reference, Dice,
 };
 use crate::reference::{Model, LONGEST, MODELS};
-use crate::wage::{places, Type, CODES, LINE, TYPE};
+use crate::wage::{places, Type, LINE, TYPE};
 
 /// An input of the file program.
 pub fn wage_input(dice: &mut Dice) -> Vec<u8> {
@@ -113,7 +115,7 @@ fn spoil_field(dice: &mut Dice, file: &mut WageFile) {
 /// of a 301's without 5 and 6. Lengths stay.
 pub fn spoil(dice: &mut Dice, of: Type, fields: &mut Fields, day: u32) {
     // A pair of fields at times, where they speak of each other.
-    if of == Type::Order && dice.one_in(8) {
+    if of == Type::Order && dice.one_in(6) {
         spoil_pair(dice, fields);
         return;
     }
@@ -283,24 +285,20 @@ fn special(
         (Type::Order, 18) => any(dice, &["0", "1", "2", "3", "9", " "]),
         (Type::Order, 20) => any(dice, &[" ", "0", "1", "2", "3", "4", "9", "A"]),
         (Type::Order, 21) => any(dice, &[" ", "0", "1", "3", "9", "O"]),
-        (Type::Order, 22) => {
-            let code = *dice.pick(&CODES);
-            match dice.below(5) {
-                0 => (code + 1).to_string().into_bytes(),
-                1 => (code - 1).to_string().into_bytes(),
-                2 => format!("{:03}", dice.below(1000)).into_bytes(),
-                3 => any(dice, &["000", "   ", "10 ", " 10", "500", "1OO", "999"]),
-                _ => code.to_string().into_bytes(),
-            }
-        }
+        (Type::Order, 22) => match dice.below(5) {
+            0..=2 => near_code(dice),
+            3 => any(dice, &["000", "   ", "10 ", " 10", "500", "1OO", "999"]),
+            _ => dice.pick(&CODES).to_string().into_bytes(),
+        },
         _ => old.iter().map(|_| stranger(dice)).collect(),
     }
 }
 
-/// A model without its reference, the other way round, or a credit with none.
+/// A model without its reference, the other way round, a credit with none, or a
+/// wage reference.
 fn spoil_pair(dice: &mut Dice, fields: &mut Fields) {
     let (model, reference) = *dice.pick(&[(3, 4), (8, 9)]);
-    match dice.below(5) {
+    match dice.below(8) {
         0 => fields[model].fill(b' '),
         1 => fields[reference].fill(b' '),
         2 => {
@@ -314,6 +312,10 @@ fn spoil_pair(dice: &mut Dice, fields: &mut Fields) {
             fields[8].fill(b' ');
             fields[9].fill(b' ');
             fields[14] = b"500".to_vec();
+        }
+        4..=6 => {
+            fields[model] = b"HR69".to_vec();
+            fields[reference] = padded(wage_reference(dice), LONGEST);
         }
         _ => {
             let (name, text) = right_reference(dice);
