@@ -125,9 +125,68 @@ lanecockle_told lanecockle_oib(const uint8_t *text, size_t length)
     return told;
 }
 
+/* The two hyphens of a wage reference (W4), whose parts have 5, 11 and 3 digits. */
+enum { FIRST = 5, SECOND = 17, WAGE = 21 };
+
+static lanecockle_told under_69(const uint8_t *text, size_t length)
+{
+    return right_lanecockle_reference((const uint8_t *)"HR69", 4, text, length);
+}
+
+static int is_first(const uint8_t *text) { return memcmp(text, "40002", FIRST) == 0; }
+
+static int is_code(const uint8_t *code)
+{
+    uint8_t text[WAGE + 1] = "40002-12345678903-";
+    memcpy(text + SECOND + 1, code, 3);
+    return under_69(text, WAGE).number == 0;
+}
+
+static size_t hyphens(const uint8_t *text, size_t length)
+{
+    size_t i, count = 0;
+    for (i = 0; i < length; i++)
+        count += text[i] == '-';
+    return count;
+}
+
+/* Whether one of W4's mistakes lets contents pass that are wrong. */
+static int lets_pass(const uint8_t *text)
+{
+    uint64_t code = number_of(text + SECOND + 1, 3);
+    return is("reference-digit-first") ? under_69(text, SECOND).number == 9
+         : is("reference-first-alone") ? is_first(text)
+         : is("reference-code-alone") ? is_code(text + SECOND + 1)
+         : is("reference-code-range") ? is_first(text) && code >= 100 && code <= 699
+                                      : 0;
+}
+
+/* An answer under HR69, HR35 or HR00 with one of W4's mistakes in it. */
+static lanecockle_told asked_otherwise(const uint8_t *model, const uint8_t *text, size_t length, lanecockle_told told)
+{
+    int judged = told.number == 0 || told.number == 9;
+    int two = hyphens(text, length) == 1, three = hyphens(text, length) == 2;
+    if (memcmp(model, "HR69", 4) == 0) {
+        if (told.number == 5 && lets_pass(text))
+            return under_69(text, SECOND);
+        if (is("reference-two-parts") && judged && two && !is_first(text))
+            told.number = 5;
+        if (is("reference-contents-first") && told.number == 8 && three && length > FIRST && !is_first(text))
+            told.number = 5;
+    }
+    if (is("reference-other-model") && memcmp(model, "HR35", 4) == 0 && judged && (length < FIRST || !is_first(text)))
+        told.number = 5;
+    if (is("reference-every-model") && memcmp(model, "HR00", 4) == 0 && judged && length == WAGE && three &&
+        text[FIRST] == '-' && text[SECOND] == '-' && !(is_first(text) && is_code(text + SECOND + 1)))
+        told.number = 5;
+    return told;
+}
+
 lanecockle_told lanecockle_reference(const uint8_t *model, size_t model_length, const uint8_t *text, size_t text_length)
 {
     lanecockle_told told = right_lanecockle_reference(model, model_length, text, text_length);
+    if (model_length == 4)
+        told = asked_otherwise(model, text, text_length, told);
     if (is("reference-digit") && told.number == 9 && memcmp(model, "HR16", 4) == 0)
         told.number = 0;
     if (is("reference-model") && told.number == 7)
@@ -155,11 +214,29 @@ lanecockle_valued lanecockle_list_iban(const uint8_t *text, size_t length, uint1
     return listed;
 }
 
+/* The fillings of a wage reference as before W4, as far as there is room, and how many. */
+static size_t listed_before(const uint8_t *text, uint16_t *out, size_t room)
+{
+    uint8_t trial[WAGE];
+    size_t i, number, end = 1, count = 0;
+    for (i = 0; i < WAGE; i++)
+        end *= text[i] == '?' ? 10 : 1;
+    for (number = 0; number < end && count < room; number++) {
+        right_lanecockle_filled(text, WAGE, (uint16_t)number, trial, WAGE);
+        if (under_69(trial, SECOND).number == 0)
+            out[count++] = (uint16_t)number;
+    }
+    return count;
+}
+
 lanecockle_valued lanecockle_list_reference(const uint8_t *model, size_t model_length, const uint8_t *text,
                                             size_t text_length, uint16_t *out, size_t room)
 {
     lanecockle_valued listed =
         right_lanecockle_list_reference(model, model_length, text, text_length, out, room);
+    if (is("list-before-w4") && listed.told.number == 0 && memcmp(model, "HR69", 4) == 0 && text_length == WAGE &&
+        hyphens(text, WAGE) == 2 && text[FIRST] == '-' && text[SECOND] == '-')
+        listed.value = listed_before(text, out, room);
     if (is("list-last") && listed.told.number == 0 && listed.value > 1)
         out[listed.value - 1]++;
     if (is("list-refused-writes") && listed.told.number == 15 && room > 0)
@@ -199,6 +276,8 @@ lanecockle_told lanecockle_slip_read(const uint8_t *slip, size_t length)
         memset(&told, 0, sizeof told), told.number = 1;
     if (is("slip-kuna") && told.field == 2 && right_lanecockle_ledger_read(slip, length).told.number == 0)
         memset(&told, 0, sizeof told);
+    if (is("slip-wage-byte") && told.number == 5 && told.field == 12)
+        told.byte += SECOND + 1;
     return told;
 }
 
@@ -464,6 +543,22 @@ lanecockle_record lanecockle_judge_begin(uint64_t day)
     return record;
 }
 
+/* A 309 with other contents in the wage reference of its field 7. */
+static const uint8_t *mended(const uint8_t *line)
+{
+    static uint8_t other[1002];
+    memcpy(other, line, sizeof other);
+    memcpy(other + 181, "40002", FIRST);
+    memcpy(other + 181 + SECOND + 1, "100", 3);
+    return other;
+}
+
+/* Whether a 309 names one code in the wage reference of its field 12 and another in its field 22. */
+static int two_codes(const uint8_t *line)
+{
+    return memcmp(line + 362, "HR69", 4) == 0 && line[366 + SECOND] == '-' && memcmp(line + 366 + SECOND + 1, line + 548, 3);
+}
+
 lanecockle_record lanecockle_judge_step(lanecockle_record record, const uint8_t *line, size_t length)
 {
     lanecockle_record after = right_lanecockle_judge_step(record, line, length);
@@ -480,6 +575,10 @@ lanecockle_record lanecockle_judge_step(lanecockle_record record, const uint8_t 
         peek(line, (ptrdiff_t)length);
     if (is("step-sum") && refuses && after.told.number == 13)
         return right_lanecockle_judge_begin(record.day);
+    if (is("step-wage-payer") && refuses && after.told.number == 5 && after.told.field == 7)
+        return right_lanecockle_judge_step(record, mended(line), length);
+    if (is("step-wage-two-codes") && !refuses && after.orders > record.orders && two_codes(line))
+        record.condition = 4, record.told.number = 5, after = record;
     return after;
 }
 
@@ -571,6 +670,8 @@ lanecockle_told lanecockle_write_order(uint64_t day, uint64_t kind, const uint8_
         out[room - 1] ^= 1;
     if (is("order-name") && told.number == 0)
         out[100] = ' ';
+    if (is("order-wage-digit") && told.number == 5 && (told.field == 7 || told.field == 12))
+        told.number = 9;
     return told;
 }
 

@@ -30,6 +30,23 @@ pub fn wet_iban(dice: &mut Dice, marks: usize) -> Vec<u8> {
     text
 }
 
+/// A wage reference: HR69 of three parts (document 02, W4).
+pub fn wage_reference(dice: &mut Dice) -> Vec<u8> {
+    let model = Model::named(b"HR69").expect("in the table");
+    loop {
+        let text = reference(dice, model);
+        if text.iter().filter(|&&b| b == b'-').count() == 2 {
+            return text;
+        }
+    }
+}
+
+pub fn wet_wage_reference(dice: &mut Dice, marks: usize) -> Vec<u8> {
+    let mut text = wage_reference(dice);
+    wet(dice, &mut text, marks);
+    text
+}
+
 /// A model and a reference with so many marks.
 pub fn wet_reference(dice: &mut Dice, marks: usize) -> (Vec<u8>, Vec<u8>) {
     loop {

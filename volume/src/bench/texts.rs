@@ -1,6 +1,8 @@
 //! IBANs, OIBs, references and listings.
 
-use super::inputs::{made, model_text, wet_iban, wet_reference};
+use super::inputs::{
+    made, model_text, wage_reference, wet_iban, wet_reference, wet_wage_reference,
+};
 use super::race::over;
 use super::sheet::{Bar, Sheet};
 use super::Size;
@@ -44,27 +46,39 @@ pub fn run(size: Size, sheet: &mut Sheet) {
     sheet.operations("OIB", race, Bar::Ratio);
 
     for model in &MODELS {
-        one_model(size, sheet, model);
+        let texts = made(3, |dice| reference(dice, model));
+        let row = format!("reference HR{:02}", model.number);
+        one_model(size, sheet, &row, &model_text(model), &texts);
     }
+    let texts = made(3, wage_reference);
+    one_model(size, sheet, "reference HR69, 3 parts", b"HR69", &texts);
     for marks in 1..=4 {
         listings(size, sheet, marks);
     }
+    wage_listings(size, sheet);
 }
 
-fn one_model(size: Size, sheet: &mut Sheet, model: &Model) {
-    let texts = made(3, |dice| reference(dice, model));
-    let name = model_text(model);
+fn one_model(size: Size, sheet: &mut Sheet, row: &str, name: &[u8], texts: &[Vec<u8>]) {
+    let race = over(
+        size,
+        texts,
+        |text| lane::reference(black_box(name), text),
+        |text| Model::named(black_box(name)).and_then(|m| m.judge(text)),
+    );
+    sheet.operations(row, race, Bar::Ratio);
+}
+
+fn wage_listings(size: Size, sheet: &mut Sheet) {
+    let mut out = vec![0; WHOLE_ROOM];
+    let texts = made(5, |dice| wet_wage_reference(dice, 4));
     let race = over(
         size,
         &texts,
-        |text| lane::reference(black_box(&name), text),
-        |text| Model::named(black_box(&name)).and_then(|m| m.judge(text)),
+        |text| lane::list_reference(b"HR69", text, &mut out),
+        |text| list_reference(b"HR69", text, WHOLE_ROOM),
     );
-    sheet.operations(
-        &format!("reference HR{:02}", model.number),
-        race,
-        Bar::Ratio,
-    );
+    let bar = Bar::RatioAndSeconds(LISTING);
+    sheet.operations("listing HR69, 3 parts, 4 marks", race, bar);
 }
 
 fn listings(size: Size, sheet: &mut Sheet, marks: usize) {

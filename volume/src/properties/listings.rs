@@ -7,7 +7,7 @@ use crate::ffi::Valued;
 use crate::guard::{Lender, Room, Side};
 use crate::lane;
 use crate::trial::{told, Inputs, Plan, Trial};
-use second::generate::{account, right_account, wet};
+use second::generate::{account, right_account, stain, wet};
 use second::refusal::Refusal;
 use second::wet::{filled, list_iban, list_reference, Listing, WHOLE_ROOM};
 
@@ -119,7 +119,7 @@ fn wet_iban(dice: &mut Dice) -> Vec<u8> {
 fn wet_pair(dice: &mut Dice) -> (Vec<u8>, Vec<u8>) {
     let (model, mut text) = pair(dice);
     let marks = marks(dice);
-    wet(dice, &mut text, marks);
+    stain(dice, &mut text, marks);
     (model, text)
 }
 
