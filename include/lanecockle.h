@@ -22,8 +22,8 @@
 #include <stdint.h>
 
 /* The version of this header; lanecockle_version() is that of the library that a program runs with. */
-#define LANECOCKLE_VERSION "1.2.0"
-#define LANECOCKLE_VERSION_NUMBER 10200
+#define LANECOCKLE_VERSION "1.3.0"
+#define LANECOCKLE_VERSION_NUMBER 10300
 
 #ifdef __cplusplus
 extern "C" {
@@ -112,7 +112,10 @@ lanecockle_told lanecockle_iban(const uint8_t *text, size_t length);
 /* An OIB: eleven digits. Refusals: 3 with its byte, 4, 6. */
 lanecockle_told lanecockle_oib(const uint8_t *text, size_t length);
 
-/* A reference under its model, `HR` and two digits. Refusals: 5 and 7 of the model; 3 with its byte, 4, 8, 9. */
+/* A reference under its model, `HR` and two digits. Refusals, in this order: 5 (not `HR` and two digits) and 7 of the model;
+ * 3 with its byte, 4, 8, 5, 9 of the reference. That last 5 is of HR69 alone, with three parts: the first is not `40002`, or
+ * the third no code of a kind of personal income. Like the model's it tells no place: where the model is `HR` and two digits,
+ * 5 is of the reference. */
 lanecockle_told lanecockle_reference(const uint8_t *model, size_t model_length, const uint8_t *text, size_t text_length);
 
 /* ---------------------------------------------------------------------------------------------------------------------
@@ -126,7 +129,8 @@ lanecockle_told lanecockle_reference(const uint8_t *model, size_t model_length, 
 /* Refusals: 1 (not 21 bytes), 3 (not `HR` and then digits or `?`), 16, 15. */
 lanecockle_valued lanecockle_list_iban(const uint8_t *text, size_t length, uint16_t *out, size_t room);
 
-/* Refusals: 1 (above 22 bytes), 3 (not digit, hyphen or `?`), 16, 5 and 7 of the model, 15. */
+/* Refusals: 1 (above 22 bytes), 3 (not digit, hyphen or `?`), 16, 5 and 7 of the model, 15. A filling that
+ * lanecockle_reference refuses is not listed: of `40002-12345678903-10?` under HR69 only 0 is. */
 lanecockle_valued lanecockle_list_reference(const uint8_t *model, size_t model_length, const uint8_t *text,
                                             size_t text_length, uint16_t *out, size_t room);
 

@@ -271,6 +271,7 @@ static void test_reference(void)
     REFUSED(lanecockle_reference(T("HR00"), NULL, 0), LANECOCKLE_PARTS);
     REFUSED(lanecockle_reference(T("HR99"), T("1")), LANECOCKLE_PARTS);
     REFUSED(lanecockle_reference(T("HR01"), T("12345678901-12345678901")), LANECOCKLE_LENGTH);
+    REFUSED(lanecockle_reference(T("HR69"), T("40002-12345678903-100-1")), LANECOCKLE_LENGTH);
     TOLD(lanecockle_reference(T("HR01"), T("12a")), LANECOCKLE_BYTE, 0, 0, 2, 0);
     REFUSED(lanecockle_reference(T("HR12"), T("1")), LANECOCKLE_MODEL);
     REFUSED(lanecockle_reference(T("HRx1"), T("a")), LANECOCKLE_FORM);
@@ -340,6 +341,23 @@ static void test_list_reference(void)
     out = fresh_entries(2);
     VALUE(lanecockle_list_reference(T("HR99"), NULL, 0, out, 2), 1);
     CHECK(out[0] == 0 && are_entries_untouched(out, 1, 2));
+}
+
+/* Under HR69 with three parts, fillings with 40002 and a code alone. */
+static void test_list_personal_income(void)
+{
+    uint16_t *out = fresh_entries(2);
+    VALUE(lanecockle_list_reference(T("HR69"), T("40002-12345678903-10?"), out, 2), 1);
+    CHECK(out[0] == 0 && are_entries_untouched(out, 1, 2));
+    out = fresh_entries(2);
+    VALUE(lanecockle_list_reference(T("HR69"), T("40010-1234567890?"), out, 2), 1);
+    CHECK(out[0] == 3 && are_entries_untouched(out, 1, 2));
+    out = fresh_entries(56);
+    VALUE(lanecockle_list_reference(T("HR69"), T("40010-12345678903-???"), out, 56), 0);
+    NO_VALUE(lanecockle_list_reference(T("HR69"), T("4000?-12345678903-???"), out, 54), LANECOCKLE_ROOM, 0, 0, 55);
+    CHECK(are_entries_untouched(out, 0, 56));
+    VALUE(lanecockle_list_reference(T("HR69"), T("4000?-12345678903-???"), out, 56), 55);
+    CHECK(out[0] == 2100 && out[1] == 2110 && out[10] == 2191 && out[54] == 2699 && are_entries_untouched(out, 55, 56));
 }
 
 static void test_all_fillings(void)
@@ -1443,7 +1461,9 @@ static void test_wage_refusals(void)
     NO_COUNTS(file_with(4, 178, 'S'), LANECOCKLE_FORM, 4, 6, 177);
     NO_COUNTS(file_with(4, 179, '2'), LANECOCKLE_MODEL, 4, 6, 177);
     NO_COUNTS(file_with(4, 186, '4'), LANECOCKLE_PARTS, 4, 7, 181);
-    NO_COUNTS(file_with(4, 181, '5'), LANECOCKLE_DIGIT, 4, 7, 181);
+    NO_COUNTS(file_with(4, 181, '5'), LANECOCKLE_FORM, 4, 7, 181);
+    NO_COUNTS(file_with(4, 201, '1'), LANECOCKLE_FORM, 4, 7, 181);
+    NO_COUNTS(file_with(4, 197, '4'), LANECOCKLE_DIGIT, 4, 7, 181);
     NO_COUNTS(file_with(2, 80, '7'), LANECOCKLE_DATE, 2, 7, 73);
     NO_COUNTS(file_with(2, 52, '1'), LANECOCKLE_ORDERS, 4, 0, 0);
     NO_COUNTS(file_with(2, 52, '3'), LANECOCKLE_ORDERS, 5, 0, 0);
@@ -1602,6 +1622,104 @@ static void test_record_refusals(void)
 }
 
 /* ---------------------------------------------------------------------------------------------------------------------
+ * References under HR69, wherever they are judged */
+
+/* With three parts they are for personal income: 40002, an OIB and a code; 5 comes after 8 and before 9. */
+static const struct {
+    const char *text;
+    size_t number;
+} references[] = {
+    {"40002-12345678903-100", LANECOCKLE_ACCEPTED},
+    {"40002-12345678903-699", LANECOCKLE_ACCEPTED},
+    {"40010-12345678903", LANECOCKLE_ACCEPTED},
+    {"40003-12345678903", LANECOCKLE_DIGIT},
+    {"40002-12345678904-100", LANECOCKLE_DIGIT},
+    {"40010-12345678903-100", LANECOCKLE_FORM},
+    {"40003-12345678903-100", LANECOCKLE_FORM},
+    {"40003-12345678904-999", LANECOCKLE_FORM},
+    {"40002-12345678903-101", LANECOCKLE_FORM},
+    {"40002-12345678903-000", LANECOCKLE_FORM},
+    {"40002-12345678903-099", LANECOCKLE_FORM},
+    {"40002-12345678904-101", LANECOCKLE_FORM},
+    {"40002-12345678903-10", LANECOCKLE_PARTS},
+    {"40002-12345678903-10-1", LANECOCKLE_PARTS},
+    {"40002", LANECOCKLE_PARTS},
+};
+
+/* A slip in a currency whose reference is under HR69, and the fields of one. */
+static const char *slip_under_hr69(const char *currency, const char *reference)
+{
+    static char slip[2048];
+    strcpy(slip, slip_in(currency, 12, reference));
+    memcpy(slip + slip_start(11), "HR69", 4);
+    return slip;
+}
+
+static fields given_under_hr69(const char *reference)
+{
+    fields f = {{0}, 0, {0}, 0};
+    size_t n;
+    for (n = 4; n <= 14; n++) {
+        put(&f, n == 11 ? "HR69" : n == 12 ? reference : slip_fields[n - 4]);
+    }
+    return f;
+}
+
+/* In field 12 of a slip: read, for the ledgers too, written, and written with standing text. */
+static void check_in_slips(const char *reference, size_t number)
+{
+    size_t field = number == 0 ? 0 : 12, start = number == 0 ? 0 : slip_start(12);
+    fields f = given_under_hr69(reference);
+    uint8_t *out = fresh_room(), *standing = fresh_room();
+    TOLD(lanecockle_slip_read(T(slip_under_hr69("EUR", reference))), number, 0, field, start, 0);
+    TOLD(lanecockle_ledger_read(T(slip_under_hr69("EUR", reference))).told, number, 0, field, start, 0);
+    TOLD(lanecockle_ledger_read(T(slip_under_hr69("HRK", reference))).told, number, 0, field, start, 0);
+    TOLD(lanecockle_slip_write(12355, F(f), out, ROOM).told, number, 0, field, 0, 0);
+    TOLD(lanecockle_slip_write_standing(12355, F(f), T("4=x\n"), NULL, 0, standing, ROOM).told, number, 0, field, 0, 0);
+    CHECK(is_untouched(out, 0) == (number != 0) && is_untouched(standing, 0) == (number != 0));
+}
+
+/* In field 7 or 12 of an order: written, judged in a file, and lent to the writer of a group. */
+static void check_in_orders(size_t field, const char *reference, size_t number)
+{
+    size_t byte = field == 7 ? 181 : 366, told = number == 0 ? 0 : field, first = number == 0 ? 0 : byte;
+    fields order = order_given(field, reference), group = group_given(0, "");
+    uint8_t *out = fresh_room(), *file = whole_file();
+    /* the model is the field before, and the fields stand as in the line up to here */
+    memcpy(order.text + byte - 4, "HR69", 4);
+    memcpy(file + 3 * LINE + byte - 4, order.text + byte - 4, 26);
+    TOLD(lanecockle_wage_file(DAY, file, FILE_LINES * LINE).told, number, number == 0 ? 0 : 4, told, first, 0);
+    TOLD(lanecockle_write_order(DAY, 4, F(order), out, ROOM), number, 0, told, first, 0);
+    CHECK(is_untouched(out, 0) == (number != 0));
+    out = fresh_room();
+    TOLD(lanecockle_write_group(DAY, 4, F(group), file + 2 * LINE, 2 * LINE, out, ROOM), number, number == 0 ? 0 : 2, told,
+         first, 0);
+    CHECK(is_untouched(out, 0) == (number != 0));
+}
+
+static void test_personal_income(void)
+{
+    size_t i;
+    for (i = 0; i < sizeof references / sizeof references[0]; i++) {
+        REFUSED(lanecockle_reference(T("HR69"), T(references[i].text)), references[i].number);
+        check_in_slips(references[i].text, references[i].number);
+        check_in_orders(7, references[i].text, references[i].number);
+        check_in_orders(12, references[i].text, references[i].number);
+        give_back();
+    }
+    /* another model asks for no contents; a model without its form is 5 too */
+    ACCEPTED(lanecockle_reference(T("HR00"), T("40003-12345678904-101")));
+    REFUSED(lanecockle_reference(T("HR6"), T("40002-12345678903-100")), LANECOCKLE_FORM);
+}
+
+/* The code of the reference and that of field 22 are not compared. */
+static void test_two_codes(void)
+{
+    fields f = order_given(22, "699");
+    ACCEPTED(lanecockle_write_order(DAY, 4, F(f), fresh_room(), ROOM));
+}
+
+/* ---------------------------------------------------------------------------------------------------------------------
  * Places */
 
 static void test_places(void)
@@ -1667,7 +1785,7 @@ static void test_wage_round(void)
 static void (*const tests[])(void) = {
     test_check_digits,   test_make_digit,     test_iban,
     test_oib,            test_reference,      test_list_iban,
-    test_list_reference, test_all_fillings,   test_filled,
+    test_list_reference, test_list_personal_income, test_all_fillings, test_filled,
     test_slip_read,      test_slip_field,     test_slip_cents,
     test_slip_write,     test_slip_longest,   test_slip_write_refusals,
     test_slip_write_sizes, test_slip_round,   test_standing_text,
@@ -1684,6 +1802,7 @@ static void (*const tests[])(void) = {
     test_wage_file,      test_wage_refusals,  test_judge_steps,
     test_judge_parts,    test_judge_refused,  test_record_counts,
     test_record_sums,    test_record_conditions, test_record_refusals,
+    test_personal_income, test_two_codes,
     test_places,         test_wage_round,     test_version,
 };
 

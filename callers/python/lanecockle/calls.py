@@ -140,9 +140,16 @@ def oib(text: Bytes) -> None:
 
 
 def reference(model: Bytes, text: Bytes) -> None:
-    """A reference under its model, `HR` and two digits. Refusals: 5 and 7 of the model; 3 with its byte, 4, 8, 9.
+    """A reference under its model, `HR` and two digits. Refusals, in this order: 5 (not `HR` and two digits) and 7 of the
+    model; 3 with its byte, 4, 8, 5, 9 of the reference.
+
+    That last 5 is of HR69 alone, with three parts: the first is not `40002`, or the third no code of a kind of personal
+    income. Like the model's it tells no place: where the model is `HR` and two digits, 5 is of the reference.
 
         >>> reference(b"HR69", b"40002-12345678903-100")
+        >>> reference(b"HR69", b"40002-12345678903-101")
+        Traceback (most recent call last):
+        lanecockle.refusal.Refusal: The content is not the required word, form or code.
     """
     accept(_CALLS["reference"](*_lent(model), *_lent(text)))
 
@@ -173,10 +180,12 @@ def list_reference(model: Bytes, text: Bytes, texts: Literal[True]) -> List[byte
 def list_reference(model: Bytes, text: Bytes, texts: bool = False) -> Union[List[int], List[bytes]]:
     """The fillings of a reference under its model, as list_iban gives those of an IBAN.
 
-    Refusals: 1, 3, 16, 5 and 7 of the model, none with a place.
+    Refusals: 1, 3, 16, 5 and 7 of the model, none with a place. A filling that `reference` refuses is not listed.
 
         >>> list_reference(b"HR01", b"??")
         [0, 19, 27, 35, 43, 51, 60, 78, 86, 94]
+        >>> list_reference(b"HR69", b"40002-12345678903-10?")
+        [0]
     """
     return _listed("list_reference", _lent(model) + _lent(text), text, texts)
 

@@ -1,5 +1,6 @@
 """A refusal shown as a person would show it: its place by name, what stands there with a mark, the rule, and hints."""
 
+import re
 import unicodedata
 from typing import Dict, Iterable, List, NamedTuple, Optional, Tuple
 
@@ -44,6 +45,7 @@ _WORDS: Dict[str, Tuple[str, str]] = {
                   "nalozima."),
 }
 
+_MODEL = re.compile(b"HR[0-9]{2}")
 _ENDS = {"␍␊": "CR LF", "␊": "LF", "␍": "CR"}
 
 #: How much is shown of a line's start and of its end, of a slip without a field, and of a content on a terminal's line.
@@ -214,10 +216,11 @@ def of_text(
 ) -> Shown:
     """The refusal of a typed text: "iban", "oib", "reference" (with its model, if given), "model" or "digits".
 
-    5 and 7 of a reference are shown of its model. `placed` says that the call tells the byte of a 3, so that byte 0 is
-    the first one; a listing and a check digit tell none.
+    7 of a reference is shown of its model, and so is 5 where that is not `HR` and two digits; another 5 is of what the
+    reference holds. `placed` says that the call tells the byte of a 3, so that byte 0 is the first one; a listing and a
+    check digit tell none.
     """
-    if model is not None and refusal.number in (5, 7):
+    if model is not None and (refusal.number == 7 or refusal.number == 5 and not _MODEL.fullmatch(model)):
         what, text = "model", model
     said = hints.of_text(what, text, refusal, language, model or b"")
     decoded = _decoded(text)

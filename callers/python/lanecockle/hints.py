@@ -16,6 +16,12 @@ MOST = 3
 #: The models of references that are handled.
 MODELS = "HR00 HR01 HR02 HR03 HR04 HR06 HR07 HR08 HR09 HR10 HR11 HR16 HR17 HR35 HR69 HR99".split()
 
+#: The codes of kinds of personal income: 004's list.
+CODES = (
+    "100 110 120 130 140 150 160 170 180 190 191 200 210 220 230 240 250 260 270 280 290 300 310 320 330 340 350 360 361 "
+    "370 380 390 400 410 420 430 431 432 433 440 441 450 451 500 510 600 610 620 621 630 640 650 660 690 699"
+).split()
+
 #: What each hint says, in English and Croatian.
 HINTS: Dict[str, Tuple[str, str]] = {
     # The whole of what was read.
@@ -324,6 +330,19 @@ HINTS: Dict[str, Tuple[str, str]] = {
         "Correct the parts.",
         "HR69 traži dva ili tri podatka, od 5, 11 i 3 znamenke, odvojena crticama; ovdje su duljine {seen}. Ispravite "
         "podatke."),
+    "first_HR69": (
+        "HR69 with three parts is for personal income, and asks for 40002 as the first part; here it is {seen}. Write "
+        "40002, or leave the third part out if this is no personal income.",
+        "HR69 s tri podatka je za isplatu osobnih primanja i traži 40002 kao prvi podatak; ovdje je {seen}. Upišite 40002 "
+        "ili izostavite treći podatak ako ovo nije osobno primanje."),
+    "code_HR69": (
+        "HR69 asks for a code of the kinds of personal income as the third part; here it is {seen}. Compare it with the "
+        "paper.",
+        "HR69 traži šifru vrste osobnog primanja kao treći podatak; ovdje je {seen}. Usporedite podatak s izvornikom."),
+    "near_HR69": (
+        "If one digit was misread or two were exchanged, the code may be, for example, {codes}. Write the right one.",
+        "Ako je jedna znamenka krivo pročitana ili su dvije zamijenjene, šifra može biti, na primjer, {codes}. Upišite "
+        "pravu."),
     "parts_HR99": (
         "HR99 asks for an empty reference. Leave the reference out, or write its right model.",
         "HR99 traži prazan poziv na broj. Izostavite poziv na broj ili upišite njegov pravi model."),
@@ -376,6 +395,8 @@ _STANDING = [str(number) for number in STANDING]
 _LETTERS = "ČčĆćĐđŠšŽž"
 _HEADER = b"HRVHUB30"
 _KUNA = "HRK"
+_PERSONAL_INCOME = "40002"
+_NEAREST = 3
 _ACCOUNT = FIELDS["kuna", 10]._replace(width=18, at_most=False)
 _UTF16 = (BOM_UTF16_LE, BOM_UTF16_BE)
 _LOOKALIKES = {"O": "0", "o": "0", "I": "1", "l": "1"}
@@ -917,9 +938,36 @@ def _form(content: _Content) -> Iterator[_Found]:
         yield "account_form", {}
     if content.kind == "model":
         yield "model", {}
+    if content.kind == "reference":
+        yield from _personal_income(content)
     country = re.match("[A-Z]{2}", content.text)
     if content.kind == "iban" and country and country.group() != "HR":
         yield "foreign", {"country": country.group()}
+
+
+def _personal_income(content: _Content) -> Iterator[_Found]:
+    """What a reference of three parts is to hold under HR69, the only model that asks for contents."""
+    found = re.fullmatch("([0-9]{5})-[0-9]{11}-([0-9]{3})", content.text)
+    if content.model != "HR69" or found is None:
+        return
+    first, code = found.groups()
+    if first != _PERSONAL_INCOME:
+        yield "first_HR69", {"seen": first}
+    if code not in CODES:
+        yield "code_HR69", {"seen": code}
+        near = _near(code)
+        if near:
+            yield "near_HR69", {"codes": ", ".join(near)}
+
+
+def _near(seen: str) -> List[str]:
+    """The nearest of the codes that three digits become where one of them is changed or two are exchanged."""
+    near = []
+    for code in CODES:
+        changed = sum(digit != other for digit, other in zip(code, seen))
+        if changed == 1 or changed == 2 and sorted(code) == sorted(seen):
+            near.append(code)
+    return sorted(near, key=lambda code: abs(int(code) - int(seen)))[:_NEAREST]
 
 
 def _parts(content: _Content) -> Iterator[_Found]:

@@ -3,7 +3,7 @@
 from typing import Dict, List, NamedTuple, Tuple
 
 #: The version of the package, which is that of the library it was made with.
-VERSION = "1.2.0"
+VERSION = "1.3.0"
 
 #: The name and the meaning of each refusal, by its number.
 KINDS: Dict[int, Tuple[str, str]] = {
@@ -127,7 +127,7 @@ FIELDS: Dict[Tuple[str, int], Field] = {
               ("`HR` and two digits, a model that is handled.", "`HR` i dvije znamenke, model koji je podržan.")),
         Field("slip", 12, 0, 22, True, True,
               ("Recipient's reference", "Poziv na broj primatelja"),
-              ("Digits and hyphens, at most 22 characters, as the model in field 11 asks.", "Znamenke i crtice, najviše 22 znaka, u skladu s modelom iz polja 11.")),
+              ("Digits and hyphens, at most 22 characters, as the model in field 11 asks; of three parts under `HR69`, the first is `40002` and the third one of the 55 codes of kinds of personal income.", "Znamenke i crtice, najviše 22 znaka, u skladu s modelom iz polja 11; ako model `HR69` ima tri podatka, prvi je `40002`, a treći jedna od 55 šifara vrste osobnog primanja.")),
         Field("slip", 13, 0, 4, False, True,
               ("Purpose code", "Šifra namjene"),
               ("Four letters A to Z, or empty.", "Četiri slova od A do Z ili prazno.")),
@@ -220,7 +220,7 @@ FIELDS: Dict[Tuple[str, int], Field] = {
               ("Blank, or `HR` and two digits, a model that is handled.", "Praznine, ili `HR` i dvije znamenke, model koji je podržan.")),
         Field("309", 7, 182, 22, False, True,
               ("Payer's reference", "Poziv na broj platitelja"),
-              ("Digits and hyphens, then blanks, as the model in field 6 asks; blank where the model is blank.", "Znamenke i crtice, zatim praznine, u skladu s modelom iz polja 6; praznine ako modela nema.")),
+              ("Digits and hyphens, then blanks, as the model in field 6 asks; blank where the model is blank; of three parts under `HR69`, the first is `40002` and the third one of the 55 codes of kinds of personal income.", "Znamenke i crtice, zatim praznine, u skladu s modelom iz polja 6; praznine ako modela nema; ako model `HR69` ima tri podatka, prvi je `40002`, a treći jedna od 55 šifara vrste osobnog primanja.")),
         Field("309", 8, 204, 4, False, True,
               ("Purpose code", "Šifra namjene"),
               ("Blank, or four letters A to Z.", "Praznine ili četiri slova od A do Z.")),
@@ -235,7 +235,7 @@ FIELDS: Dict[Tuple[str, int], Field] = {
               ("Blank, or `HR` and two digits, a model that is handled.", "Praznine, ili `HR` i dvije znamenke, model koji je podržan.")),
         Field("309", 12, 367, 22, False, True,
               ("Recipient's reference", "Poziv na broj primatelja"),
-              ("Digits and hyphens, then blanks, as the model in field 11 asks; blank where the model is blank.", "Znamenke i crtice, zatim praznine, u skladu s modelom iz polja 11; praznine ako modela nema.")),
+              ("Digits and hyphens, then blanks, as the model in field 11 asks; blank where the model is blank; of three parts under `HR69`, the first is `40002` and the third one of the 55 codes of kinds of personal income.", "Znamenke i crtice, zatim praznine, u skladu s modelom iz polja 11; praznine ako modela nema; ako model `HR69` ima tri podatka, prvi je `40002`, a treći jedna od 55 šifara vrste osobnog primanja.")),
         Field("309", 13, 389, 11, False, False,
               ("BIC (SWIFT) address", "BIC (SWIFT) adresa"),
               ("Not read.", "Ne provjerava se.")),

@@ -40,6 +40,18 @@ LABEL_FIELDS = [b"20240228", b"4", b"000", b"1", b"12345678903", b"00000000042",
 GROUP_FIELDS = [b"HR1210010051863000160", b"EUR", b" " * 21, b"   ", b"20240301"]
 
 
+#: References under HR69 and their refusals, 0 for none: with three parts they are for personal income, 40002, an OIB and a
+#: code; 5 comes after 8 and before 9.
+PERSONAL_INCOME = [
+    (b"40002-12345678903-100", 0), (b"40002-12345678903-699", 0), (b"40010-12345678903", 0),
+    (b"40003-12345678903", 9), (b"40002-12345678904-100", 9),
+    (b"40010-12345678903-100", 5), (b"40003-12345678903-100", 5), (b"40003-12345678904-999", 5),
+    (b"40002-12345678903-101", 5), (b"40002-12345678903-000", 5), (b"40002-12345678903-099", 5),
+    (b"40002-12345678904-101", 5),
+    (b"40002-12345678903-10", 8), (b"40002-12345678903-10-1", 8), (b"40002", 8),
+]
+
+
 def order_fields(cents: bytes = b"000000000012355") -> List[bytes]:
     """The sixteen fields of an order of whatever amount."""
     return [
@@ -92,6 +104,13 @@ class Case(unittest.TestCase):
         answer = (refused.number, refused.line, refused.field, refused.byte, refused.needed)
         self.assertEqual(answer, tuple(told) + (0,) * (5 - len(told)))
 
+    def assert_told(self, told: Sequence[int], call: Callable[..., Any], *lent: Any) -> None:
+        """That a call refuses so, or accepts where the number is 0."""
+        if told[0]:
+            self.assert_refused(told, call, *lent)
+        else:
+            call(*lent)
+
 
 class Rules(Case):
     def test_check_digits(self) -> None:
@@ -135,6 +154,18 @@ class Rules(Case):
         self.assert_refused([7], reference, b"HR12", b"1")
         self.assert_refused([5], reference, b"", b"")
 
+    def test_personal_income(self) -> None:
+        for text, number in PERSONAL_INCOME + [(b"40002-12345678903-100-1", 4)]:
+            self.assert_told([number], reference, b"HR69", text)
+        reference(b"HR00", b"40003-12345678904-101")
+
+    def test_codes(self) -> None:
+        """The codes are those of field 22 of an order, whose code is not compared with that of the order's reference."""
+        for code in (b"%03d" % number for number in range(1000)):
+            of_reference = refused(reference, b"HR69", b"40002-12345678903-" + code)
+            of_order = refused(write_order, DAY, 4, replaced(order_fields(), 14, code))
+            self.assertEqual(of_reference is None, of_order is None, code)
+
 
 class Wet(Case):
     def test_list_iban(self) -> None:
@@ -157,6 +188,13 @@ class Wet(Case):
         self.assert_refused([16], list_reference, b"HR01", b"?????")
         self.assert_refused([5], list_reference, b"HR", b"?")
         self.assert_refused([7], list_reference, b"HR12", b"?")
+
+    def test_personal_income(self) -> None:
+        self.assertEqual(list_reference(b"HR69", b"40002-12345678903-10?"), [0])
+        self.assertEqual(list_reference(b"HR69", b"40010-1234567890?"), [3])
+        self.assertEqual(list_reference(b"HR69", b"40010-12345678903-???"), [])
+        listed = list_reference(b"HR69", b"4000?-12345678903-???")
+        self.assertEqual((len(listed), listed[:3], listed[-1]), (55, [2100, 2110, 2120], 2699))
 
     def test_filled(self) -> None:
         self.assertEqual(filled(b"?-?-?", 7), b"0-0-7")
@@ -194,6 +232,13 @@ class Slips(Case):
             self.assert_refused([refused, 0, number, start + byte], slip_cents, slip)
             self.assert_refused([refused, 0, number, byte], slip_write, 12355, fields)
             self.assertEqual(slip_field(slip, 4), b"")
+
+    def test_personal_income(self) -> None:
+        for text, number in PERSONAL_INCOME:
+            fields = replaced(replaced(SLIP_FIELDS, 7, b"HR69"), 8, text)
+            start = 29 + sum(len(field) + 1 for field in fields[:8])
+            self.assert_told([number, 0, 12, start], slip_read, slip_of(fields))
+            self.assert_told([number, 0, 12], slip_write, 12355, fields)
 
     def test_write_refused(self) -> None:
         self.assert_refused([4, 0, 3], slip_write, 10**15, SLIP_FIELDS)
@@ -276,8 +321,8 @@ class Wages(Case):
         for line, byte, value, told in (
             (2, 3, b"3", [6, 2, 1]), (3, 1001, b" ", [2, 3]), (3, 350, b" ", [3, 3, 10, 350]),
             (3, 997, b"4", [5, 3, 0, 997]), (4, 179, b"2", [7, 4, 6, 177]), (4, 186, b"4", [8, 4, 7, 181]),
-            (4, 181, b"5", [9, 4, 7, 181]), (2, 77, b"9", [11, 2, 7, 73]), (2, 52, b"1", [12, 4]),
-            (2, 52, b"3", [12, 5]), (2, 53, b"1", [13, 5]),
+            (4, 181, b"5", [5, 4, 7, 181]), (4, 201, b"1", [5, 4, 7, 181]), (4, 197, b"4", [9, 4, 7, 181]),
+            (2, 77, b"9", [11, 2, 7, 73]), (2, 52, b"1", [12, 4]), (2, 52, b"3", [12, 5]), (2, 53, b"1", [13, 5]),
         ):
             file = bytearray(file_of_two())
             at = (line - 1) * LINE + byte
@@ -368,6 +413,16 @@ class Lines(Case):
         self.assert_refused([11, 0, 7, 73], write_group, DAY, 4, replaced(GROUP_FIELDS, 4, b"20240227"), order)
         self.assert_refused([11], write_closing, 20230229)
         self.assertRaises(ValueError, write_label, DAY, LABEL_FIELDS[1:])
+
+    def test_personal_income(self) -> None:
+        """In the fields 7 and 12 of an order: written, judged in a file, and lent to the writer of a group."""
+        for place, field, byte in ((4, 7, 181), (9, 12, 366)):
+            for text, number in PERSONAL_INCOME:
+                fields = replaced(replaced(order_fields(), place - 1, b"HR69"), place, text.ljust(22))
+                self.assert_told([number, 0, field, byte], write_order, DAY, 4, fields)
+                file = with_bytes(file_of_two(), 4, byte - 4, b"HR69" + text.ljust(22))
+                self.assert_told([number, 4, field, byte], wage_file, DAY, file)
+                self.assert_told([number, 2, field, byte], write_group, DAY, 4, GROUP_FIELDS, file[2 * LINE:4 * LINE])
 
     def test_no_room(self) -> None:
         """The module lends room enough; the library tells what it needs, and leaves less room as it was."""

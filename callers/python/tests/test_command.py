@@ -593,6 +593,8 @@ class Texts(Case):
             (["reference", "HR01", "7269-68499637766-00019"], 9, "7269-68499637766-00019", -1),
             (["reference", "HR01", "x"], 3, "x", 0), (["reference", "HR69", "40002"], 8, "40002", -1),
             (["reference", "HR12", "1"], 7, "HR12", -1), (["reference", "hr1", "1"], 5, "hr1", -1),
+            (["reference", "HR69", "40002-12345678903-101"], 5, "40002-12345678903-101", -1),
+            (["reference", "HR6", "40002-12345678903-101"], 5, "HR6", -1),
             (["wet", "HR?????10051863000160"], 16, "HR?????10051863000160", -1), (["wet", "xx"], 1, "xx", -1),
             (["wet", "xR1210010051863000160"], 3, "xR1210010051863000160", -1),
             (["wet", "HR12", "?"], 7, "HR12", -1), (["wet", "HR01", "?x"], 3, "?x", -1),
@@ -607,6 +609,25 @@ class Texts(Case):
 
     def test_hints_know_the_model(self) -> None:
         self.assertIn("HR69", run("reference", "HR69", "40002").out)
+
+    def test_personal_income(self) -> None:
+        asked = ("reference", "HR69", "40002-12345678903-101")
+        self.assertEqual(run(*asked).out, (
+            "refused 5: The content is not the required word, form or code.\n"
+            "  40002-12345678903-101\n"
+            "  hint: HR69 asks for a code of the kinds of personal income as the third part; here it is 101. Compare it with "
+            "the paper.\n"
+            "  hint: If one digit was misread or two were exchanged, the code may be, for example, 100, 110, 191. Write the "
+            "right one.\n"))
+        self.assertEqual(run(*asked, "--lang", "hr").out, (
+            "odbijeno 5: Podatak nije propisana riječ, oblik ili šifra.\n"
+            "  40002-12345678903-101\n"
+            "  savjet: HR69 traži šifru vrste osobnog primanja kao treći podatak; ovdje je 101. Usporedite podatak s "
+            "izvornikom.\n"
+            "  savjet: Ako je jedna znamenka krivo pročitana ili su dvije zamijenjene, šifra može biti, na primjer, 100, 110, "
+            "191. Upišite pravu.\n"))
+        self.assertEqual(run("wet", "HR69", "40002-12345678903-10?").out, "fillings: 1\n40002-12345678903-100\n")
+        self.assertEqual(self.answer("wet", "HR69", "4000?-12345678903-???")["count"], 55)
 
     def test_wet(self) -> None:
         self.assertEqual(run("wet", "HR01", "0?"), (0, "fillings: 1\n00\n", ""))

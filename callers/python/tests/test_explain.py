@@ -5,10 +5,11 @@ import unittest
 from typing import Any, List, Tuple
 from unittest import mock
 
-from lanecockle import LINE, Judge, Lipa, Record, Refusal, iban, ledger_read, list_iban, slip_read, standing_text
+from lanecockle import LINE, Judge, Lipa, Record, Refusal, iban, ledger_read, list_iban, reference, slip_read, standing_text
 from lanecockle.explain import (
     Shown, kuna, money, of_ledger, of_slip, of_standing, of_text, of_wage, slip_fields, standing_fields,
 )
+from lanecockle.hints import HINTS
 from tests.test_calls import DAY, SLIP_FIELDS, file_of_two, lines_of, refused, replaced, slip_of, with_bytes
 from tests.test_ledger import ACCEPTED, KUNA, joined, kuna_with
 from tests.test_standing import ASSOCIATION, FARM
@@ -85,6 +86,14 @@ class Slips(unittest.TestCase):
             "  ^",
             "  pravilo: `HR` i devetnaest znamenki koje prolaze kontrolu IBAN-a.",
         ])
+
+    def test_personal_income(self) -> None:
+        fields = replaced(replaced(SLIP_FIELDS, 7, b"HR69"), 8, b"40010-12345678903-100")
+        shown = slip_shown(slip_of(fields))
+        self.assertEqual((shown.number, shown.name, shown.field, shown.field_name), (5, "form", 12, "Recipient's reference"))
+        self.assertEqual((shown.content, shown.mark), ("40010-12345678903-100", 0))
+        self.assertIn("under `HR69`, the first is `40002`", shown.rule)
+        self.assertEqual(shown.hints, [HINTS["first_HR69"][0].format(seen="40010")])
 
     def test_mark_counts_characters(self) -> None:
         shown = slip_shown(slip_with(4, "ŽELJKA Š_".encode()))
@@ -500,6 +509,16 @@ class Texts(unittest.TestCase):
             shown = of_text(Refusal(8), "reference", b"1-2", "hr", model=b"HR69")
         self.assertEqual(shown.hints, ["!"])
         self.assertIn(b"HR69", list(asked.call_args[0]) + list(asked.call_args[1].values()))
+
+    def test_five_of_a_reference(self) -> None:
+        """Of the model where that has not its form, of the reference where it has."""
+        text = b"40002-12345678903-777"
+        for model, content, hint in (
+            (b"HR6", "HR6", "model"), (b"HR69 ", "HR69 ", "blank"), (b"HR69", text.decode(), "code_HR69"),
+        ):
+            shown = of_text(refusal_of(reference, model, text), "reference", text, "en", placed=True, model=model)
+            self.assertEqual((shown.number, shown.content, shown.mark), (5, content, -1))
+            self.assertEqual(shown.hints[0], HINTS[hint][0].format(seen="777", at=5))
 
 
 class AllRefusals(unittest.TestCase):

@@ -10,10 +10,10 @@ from lanecockle import (
     FIELDS, LINE, STANDING, Refusal, Rule, Sheet, check_digits, iban, ledger_read, list_iban, list_reference, oib, reference,
     sheet_text, slip_read, standing_text, wage_file,
 )
-from lanecockle.hints import HINTS, MODELS, MOST, _KINDS, of_ledger, of_sheet, of_slip, of_text, of_wage, slip_layout
+from lanecockle.hints import CODES, HINTS, MODELS, MOST, _KINDS, of_ledger, of_sheet, of_slip, of_text, of_wage, slip_layout
 from lanecockle.refusal import LANGUAGES
 from tests.test_calls import DAY, SLIP_FIELDS, file_of_two, lines_of, refused, slip_of, with_bytes
-from tests.test_ledger import KUNA, kuna_with
+from tests.test_ledger import KUNA, REFERENCE, kuna_with
 from tests.test_standing import ASSOCIATION, FARM, MALFORMED, longest
 
 #: A hint that is awaited: its name and what its places are filled with.
@@ -23,6 +23,19 @@ Say = Callable[[Any, str], Optional[List[str]]]
 MARK = b"\xEF\xBB\xBF"
 SLIP = slip_of(SLIP_FIELDS)
 MODELS_TOLD = ", ".join(MODELS)
+
+#: References under HR69 that hold another first part or no code, and what is said of them.
+PERSONAL_INCOME: List[Tuple[str, List[Awaited]]] = [
+    ("40010-12345678903-100", [("first_HR69", {"seen": "40010"})]),
+    ("40003-12345678904-999", [
+        ("first_HR69", {"seen": "40003"}), ("code_HR69", {"seen": "999"}), ("near_HR69", {"codes": "699"})]),
+    ("40002-12345678903-101", [("code_HR69", {"seen": "101"}), ("near_HR69", {"codes": "100, 110, 191"})]),
+    # the first and the last digit exchanged, two neighbours exchanged, more than three codes, and none
+    ("40002-12345678903-016", [("code_HR69", {"seen": "016"}), ("near_HR69", {"codes": "610"})]),
+    ("40002-12345678903-911", [("code_HR69", {"seen": "911"}), ("near_HR69", {"codes": "191"})]),
+    ("40002-12345678903-439", [("code_HR69", {"seen": "439"}), ("near_HR69", {"codes": "433, 432, 431"})]),
+    ("40002-12345678903-777", [("code_HR69", {"seen": "777"})]),
+]
 
 
 def slip_with(number: int, content: str, *more: str) -> bytes:
@@ -248,6 +261,14 @@ class Slips(Case):
             self.slip(slip_with(11, model, wrong), [("parts_" + model, {"seen": seen})], slip_with(11, "HR01", "1-"))
         self.slip(slip_with(11, "HR99", "0"), [("parts_HR99", {})], slip_with(11, "HR99", ""))
 
+    def test_personal_income(self) -> None:
+        right = [slip_with(11, "HR69", text) for text in ("40002-12345678903-100", "40010-12345678903")]
+        self.accepted(of_a_slip, *right)
+        for text, awaited in PERSONAL_INCOME:
+            # its model without its form, and a check digit
+            self.slip(slip_with(11, "HR69", text), awaited, *right, slip_with(11, "HR6", text),
+                      slip_with(11, "HR69", "40002-12345678904-100"))
+
 
 class Ledger(Case):
     """Slips of either currency: of a kuna slip nothing is said in cents, nor of a euro slip in lipa."""
@@ -285,6 +306,10 @@ class Ledger(Case):
         self.slip(kuna_with(11, b"HRO1"), [("lookalike", {"at": 3, "seen": "O", "meant": "0"}), ("model", {})])
         self.slip(kuna_with(12, b"7269-68949637676-00019"), [("digit", {})])
         self.slip(kuna_with(12, b"1-"), [("parts", {"seen": "1, 0"})])
+
+    def test_personal_income(self) -> None:
+        for text, awaited in PERSONAL_INCOME:
+            self.slip(KUNA.replace(b"HR01\n" + REFERENCE, b"HR69\n" + text.encode()), awaited)
 
     def test_currency(self) -> None:
         """Another currency is not said to be the kuna, nor is the kuna itself wrong."""
@@ -421,9 +446,15 @@ class Wages(Case):
         self.file(file_with(3, 182, b"40002".ljust(22)), [("parts_HR69", {"seen": "5"})])
         self.file(file_with(3, 363, b"HR99"), [("parts_HR99", {})], file_with(3, 363, b"HR99" + blank))
         self.file(file_with(3, 363, b"HR01", 367, blank), [("parts", {"seen": "0"})])
-        self.file(file_with(3, 182, b"40003"), [("digit", {})])
+        self.file(file_with(3, 182, b"40002-12345678904"), [("digit", {})])
         self.file(file_with(3, 182, b"4OOO2"), [("lookalike", {"at": 2, "seen": "O", "meant": "0"})])
         self.file(file_with(3, 182, b"40002 12345678903"), [("blank", {"at": 6})])
+
+    def test_personal_income(self) -> None:
+        for text, awaited in PERSONAL_INCOME:
+            for position in (178, 363):
+                wrong = b"HR69" + text.encode().ljust(22)
+                self.file(file_with(3, position, wrong), awaited, file_with(3, position, b"HR6 " + wrong[4:]))
 
     def test_dates(self) -> None:
         file = file_of_two()
@@ -496,6 +527,14 @@ class Texts(Case):
         for at, language in enumerate(LANGUAGES):
             told = HINTS["parts_HR69"][at].format(seen="5")
             self.assertEqual(of_text("reference", b"40002", refusal, language, b"HR69"), [told])
+
+    def test_personal_income(self) -> None:
+        def say(text: str, language: str) -> Optional[List[str]]:
+            refusal = refused(reference, b"HR69", text.encode())
+            return of_text("reference", text.encode(), refusal, language, b"HR69") if refusal else None
+
+        for text, awaited in PERSONAL_INCOME:
+            self.check(say, text, awaited, "40002-12345678903-100", "40002-12345678904-100")
 
     def test_model(self) -> None:
         self.text("model", b"HR05", [("models", {"models": MODELS_TOLD, "model": "HR05"})], b"HR01")
@@ -640,13 +679,17 @@ class Tables(unittest.TestCase):
 
         self.assertEqual(MODELS, [model for model in (f"HR{number:02}" for number in range(100)) if is_handled(model)])
 
+    def test_codes_are_the_library_s(self) -> None:
+        listed = list_reference(b"HR69", b"40002-12345678903-???", texts=True)
+        self.assertEqual(CODES, [text[-3:].decode() for text in listed])
+
 
 class Anything(unittest.TestCase):
     """Whatever the bytes and the refusal, at most three sentences come, the same in each language."""
 
     PIECES = [
         SLIP, KUNA, b"\r", b"\n", b"\0", b"\t", MARK, b"HR12", b"O", b"\xC4", b"\xFF\xFE", b"{0}", b"{at}", b"300\r\n",
-        b" " * 990, b"4=", b"13=x\n", b"04=", b"=",
+        b" " * 990, b"4=", b"13=x\n", b"04=", b"=", b"HR69\n40003-12345678904-101\n",
     ]
 
     def assert_some(self, english: List[str], croatian: List[str]) -> None:

@@ -12,7 +12,7 @@ from lanecockle import (
     FIELDS, EuroCents, LedgerSlip, Lipa, calls, ledger, ledger_field, ledger_read, lipa_in_cents, slip_cents, slip_field,
     slip_read, slip_write,
 )
-from tests.test_calls import SLIP_FIELDS, Case, refused, replaced
+from tests.test_calls import PERSONAL_INCOME, SLIP_FIELDS, Case, refused, replaced
 
 IBAN = b"HR1210010051863000160"
 ACCOUNT = b"1001005-1863000160"
@@ -120,6 +120,13 @@ class Refused(Case):
                 changed = replaced(fields, number - 1, text)
                 start = sum(len(field) + 1 for field in changed[:number - 1])
                 self.assert_all_refused([refusal, 0, number, start + byte], joined(changed))
+
+    def test_personal_income(self) -> None:
+        for fields in ACCEPTED:
+            for text, number in PERSONAL_INCOME:
+                changed = replaced(replaced(fields, 10, b"HR69"), 11, text)
+                start = sum(len(field) + 1 for field in changed[:11])
+                self.assert_told([number, 0, 12, start], ledger_read, joined(changed))
 
     def test_account(self) -> None:
         start = KUNA.index(ACCOUNT)

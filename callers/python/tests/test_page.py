@@ -195,7 +195,8 @@ class Wages(Served):
         for line, byte, text, told in (
             (2, 3, b"3", [6, 2, 1, 0]), (3, 1001, b" ", [2, 3, 0, 0]), (3, 350, b"<", [3, 3, 10, 350]),
             (3, 997, b"4", [5, 3, 0, 997]), (4, 179, b"2", [7, 4, 6, 177]), (4, 186, b"4", [8, 4, 7, 181]),
-            (4, 181, b"5", [9, 4, 7, 181]), (2, 77, b"9", [11, 2, 7, 73]), (2, 997, b"309", [10, 2, 0, 0]),
+            (4, 181, b"5", [5, 4, 7, 181]), (4, 197, b"4", [9, 4, 7, 181]), (2, 77, b"9", [11, 2, 7, 73]),
+            (2, 997, b"309", [10, 2, 0, 0]),
         ):
             file = bytearray(file_of_two())
             at = (line - 1) * LINE + byte
@@ -359,6 +360,8 @@ class Typed(Served):
         answer = self.asked("/api/wet", model="hr00", text="????")
         self.assertEqual((answer["count"], len(answer["fillings"]), answer["fillings"][199]), (10_000, 200, "0199"))
         self.assertEqual(self.asked("/api/wet", model="HR99", text="")["fillings"], [""])
+        answer = self.asked("/api/wet", model="HR69", text="40002-12345678903-10?")
+        self.assertEqual(answer["fillings"], ["40002-12345678903-100"])
 
     def test_wet_refused(self) -> None:
         for texts, number, content in (
@@ -383,10 +386,18 @@ class Typed(Served):
             ({"what": "reference", "model": "HR12", "text": "1"}, 7, -1),
             ({"what": "reference", "model": "HR01", "text": ""}, 8, -1),
             ({"what": "reference", "model": "HR01", "text": "1"}, 9, -1),
-            ({"what": "reference", "model": "X", "text": "1"}, 5, -1),
+            ({"what": "reference", "model": "X", "text": "1"}, 5, -1), ({**right, "text": "40002-12345678903-101"}, 5, -1),
         ):
             refusal = self.asked("/api/check", **texts)["refusal"]
             self.assertEqual((refusal["number"], refusal["mark"]), (number, mark), texts)
+
+    def test_five_of_a_reference(self) -> None:
+        """Shown of the model, or of the reference, with the hints of that one."""
+        for model, content, words in (("HR6", "HR6", "HR01"), ("HR69", "40010-12345678903-100", "40002")):
+            asked = {"what": "reference", "model": model, "text": "40010-12345678903-100"}
+            refusal = self.asked("/api/check", **asked)["refusal"]
+            self.assertEqual((refusal["number"], refusal["content"], len(refusal["hints"])), (5, content, 1))
+            self.assertIn(words, refusal["hints"][0])
 
 
 class Bad(Served):

@@ -157,6 +157,7 @@ class Written(SheetCase):
             (10**15, replaced(BARE, 0, b"_"), [4, 0, 3]), (1, replaced(BARE, 0, b"IVAN_"), [3, 0, 4, 4]),
             (1, replaced(BARE, 6, b""), [4, 0, 10]), (1, replaced(BARE, 7, b""), [5, 0, 11]),
             (1, replaced(BARE, 9, b"COS"), [4, 0, 13]),
+            (1, replaced(replaced(BARE, 7, b"HR69"), 8, b"40002-12345678903-101"), [5, 0, 12]),
         ):
             self.assert_refused(told, slip_write_standing, cents, fields, FARM, ASSOCIATION)
             self.assert_malformed(Sheet.FARM, 1, slip_write_standing, cents, fields, b"x", b"x")

@@ -136,13 +136,18 @@ pub fn oib(text: &[u8]) -> Result<(), Refusal> {
     ffi::oib(text).result()
 }
 
-/// A reference under its model, `HR` and two digits. Refusals: 5 and 7 of the model; 3 with its byte, 4, 8, 9.
+/// A reference under its model, `HR` and two digits. Refusals, in this order: 5 (not `HR` and two digits) and 7 of the model; 3
+/// with its byte, 4, 8, 5, 9 of the reference.
+///
+/// That last 5 is of HR69 alone, with three parts: the first is not `40002`, or the third no code of a kind of personal income.
+/// Like the model's it tells no place: where the model is `HR` and two digits, 5 is of the reference.
 ///
 /// ```
 /// use lanecockle::{reference, Kind};
 ///
 /// assert!(reference(b"HR69", b"40002-12345678903-100").is_ok());
 /// assert_eq!(reference(b"HR69", b"40002").unwrap_err().kind, Kind::Parts);
+/// assert_eq!(reference(b"HR69", b"40002-12345678903-101").unwrap_err().kind, Kind::Form);
 /// assert_eq!(reference(b"HR12", b"40002").unwrap_err().kind, Kind::Model);
 /// ```
 pub fn reference(model: &[u8], text: &[u8]) -> Result<(), Refusal> {
@@ -162,7 +167,7 @@ pub fn list_iban(text: &[u8], out: &mut [u16]) -> Result<usize, Refusal> {
 }
 
 /// The fillings of a reference under its model, as [`list_iban`] gives those of an IBAN. Refusals: 1, 3, 16, 5 and 7 of the
-/// model, 15 with the count, none with a place.
+/// model, 15 with the count, none with a place. A filling that [`reference`] refuses is not listed.
 ///
 /// ```
 /// let mut numbers = [0; 10];
@@ -171,6 +176,9 @@ pub fn list_iban(text: &[u8], out: &mut [u16]) -> Result<usize, Refusal> {
 ///
 /// let refusal = lanecockle::list_reference(b"HR01", b"??", &mut numbers[..9]).unwrap_err();
 /// assert_eq!((refusal.kind.number(), refusal.needed), (15, 10));
+///
+/// assert_eq!(lanecockle::list_reference(b"HR69", b"4000?-12345678903-10?", &mut numbers), Ok(1));
+/// assert_eq!(numbers[0], 20);
 /// ```
 pub fn list_reference(model: &[u8], text: &[u8], out: &mut [u16]) -> Result<usize, Refusal> {
     value(ffi::list_reference(model, text, out))

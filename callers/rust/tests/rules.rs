@@ -73,6 +73,35 @@ fn references() {
     assert_eq!(reference(b"", b"1"), Err(refused(Kind::Form)));
 }
 
+/// References under HR69, and what refuses them: with three parts they are for personal income, 40002, an OIB and a code; 5
+/// comes after 8 and before 9.
+const PERSONAL_INCOME: [(&[u8], Option<Kind>); 16] = [
+    (b"40002-12345678903-100", None),
+    (b"40002-12345678903-699", None),
+    (b"40010-12345678903", None),
+    (b"40003-12345678903", Some(Kind::Digit)),
+    (b"40002-12345678904-100", Some(Kind::Digit)),
+    (b"40010-12345678903-100", Some(Kind::Form)),
+    (b"40003-12345678903-100", Some(Kind::Form)),
+    (b"40003-12345678904-999", Some(Kind::Form)),
+    (b"40002-12345678903-101", Some(Kind::Form)),
+    (b"40002-12345678903-000", Some(Kind::Form)),
+    (b"40002-12345678903-099", Some(Kind::Form)),
+    (b"40002-12345678904-101", Some(Kind::Form)),
+    (b"40002-12345678903-10", Some(Kind::Parts)),
+    (b"40002-12345678903-10-1", Some(Kind::Parts)),
+    (b"40002", Some(Kind::Parts)),
+    (b"40002-12345678903-100-1", Some(Kind::Length)),
+];
+
+#[test]
+fn personal_income() {
+    for (text, kind) in PERSONAL_INCOME {
+        assert_eq!(reference(b"HR69", text).err(), kind.map(refused), "{text:?}");
+    }
+    assert_eq!(reference(b"HR00", b"40003-12345678904-101"), Ok(()));
+}
+
 #[test]
 fn wet_ibans() {
     let mut out = [7; 3];
@@ -104,19 +133,33 @@ fn wet_references() {
 }
 
 #[test]
+fn wet_personal_income() {
+    let mut out = [7; 56];
+    assert_eq!(list_reference(b"HR69", b"40002-12345678903-10?", &mut out), Ok(1));
+    assert_eq!(out[..2], [0, 7]);
+    assert_eq!(list_reference(b"HR69", b"40010-1234567890?", &mut out), Ok(1));
+    assert_eq!(out[..2], [3, 7]);
+    assert_eq!(list_reference(b"HR69", b"40010-12345678903-???", &mut out), Ok(0));
+    assert_eq!(list_reference(b"HR69", b"4000?-12345678903-???", &mut out), Ok(55));
+    assert_eq!((out[0], out[1], out[54], out[55]), (2100, 2110, 2699, 7));
+}
+
+#[test]
 fn every_filling_passes_and_no_other() {
-    let text = b"??0-1?";
-    let mut numbers = [0; FILLINGS];
-    let count = list_reference(b"HR01", text, &mut numbers).unwrap();
-    let passing: Vec<u16> = (0..1000)
-        .filter(|&number| {
-            let mut out = *text;
-            filled(text, number, &mut out).unwrap();
-            reference(b"HR01", &out).is_ok()
-        })
-        .collect();
-    assert!(count > 0);
-    assert_eq!(numbers[..count], passing);
+    for (model, text) in [(b"HR01", &b"??0-1?"[..]), (b"HR69", b"4000?-12345678903-???")] {
+        let mut numbers = [0; FILLINGS];
+        let count = list_reference(model, text, &mut numbers).unwrap();
+        let marks = text.iter().filter(|&&byte| byte == b'?').count() as u32;
+        let passing: Vec<u16> = (0..10_u16.pow(marks))
+            .filter(|&number| {
+                let mut out = text.to_vec();
+                filled(text, number, &mut out).unwrap();
+                reference(model, &out).is_ok()
+            })
+            .collect();
+        assert!(count > 0);
+        assert_eq!(numbers[..count], passing);
+    }
 }
 
 #[test]

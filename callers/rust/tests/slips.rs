@@ -98,6 +98,26 @@ fn a_field_is_refused_by_the_reader_and_by_the_writer() {
     }
 }
 
+/// References under HR69, by the reader and by the writer.
+#[test]
+fn a_reference_of_three_parts_is_for_personal_income() {
+    let texts: [(&[u8], Option<Kind>); 5] = [
+        (b"40002-12345678903-100", None),
+        (b"40002-12345678903-101", Some(Kind::Form)),
+        (b"40010-12345678903-100", Some(Kind::Form)),
+        (b"40002-12345678904-100", Some(Kind::Digit)),
+        (b"40002-12345678903-10", Some(Kind::Parts)),
+    ];
+    for (text, kind) in texts {
+        let mut given = fields();
+        (given[7], given[8]) = (b"HR69", text);
+        let start = 29 + given[..8].iter().map(|field| field.len() + 1).sum::<usize>();
+        assert_eq!(slip::read(&joined(&given)).err(), kind.map(|kind| refused(kind, 12, start)));
+        let written = slip::write(CENTS, &given, &mut [0; slip::MOST]);
+        assert_eq!(written.err(), kind.map(|kind| refused(kind, 12, 0)));
+    }
+}
+
 #[test]
 fn a_line_feed_within_a_field_is_refused() {
     let mut given = fields();

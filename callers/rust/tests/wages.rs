@@ -172,14 +172,16 @@ fn places_are_borrowed_from_the_line() {
 }
 
 /// A byte of the file changed (line, byte, value), and the file's refusal.
-const CHANGED: [(usize, usize, u8, Kind, usize, usize, usize); 11] = [
+const CHANGED: [(usize, usize, u8, Kind, usize, usize, usize); 13] = [
     (2, 3, b'3', Kind::Check, 2, 1, 0),
     (3, 1001, b' ', Kind::Ends, 3, 0, 0),
     (3, 350, b' ', Kind::Byte, 3, 10, 350),
     (3, 997, b'4', Kind::Form, 3, 0, 997),
     (3, 179, b'2', Kind::Model, 3, 6, 177),
     (3, 186, b'4', Kind::Parts, 3, 7, 181),
-    (3, 181, b'5', Kind::Digit, 3, 7, 181),
+    (3, 181, b'5', Kind::Form, 3, 7, 181),
+    (3, 201, b'1', Kind::Form, 3, 7, 181),
+    (3, 197, b'4', Kind::Digit, 3, 7, 181),
     (2, 77, b'9', Kind::Date, 2, 7, 73),
     (2, 52, b'0', Kind::Orders, 3, 0, 0),
     (2, 52, b'2', Kind::Orders, 4, 0, 0),
@@ -309,6 +311,32 @@ fn writers_refuse_fields() {
     group[4] = b"20240227".to_vec();
     let order = order(b"000000000012355");
     unwritten(refused(Kind::Date, 0, 7, 73), |out| wage::write_group(DAY, 4, &lent(&group), &order, out));
+}
+
+/// References under HR69 in the fields 7 and 12: written, judged in a file, and lent to the writer of a group.
+#[test]
+fn a_reference_of_three_parts_is_for_personal_income() {
+    let texts: [(&[u8], Option<Kind>); 4] = [
+        (b"40002-12345678903-699", None),
+        (b"40002-12345678903-101", Some(Kind::Form)),
+        (b"40010-12345678903-100", Some(Kind::Form)),
+        (b"40002-12345678904-100", Some(Kind::Digit)),
+    ];
+    for (place, field, byte) in [(4, 7, 181), (9, 12, 366)] {
+        for (text, kind) in texts {
+            let told = |line| kind.map(|kind| refused(kind, line, field, byte));
+            let mut fields = order_fields(b"000000000012355");
+            (fields[place - 1], fields[place]) = (b"HR69".to_vec(), wide(text, 22));
+            let written = wage::write_order(DAY, 4, &lent(&fields), &mut [0; wage::LINE]);
+            assert_eq!(written.err(), told(0));
+            let mut file = file();
+            let start = 2 * wage::LINE + byte - 4;
+            file[start..start + 26].copy_from_slice(&fields[place - 1..=place].concat());
+            assert_eq!(wage::file(DAY, &file).err(), told(3));
+            let group = wage::write_group(DAY, 4, &lent(&group_fields()), line(&file, 3), &mut [0; wage::LINE]);
+            assert_eq!(group.err(), told(1));
+        }
+    }
 }
 
 #[test]

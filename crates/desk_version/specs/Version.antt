@@ -2,4 +2,4 @@
 use Rattle.refusal.specs.Basics.{ℕ}
 
 abbrev pub version : ℕ
-version = 10200
+version = 10300
