@@ -4,6 +4,7 @@ use Rattle.refusal.specs.Basics.{ℕ, _+_, Bool, cond, _&&_, eqb, leb}
 use Rattle.refusal.specs.Refusal.{refusalOf}
 use Rattle.refusal.specs.declared.Refusal.{Refusal}
 use Rattle.sums.specs.Sums.{noCents, fits}
+use Rattle.tally.specs.Tally.{noOrders, isWithin}
 use Rattle.dates.specs.Dates.{isDate}
 use Rattle.condition.specs.declared.Condition.{Condition}
 use Rattle.condition.specs.declared.Condition.the-variants.{Fresh, Labelled, Grouped, Closed, Refused}
@@ -52,11 +53,12 @@ refusalIn (Refused r) = r
 abbrev pub nextLine : Judge → ℕ
 nextLine j = j .read .lines + 1
 
--- "an unrefused record with a count above 1,000,000 or a sum of 10^20 or more gets it too"
+-- "an unrefused record with a count above 1,000,000 or a sum of 10^20 or more gets it too"; document 02, W5, of the file's own total: "10^21 or
+-- more there is 17"
 unfoldable pub isSound : Judge → Bool
 isSound j =
-    leb (j .read .lines) 1000000 && leb (j .read .groups) 1000000 && leb (j .read .orders) 1000000 && leb (j .group .declared) 1000000 &&
-    leb (j .group .counted) 1000000 && fits 100 (j .group .promised) && fits 100 (j .group .total)
+    leb (j .read .lines) 1000000 && isWithin (j .read .tally) && leb (j .group .declared) 1000000 && leb (j .group .counted) 1000000 &&
+    fits 100 (j .group .promised) && fits 100 (j .group .total)
 
 -- ---------------------------------------------------------------------------
 -- The beginning
@@ -67,7 +69,7 @@ fresh day = record {
   condition = Fresh;
   day = day;
   kind = 0;
-  read = record { lines = 0; groups = 0; orders = 0 };
+  read = record { lines = 0; tally = noOrders };
   group = record { declared = 0; promised = noCents; counted = 0; total = noCents };
 }
 
@@ -78,7 +80,8 @@ begun day = cond (isDate day) (fresh day) (refusedWith (atLine 11 0) (fresh day)
 -- ---------------------------------------------------------------------------
 -- The end
 
--- a refusal again; 17; "The end gives 14, at the next line number, unless the 399 was read"; "Acceptance tells lines, groups and orders"
+-- a refusal again; 17; "The end gives 14, at the next line number, unless the 399 was read"; "Acceptance tells lines, groups and orders",
+-- "and acceptance tells the file's own total too"
 unfoldable pub ended : Judge → Ending
 ended j =
     cond (isRefused (j .condition)) (ending.Refused (refusalIn (j .condition)))

@@ -1,12 +1,14 @@
 // The judge's record: the condition that it stands in, what was read, and the group that is open; its beginning and end.
 //
 // Document 01, "The wage file": "The judge stands in one condition: fresh, after the label, inside a group, closed, or
-// refused with its first refusal inside". W5's running total goes into `Counts`.
+// refused with its first refusal inside". Document 02, W5: acceptance tells the file's own total too, "kept in the judge's
+// record".
 ghost use mathlib.Core.Path.{_≡_};
 ghost use Rattle.condition.specs.Record.{stageOf, isRefused, refusalIn, refusedWith, atLine, isSound, begun, ended};
 use refusal::Place;
 use refusal::Refusal;
 use sums::Sum;
+use tally::Tally;
 
 // Where the judge stands.
 pub enum Condition {
@@ -20,11 +22,10 @@ pub enum Condition {
     Refused(Refusal),
 }
 
-// What was read so far, and what acceptance tells.
+// What was read so far, and what acceptance tells: lines, and the file's own tally.
 pub struct Counts {
     pub lines: usize,
-    pub groups: usize,
-    pub orders: usize,
+    pub tally: Tally,
 }
 
 // The group that is open: what its first line declares, and what its orders come to so far.
@@ -128,17 +129,17 @@ pub fn refused(j: Judge, r: Refusal) -> Judge
 // ---------------------------------------------------------------------------
 // A sound record, and the beginning
 
-// Whether no count is above 1,000,000 and no sum is 10^20 or more.
+// Whether no count is above 1,000,000, no group's sum is 10^20 or more and the file's total not 10^21 or more.
 pub fn is_sound(j: Judge) -> bool
     ensures { λ r. ⌜ r ≡ isSound j ⌝ }
 {
     let n = j.read;
     let g = j.group;
+    let tally = n.tally;
     let promised = g.promised;
     let total = g.total;
     (n.lines <= 1000000)
-        & (n.groups <= 1000000)
-        & (n.orders <= 1000000)
+        & tally::is_within(tally)
         & (g.declared <= 1000000)
         & (g.counted <= 1000000)
         & sums::fits(promised, 100)
@@ -156,8 +157,7 @@ pub fn begin(day: u64) -> Judge
         kind: 0,
         read: Counts {
             lines: 0,
-            groups: 0,
-            orders: 0,
+            tally: tally::zero(),
         },
         group: Open {
             declared: 0,

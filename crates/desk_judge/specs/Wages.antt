@@ -5,6 +5,7 @@ use Rattle.wage_line.specs.declared.Typed.{Typed}
 use Rattle.wage_line.specs.declared.Typed.the-variants.{Line, Refused}
 use Rattle.wage_places.specs.Places.{spotOf}
 use Rattle.wage_line.specs.Line.{typedOf}
+use Rattle.sums.specs.Sums.{noCents}
 use Rattle.condition.specs.declared.Ending.{Ending}
 use Rattle.condition.specs.declared.Ending.the-variants as ending
 use Rattle.boundary.specs.Told.{accepted, refusal}
@@ -12,8 +13,8 @@ use Rattle.desk_judge.specs.declared.Ended.{Ended}
 
 -- what the end of a wage file tells
 unfoldable pub endedOf : Ending → Ended
-endedOf (ending.Accepted c) = record { told = accepted; lines = c .lines; groups = c .groups; orders = c .orders }
-endedOf (ending.Refused r) = record { told = refusal r; lines = 0; groups = 0; orders = 0 }
+endedOf (ending.Accepted c) = record { told = accepted; lines = c .lines; groups = c .tally .groups; orders = c .tally .orders; total = c .tally .total }
+endedOf (ending.Refused r) = record { told = refusal r; lines = 0; groups = 0; orders = 0; total = noCents }
 
 -- no part
 abbrev pub noPart : Part

@@ -12,6 +12,7 @@ ghost use Rattle.desk_judge.specs.Wages.{endedOf, placePart};
 use boundary::Told;
 use condition::Ending;
 use desk_record::Record;
+use sums::Sum;
 use text::Part;
 use wage_line::Typed;
 
@@ -22,6 +23,7 @@ pub struct Ended {
     pub lines: usize,
     pub groups: usize,
     pub orders: usize,
+    pub total: Sum,
 }
 
 // What a wage file comes to.
@@ -29,17 +31,23 @@ fn tell_ending(e: Ending) -> Ended
     ensures { λ r. ⌜ r ≡ endedOf e ⌝ }
 {
     match e {
-        Ending::Accepted(c) => Ended {
-            told: boundary::accept(),
-            lines: c.lines,
-            groups: c.groups,
-            orders: c.orders,
-        },
+        Ending::Accepted(c) => {
+            let tally = c.tally;
+            let total = tally.total;
+            Ended {
+                told: boundary::accept(),
+                lines: c.lines,
+                groups: tally.groups,
+                orders: tally.orders,
+                total,
+            }
+        }
         Ending::Refused(r) => Ended {
             told: boundary::refuse(r),
             lines: 0,
             groups: 0,
             orders: 0,
+            total: sums::nothing(),
         },
     }
 }

@@ -26,13 +26,8 @@ judgeOf r = record {
   condition = conditionOf (r .condition) (r .told);
   day = r .day;
   kind = r .kind;
-  read = record { lines = r .lines; groups = r .groups; orders = r .orders };
-  group = record {
-    declared = r .declared;
-    promised = record { high = r .promised .high; low = r .promised .low };
-    counted = r .counted;
-    total = record { high = r .total .high; low = r .total .low };
-  };
+  read = record { lines = r .lines; tally = record { groups = r .groups; orders = r .orders; total = r .«file_total» } };
+  group = record { declared = r .declared; promised = r .promised; counted = r .counted; total = r .total };
 }
 
 -- the refusal of a condition, if it has one
@@ -47,10 +42,11 @@ recordOf j = record {
   day = j .day;
   kind = j .kind;
   lines = j .read .lines;
-  groups = j .read .groups;
-  orders = j .read .orders;
+  groups = j .read .tally .groups;
+  orders = j .read .tally .orders;
+  «file_total» = j .read .tally .total;
   declared = j .group .declared;
-  promised = record { high = j .group .promised .high; low = j .group .promised .low };
+  promised = j .group .promised;
   counted = j .group .counted;
-  total = record { high = j .group .total .high; low = j .group .total .low };
+  total = j .group .total;
 }

@@ -12,16 +12,10 @@ use condition::Open;
 use refusal::Place;
 use refusal::Refusal;
 use sums::Sum;
-
-// Cents, `high` times 10^18 and `low`.
-#[repr(C)]
-pub struct Cents {
-    pub high: u64,
-    pub low: u64,
-}
+use tally::Tally;
 
 // The judge's record: condition 0 fresh, 1 after the label, 2 inside a group, 3 closed, 4 refused, with the refusal in
-// `told`.
+// `told`. `file_total` is what all orders came to so far, `total` what those of the open group did.
 #[repr(C)]
 pub struct Record {
     pub condition: usize,
@@ -31,10 +25,11 @@ pub struct Record {
     pub lines: usize,
     pub groups: usize,
     pub orders: usize,
+    pub file_total: Sum,
     pub declared: u64,
-    pub promised: Cents,
+    pub promised: Sum,
     pub counted: u64,
-    pub total: Cents,
+    pub total: Sum,
 }
 
 // The refusal that a number tells; a number of no other refusal is 17.
@@ -76,24 +71,23 @@ pub fn judge_from(r: Record) -> Judge
 {
     let n = r.condition;
     let t = r.told;
-    let a = r.promised;
-    let b = r.total;
-    let read = Counts {
-        lines: r.lines,
+    let file_total = r.file_total;
+    let promised = r.promised;
+    let total = r.total;
+    let tally = Tally {
         groups: r.groups,
         orders: r.orders,
+        total: file_total,
+    };
+    let read = Counts {
+        lines: r.lines,
+        tally,
     };
     let group = Open {
         declared: r.declared,
-        promised: Sum {
-            high: a.high,
-            low: a.low,
-        },
+        promised,
         counted: r.counted,
-        total: Sum {
-            high: b.high,
-            low: b.low,
-        },
+        total,
     };
     Judge {
         condition: condition_from(n, t),
@@ -120,25 +114,20 @@ pub fn record_from(j: Judge) -> Record
 {
     let c = j.condition;
     let n = j.read;
+    let tally = n.tally;
+    let file_total = tally.total;
     let g = j.group;
-    let a = g.promised;
-    let b = g.total;
-    let promised = Cents {
-        high: a.high,
-        low: a.low,
-    };
-    let total = Cents {
-        high: b.high,
-        low: b.low,
-    };
+    let promised = g.promised;
+    let total = g.total;
     Record {
         condition: condition::stage(c),
         told: condition_told(c),
         day: j.day,
         kind: j.kind,
         lines: n.lines,
-        groups: n.groups,
-        orders: n.orders,
+        groups: tally.groups,
+        orders: tally.orders,
+        file_total,
         declared: g.declared,
         promised,
         counted: g.counted,

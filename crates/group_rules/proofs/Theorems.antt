@@ -2,7 +2,7 @@
 -- Assumes nothing.
 use Rattle.refusal.proofs.Basics.{arith, ℕ, length, List, true, false, eqb}
 use Rattle.verdict.specs.Verdict.{Within}
-use Rattle.verdict.proofs.Verdicts.{choice-within}
+use Rattle.verdict.proofs.Verdicts.{plain-within, choice-within}
 use Rattle.classes.specs.declared.Class.the-variants.{Digits}
 use Rattle.text.proofs.Laws.{bytes-within}
 use Rattle.wage_contents.proofs.Within.{date-within, iban-place-within, currency-within}
@@ -18,4 +18,4 @@ group-within day n f =
     (or (eqb n 4) _ _ (currency-within true f)
     (or (eqb n 5) _ _ (bytes-within Digits f)
     (or (eqb n 6) _ _ (bytes-within Digits f)
-    (or (eqb n 7) _ _ (date-within day 99991231 f) (omega arith)))))))
+    (or (eqb n 7) _ _ (date-within day 99991231 f) (plain-within (length f) 0 (omega arith))))))))

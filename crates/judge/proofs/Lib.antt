@@ -1,3 +1,4 @@
--- What is promised of `judge`.
+-- The laws of a step, and what is promised of `judge`.
+pub mod Laws
 pub mod Theorems
 pub mod One

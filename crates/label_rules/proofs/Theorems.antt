@@ -2,7 +2,7 @@
 -- Assumes nothing.
 use Rattle.refusal.proofs.Basics.{arith, ℕ, length, List, true, false, eqb}
 use Rattle.verdict.specs.Verdict.{Within}
-use Rattle.verdict.proofs.Verdicts.{choice-within}
+use Rattle.verdict.proofs.Verdicts.{plain-within, choice-within}
 use Rattle.classes.specs.declared.Class.the-variants.{Digits}
 use Rattle.text.proofs.Laws.{bytes-within}
 use Rattle.wage_places.specs.declared.LineType.the-variants.{Label}
@@ -21,4 +21,4 @@ label-within day n f s =
     (or (eqb n 5) _ _ (oib-within true f)
     (or (eqb n 6) _ _ (bytes-within Digits f)
     (or (eqb n 7) _ _ (employer-within (partOf Label 5 s) (partOf Label 6 s) f)
-    (or (eqb n 8) _ _ (oib-within false f) (omega arith))))))))
+    (or (eqb n 8) _ _ (oib-within false f) (plain-within (length f) 0 (omega arith)))))))))

@@ -2,7 +2,7 @@
 -- Assumes nothing.
 use Rattle.refusal.proofs.Basics.{_≡_, refl, ap, _∙_, arith, ℕ, List, true, _↔_}
 use Rattle.verdict.specs.Verdict.{Within}
-use Rattle.verdict.proofs.Verdicts.{test-holds, only-within}
+use Rattle.verdict.proofs.Verdicts.{test-holds, plain-within, only-within}
 use Rattle.text.specs.declared.Found.{Found}
 use Rattle.text.specs.declared.Found.the-variants.{At, Nothing}
 use Rattle.model_text.specs.Texts.{modelNumber, modelFrom, modelVerdict}
@@ -30,7 +30,7 @@ model-accepted-exactly s = (by-number (modelNumber s) refl, λ w. ap modelFrom (
 
 from-within : (n : ℕ) (f : Found) → Within n (modelFrom f)
 from-within n (At i) = only-within n (modelOf i .handled) 7 (omega arith)
-from-within n Nothing = omega arith
+from-within n Nothing = plain-within n 5 (omega arith)
 
 pub model-within : (n : ℕ) (s : List ℕ) → Within n (modelVerdict s)
 model-within n s = from-within n (modelNumber s)

@@ -2,7 +2,7 @@
 -- Assumes nothing.
 use Rattle.refusal.proofs.Basics.{arith, ℕ, length, getD, List, Bool, _||_}
 use Rattle.verdict.specs.Verdict.{Within}
-use Rattle.verdict.proofs.Verdicts.{only-within}
+use Rattle.verdict.proofs.Verdicts.{wider-within, plain-within, only-within}
 use Rattle.text.specs.Bytes.{allOf, trimmed}
 use Rattle.classes.specs.declared.Class.the-variants.{Digits, Reference, Letters, Blanks, Description}
 use Rattle.text.proofs.Blanks.{trimmed-shorter}
@@ -24,17 +24,17 @@ sign-within a b c f = only-within (length f) (oneOf a b c (getD f 0 0)) 5 (omega
 
 pub held-within : (h : Held) (n : ℕ) → Within n (heldVerdict h)
 unfolding heldVerdict
-held-within Blank n = omega arith
-held-within NoModel n = omega arith
+held-within Blank n = plain-within n 0 (omega arith)
+held-within NoModel n = plain-within n 5 (omega arith)
 held-within (Number k) n = only-within n (modelOf k .handled) 7 (omega arith)
 
 pub reference-within : (h : Held) (f : List ℕ) → Within (length f) (referenceHeld h f)
 unfolding referenceHeld
-reference-within h f = omega (arith, bare h (trimmed f), trimmed-shorter f)
+reference-within h f = wider-within (length (trimmed f)) (length f) _ (trimmed-shorter f) (bare h (trimmed f))
   where
     bare : (k : Held) (g : List ℕ) → Within (length g) (bareHeld k g)
     bare Blank g = tested-within Reference g _ 8 (omega arith)
-    bare NoModel g = omega arith
+    bare NoModel g = plain-within (length g) 5 (omega arith)
     bare (Number n) g = modelled-within (modelOf n) g
 
 pub description-within : (f : List ℕ) → Within (length f) (descriptionVerdict f)

@@ -2,7 +2,7 @@
 -- Assumes nothing.
 use Rattle.refusal.proofs.Basics.{arith, ℕ, length, List, true, false, not, eqb}
 use Rattle.verdict.specs.Verdict.{Within}
-use Rattle.verdict.proofs.Verdicts.{choice-within}
+use Rattle.verdict.proofs.Verdicts.{plain-within, choice-within}
 use Rattle.classes.specs.declared.Class.the-variants.{Digits}
 use Rattle.text.proofs.Laws.{bytes-within}
 use Rattle.wage_places.specs.declared.LineType.the-variants.{Order}
@@ -30,4 +30,4 @@ order-within kind n f s =
     (or (eqb n 20) _ _ (sign-within 32 48 51 f)
     (or (eqb n 21) _ _ (sign-within 32 48 48 f)
     (or (eqb n 22) _ _ (code-within kind (heldBlank (heldIn (partOf Order 11 s))) f)
-    (or (eqb n 23) _ _ (oib-within (not (eqb kind 5)) f) (omega arith)))))))))))))))
+    (or (eqb n 23) _ _ (oib-within (not (eqb kind 5)) f) (plain-within (length f) 0 (omega arith))))))))))))))))

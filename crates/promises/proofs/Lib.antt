@@ -10,3 +10,4 @@ pub mod Slips
 pub mod Untouched
 pub mod WageReferences
 pub mod Wages
+pub mod RunningTotals

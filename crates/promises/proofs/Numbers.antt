@@ -30,7 +30,8 @@ use Rattle.desk_standing.specs.Standings.{standingTold, writtenTold}
 use Rattle.desk_ledger.specs.Ledgers.{ledgerTold}
 use Rattle.desk_record.specs.Record.{recordOf}
 use Rattle.desk_judge.specs.Wages.{endedOf}
-use Rattle.promises.specs.Calls.{EveryCheckDigits, EveryMakeDigit, EveryIban, EveryOib, EveryReference, EveryListIban, EveryListReference, EveryFilled, EverySlipRead, EverySlipCents, EverySlipWrite, EveryStandingText, EverySlipWriteStanding, EveryLedgerRead, EveryJudgeBegin, EveryJudgeStep, EveryJudgeLines, EveryJudgeEnd, EveryWageFile, EveryWriteLabel, EveryWriteOrder, EveryWriteGroup, EveryWriteClosing}
+use Rattle.desk_tally.specs.Tallied.{talliedOf}
+use Rattle.promises.specs.Calls.{EveryCheckDigits, EveryMakeDigit, EveryIban, EveryOib, EveryReference, EveryListIban, EveryListReference, EveryFilled, EverySlipRead, EverySlipCents, EverySlipWrite, EveryStandingText, EverySlipWriteStanding, EveryLedgerRead, EveryJudgeBegin, EveryJudgeStep, EveryJudgeStepTally, EveryJudgeLines, EveryJudgeEnd, EveryWageFile, EveryWriteLabel, EveryWriteOrder, EveryWriteGroup, EveryWriteClosing}
 use Rattle.promises.specs.Refusals.{Known}
 
 -- ---------------------------------------------------------------------------
@@ -147,6 +148,10 @@ judge-begin-known κs a z w call = rw call (record-known _)
 
 pub judge-step-known : EveryJudgeStep (λ before line r. Known (r .told))
 judge-step-known κs a z w call = rw call (record-known _)
+
+pub judge-step-tally-known : EveryJudgeStepTally (λ before line tally r after. Known (r .told))
+unfolding talliedOf
+judge-step-tally-known κs a z w call = rw (call .0) (record-known _)
 
 pub judge-lines-known : EveryJudgeLines (λ before bytes r. Known (r .told))
 judge-lines-known κs a z w call = rw call (record-known _)

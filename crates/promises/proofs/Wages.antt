@@ -8,6 +8,7 @@ use Rattle.refusal.specs.declared.Refusal.the-variants.{Size}
 use Rattle.text.specs.declared.Part.{Part}
 use Rattle.text.specs.Split.{joined}
 use Rattle.dates.specs.Dates.{isDate}
+use Rattle.sums.specs.Sums.{centsOf, sumOf}
 use Rattle.wage_places.specs.declared.LineType.{LineType}
 use Rattle.wage_places.specs.declared.LineType.the-variants.{Label, Group, Order, Closing}
 use Rattle.wage_places.specs.Places.{spots}
@@ -25,9 +26,9 @@ use Rattle.condition.specs.declared.Judge.{Judge}
 use Rattle.condition.specs.Record.{begun}
 use Rattle.judge.specs.Judge.{steps}
 use Rattle.worked_out.specs.Amounts.{amounts}
-use Rattle.wage_file.specs.Right.{File, linesOf, tally, RightGroup, RightFile}
+use Rattle.wage_file.specs.Right.{File, linesOf, ordersIn, amountsIn, countsIn, RightGroup, RightFile}
 use Rattle.wage_file.specs.File.{fileAnswer}
-use Rattle.wage_file.proofs.Theorems.{file-accepted-exactly, in-parts}
+use Rattle.wage_file.proofs.Theorems.{file-accepted-exactly, total-exact, in-parts}
 use Rattle.lent_fields.specs.Fields.{fieldsOf, lentWhole, forSizes}
 use Rattle.wage_draft.specs.Draft.{partsOfLine, sizesOf, plainElsewhere}
 use Rattle.wage_writer.specs.Writer.{labelAnswer, labelDraft, orderAnswer, orderDraft}
@@ -62,13 +63,13 @@ accepted-end (ending.Refused r) z w h = let q : refusalNumber r ≡ 0 = ap (λ (
 -- and tells its counts
 counts-told :
     (e : Ending) (n : Counts) (z : Ended) → z ≡ endedOf e → e ≡ ending.Accepted n
-    → (z .told .number ≡ 0) × ((z .lines ≡ n .lines) × ((z .groups ≡ n .groups) × (z .orders ≡ n .orders)))
+    → (z .told .number ≡ 0) × ((z .lines ≡ n .lines) × ((z .groups ≡ n .tally .groups) × ((z .orders ≡ n .tally .orders) × (z .total ≡ n .tally .total))))
 unfolding endedOf
-counts-told e n z w a = let q = w ∙ ap endedOf a in rw q (refl, (refl, (refl, refl)))
+counts-told e n z w a = let q = w ∙ ap endedOf a in rw q (refl, (refl, (refl, (refl, refl))))
 
 -- a right file's answer
-right-answer : (day : ℕ) (bytes : List ℕ) (w : RightBytes day bytes) → fileAnswer day bytes ≡ ending.Accepted (tally (w .file))
-right-answer day bytes w = file-accepted-exactly day bytes (tally (w .file)) .1 (record { file = w .file; lines = sym (w .lines); right = w .right; counts = refl })
+right-answer : (day : ℕ) (bytes : List ℕ) (w : RightBytes day bytes) → fileAnswer day bytes ≡ ending.Accepted (countsIn (w .file))
+right-answer day bytes w = file-accepted-exactly day bytes (countsIn (w .file)) .1 (record { file = w .file; lines = sym (w .lines); right = w .right; counts = refl })
 
 -- accepted exactly when it is right
 pub file-exactly : EveryWageFile (λ day bytes r. (r .told .number ≡ 0) ↔ RightBytes day bytes)
@@ -79,12 +80,19 @@ file-exactly κs a z w call =
           let e = accepted-end (fileAnswer day bytes) z call h in
           let l = file-accepted-exactly day bytes (e .0) .0 (e .1) in
           record { file = l .file; lines = sym (l .lines); right = l .right }),
-      (λ (v : RightBytes day bytes). counts-told (fileAnswer day bytes) (tally (v .file)) z call (right-answer day bytes v) .0),
+      (λ (v : RightBytes day bytes). counts-told (fileAnswer day bytes) (countsIn (v .file)) z call (right-answer day bytes v) .0),
     )
 
--- and then its counts are told
-pub file-counts : EveryWageFile (λ day bytes r. (w : RightBytes day bytes) → (r .lines ≡ tally (w .file) .lines) × ((r .groups ≡ tally (w .file) .groups) × (r .orders ≡ tally (w .file) .orders)))
-file-counts κs a z w call v = counts-told (fileAnswer (a .0) (a .1 .0 .now)) (tally (v .file)) z call (right-answer (a .0) (a .1 .0 .now) v) .1
+-- and then its lines, groups and orders are told
+pub file-counts : EveryWageFile (λ day bytes r. (w : RightBytes day bytes) → (r .lines ≡ length (linesOf (w .file))) × ((r .groups ≡ length (w .file .groups)) × (r .orders ≡ ordersIn (w .file .groups))))
+file-counts κs a z w call v =
+    let c = counts-told (fileAnswer (a .0) (a .1 .0 .now)) (countsIn (v .file)) z call (right-answer (a .0) (a .1 .0 .now) v) .1 in
+    (c .0, (c .1 .0, c .1 .1 .0))
+
+-- and its total, exactly
+pub file-total : EveryWageFile (λ day bytes r. (w : RightBytes day bytes) → centsOf (r .total) ≡ amountsIn (w .file .groups))
+file-total κs a z w call v =
+    ap centsOf (counts-told (fileAnswer (a .0) (a .1 .0 .now)) (countsIn (v .file)) z call (right-answer (a .0) (a .1 .0 .now) v) .1 .1 .1 .1) ∙ total-exact (a .0) (v .file) (v .right)
 
 -- ---------------------------------------------------------------------------
 -- Whole, in parts and line by line
@@ -246,9 +254,10 @@ group-reads-back κs a z w call h k small κs1 a1 part w1 told sameLine sameFiel
 
 -- right lines in order, one behind the other, are an accepted file with its counts told
 pub right-lines-accepted :
-    EveryWageFile (λ day bytes r. (f : File) → RightFile day f → bytes ≡ joined (linesOf f) → (r .told .number ≡ 0) × ((r .lines ≡ tally f .lines) × ((r .groups ≡ tally f .groups) × (r .orders ≡ tally f .orders))))
+    EveryWageFile (λ day bytes r. (f : File) → RightFile day f → bytes ≡ joined (linesOf f) →
+    (r .told .number ≡ 0) × ((r .lines ≡ length (linesOf f)) × ((r .groups ≡ length (f .groups)) × ((r .orders ≡ ordersIn (f .groups)) × (r .total ≡ sumOf 1000 (amountsIn (f .groups)))))))
 right-lines-accepted κs a z w call f right e =
-    counts-told (fileAnswer (a .0) (a .1 .0 .now)) (tally f) z call (ap (fileAnswer (a .0)) e ∙ round.right-file-accepted (a .0) f right)
+    counts-told (fileAnswer (a .0) (a .1 .0 .now)) (countsIn f) z call (ap (fileAnswer (a .0)) e ∙ round.right-file-accepted (a .0) f right)
 
 -- ---------------------------------------------------------------------------
 -- Read, and written again

@@ -3,6 +3,7 @@
 -- every call ends. "Every call" of a name is the generated postcondition, `Reads.Post`, of that function.
 use Prim.Native.Nat.{ℕ}
 use mathlib.Core.List.{List}
+use mathlib.Core.Path.{_≡_}
 use contract.Lifetimes.{Lfts}
 use denote.Triple.Clauses.{Lasts, atExit}
 use borrow.Fn.Kinds.{PK, RK, Out, Dens, resT, endedOf}
@@ -12,6 +13,7 @@ use Rattle.boundary.specs.declared.Valued.{Valued}
 use Rattle.desk_standing.specs.declared.StandingTold.{StandingTold}
 use Rattle.desk_standing.specs.declared.StandingWritten.{StandingWritten}
 use Rattle.desk_ledger.specs.declared.Ledger.{Ledger}
+use Rattle.tally.specs.declared.Tally.{Tally}
 use Rattle.desk_record.specs.declared.Record.{Record}
 use Rattle.desk_judge.specs.declared.Ended.{Ended}
 use Rattle.desk_checks.proofs as checks
@@ -20,6 +22,7 @@ use Rattle.desk_slips.proofs as slips
 use Rattle.desk_standing.proofs as standings
 use Rattle.desk_ledger.proofs as ledgers
 use Rattle.desk_judge.proofs as judge
+use Rattle.desk_tally.proofs as tallied
 use Rattle.desk_writers.proofs as writers
 
 -- of any function: given a, it answers z and leaves w
@@ -28,6 +31,11 @@ Every n ps r P C =
     (κs : Lfts n) (a : Dens κs ps) (z : resT r κs .Denot) (w : Lasts (endedOf n ps r) κs a) →
     P κs a z (atExit (endedOf n ps r) κs a w) →
     C κs a z w
+
+-- some call of a function: there are such a, z and w
+abbrev pub Some : (n : ℕ) (ps : List (PK n)) (r : RK n) → Out n ps r → ((κs : Lfts n) (a : Dens κs ps) → resT r κs .Denot → Lasts (endedOf n ps r) κs a → Type 0) → Type 0
+Some n ps r P C =
+    (κs : Lfts n) × ((a : Dens κs ps) × ((z : resT r κs .Denot) × ((w : Lasts (endedOf n ps r) κs a) × (P κs a z (atExit (endedOf n ps r) κs a w) × C κs a z w))))
 
 -- ---------------------------------------------------------------------------
 -- Check digits, accounts and references
@@ -127,9 +135,22 @@ EveryLipaInCents C = Every _ ledgers.lanecockle_lipa_in_cents.Kinds.ps ledgers.l
 abbrev pub EveryJudgeBegin : (ℕ → Record → Type 0) → Type 0
 EveryJudgeBegin C = Every _ judge.lanecockle_judge_begin.Kinds.ps judge.lanecockle_judge_begin.Kinds.r judge.lanecockle_judge_begin.Reads.Post (λ κs a z w. C (a .0) z)
 
+-- begun for a day, this is the record
+abbrev pub JudgeBegins : ℕ → Record → Type 0
+JudgeBegins day r = Some _ judge.lanecockle_judge_begin.Kinds.ps judge.lanecockle_judge_begin.Kinds.r judge.lanecockle_judge_begin.Reads.Post (λ κs a z w. (a .0 ≡ day) × (z ≡ r))
+
 -- record, line, the record after it
 abbrev pub EveryJudgeStep : (Record → List ℕ → Record → Type 0) → Type 0
 EveryJudgeStep C = Every _ judge.lanecockle_judge_step.Kinds.ps judge.lanecockle_judge_step.Kinds.r judge.lanecockle_judge_step.Reads.Post (λ κs a z w. C (a .0) (a .1 .0 .now) z)
+
+-- record, line, the lent tally, the record after it, what is left in the tally
+abbrev pub EveryJudgeStepTally : (Record → List ℕ → Tally → Record → Tally → Type 0) → Type 0
+EveryJudgeStepTally C = Every _ tallied.Contract.ps tallied.Contract.r tallied.Contract.Post (λ κs a z w. C (a .0) (a .1 .0 .now) (a .1 .1 .0 .now) z (w .1 .1 .0))
+
+-- lent this record, this line and this tally, it answers r′ and leaves t′
+abbrev pub JudgeStepsTally : Record → List ℕ → Tally → Record → Tally → Type 0
+JudgeStepsTally r line t r′ t′ =
+    Some _ tallied.Contract.ps tallied.Contract.r tallied.Contract.Post (λ κs a z w. (a .0 ≡ r) × ((a .1 .0 .now ≡ line) × ((a .1 .1 .0 .now ≡ t) × ((z ≡ r′) × (w .1 .1 .0 ≡ t′)))))
 
 -- record, lines, the record after them
 abbrev pub EveryJudgeLines : (Record → List ℕ → Record → Type 0) → Type 0

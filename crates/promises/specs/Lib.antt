@@ -5,3 +5,4 @@ pub mod Refusals
 pub mod Standings
 pub mod WageReferences
 pub mod Wages
+pub mod RunningTotals

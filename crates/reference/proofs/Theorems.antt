@@ -2,7 +2,7 @@
 -- Assumes nothing.
 use Rattle.refusal.proofs.Basics.{_≡_, refl, ap, _∙_, arith, ℕ, _≤_, length, leb-true, le-leb, List, true, _&&_, leb, _↔_, both-true}
 use Rattle.verdict.specs.Verdict.{onlyIf, Within}
-use Rattle.verdict.proofs.Verdicts.{both-pass, pass-both, test-holds, then-within, only-within}
+use Rattle.verdict.proofs.Verdicts.{both-pass, pass-both, test-holds, plain-within, then-within, only-within}
 use Rattle.text.specs.Bytes.{allOf, bytesVerdict}
 use Rattle.classes.specs.declared.Class.the-variants.{Reference}
 use Rattle.text.specs.declared.Found.{Found}
@@ -88,7 +88,7 @@ modelled-within model s =
 
 number-within : (s : List ℕ) (f : Found) → Within (length s) (numberVerdict s f)
 number-within s (At n) = modelled-within (modelOf n) s
-number-within s Nothing = omega arith
+number-within s Nothing = plain-within (length s) 5 (omega arith)
 
 pub reference-within : (m s : List ℕ) → Within (length s) (referenceVerdict m s)
 reference-within m s = number-within s (modelNumber m)

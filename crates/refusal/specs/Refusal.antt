@@ -2,7 +2,7 @@
 use Rattle.refusal.specs.Basics.{ℕ, Bool, true, false, cond, _&&_, _||_, eqb, leb}
 use Rattle.refusal.specs.declared.Place.{Place}
 use Rattle.refusal.specs.declared.Refusal.{Refusal}
-use Rattle.refusal.specs.declared.Refusal.the-variants.{Size, Ends, Byte, Length, Form, Check, Model, Parts, Digit, Misplaced, Date, Orders, Sum, Unfinished, Room, Marks, Beyond, Sheet, Field}
+use Rattle.refusal.specs.declared.Refusal.the-variants.{Size, Ends, Byte, Length, Form, Check, Model, Parts, Digit, Misplaced, Date, Orders, Sum, Unfinished, Room, Marks, Beyond, Sheet, Field, Overfull}
 use Rattle.refusal.specs.declared.Answer.{Answer}
 use Rattle.refusal.specs.declared.Answer.the-variants.{Accepted, Refused}
 
@@ -32,10 +32,12 @@ refusalNumber (Beyond p) = 17
 -- document 02, W2
 refusalNumber (Sheet p) = 20
 refusalNumber (Field p) = 28
+-- document 02, W5
+refusalNumber (Overfull p) = 29
 
--- the numbers of the documents' refusals: 01's table, and 20 and 28 of document 02, W2
+-- the numbers of the documents' refusals: 01's table, and of document 02 20 and 28 (W2) and 29 (W5)
 abbrev pub isTabled : ℕ → Bool
-isTabled k = (leb 1 k && leb k 17) || (eqb k 20 || eqb k 28)
+isTabled k = (leb 1 k && leb k 17) || (eqb k 20 || eqb k 28 || eqb k 29)
 
 -- line, field and byte
 abbrev pub refusalPlace : Refusal → Place
@@ -58,6 +60,7 @@ refusalPlace (Marks p) = p
 refusalPlace (Beyond p) = p
 refusalPlace (Sheet p) = p
 refusalPlace (Field p) = p
+refusalPlace (Overfull p) = p
 
 -- "the needed number is told" by 15; the others need none
 abbrev pub neededOf : Refusal → ℕ
@@ -80,6 +83,7 @@ neededOf (Marks p) = 0
 neededOf (Beyond p) = 0
 neededOf (Sheet p) = 0
 neededOf (Field p) = 0
+neededOf (Overfull p) = 0
 
 -- the refusal that a number, a place and a needed number tell
 abbrev pub refusalOf : ℕ → Place → ℕ → Refusal
@@ -102,7 +106,8 @@ refusalOf k p n =
     cond (eqb k 16) (Marks p) (
     cond (eqb k 20) (Sheet p) (
     cond (eqb k 28) (Field p) (
-    Beyond p))))))))))))))))))
+    cond (eqb k 29) (Overfull p) (
+    Beyond p)))))))))))))))))))
 
 -- the same refusal, told of the place q
 abbrev pub moved : Place → Refusal → Refusal

@@ -35,6 +35,8 @@ pub enum Refusal {
     // 20 and 28: standing text (W2).
     Sheet(Place),
     Field(Place),
+    // 29: the running total (W5).
+    Overfull(Place),
 }
 
 // What a judging call answers.
@@ -78,6 +80,7 @@ pub fn number(refusal: Refusal) -> u32
         Refusal::Beyond(_) => 17,
         Refusal::Sheet(_) => 20,
         Refusal::Field(_) => 28,
+        Refusal::Overfull(_) => 29,
     }
 }
 
@@ -104,7 +107,8 @@ pub fn told(refusal: Refusal) -> Place
         | Refusal::Marks(p)
         | Refusal::Beyond(p)
         | Refusal::Sheet(p)
-        | Refusal::Field(p) => p,
+        | Refusal::Field(p)
+        | Refusal::Overfull(p) => p,
     }
 }
 
@@ -151,6 +155,7 @@ pub fn made(number: usize, p: Place, needed: usize) -> Refusal
         16 => Refusal::Marks(p),
         20 => Refusal::Sheet(p),
         28 => Refusal::Field(p),
+        29 => Refusal::Overfull(p),
         _ => Refusal::Beyond(p),
     }
 }

@@ -5,6 +5,10 @@ use Rattle.sums.specs.Sums.{noCents, sumOf, added, sameSum, numberOf, numberIn}
 use Rattle.wage_places.specs.declared.LineType.{LineType}
 use Rattle.wage_places.specs.declared.LineType.the-variants.{Label, Group, Order, Closing}
 use Rattle.wage_places.specs.Places.{partOf}
+use Rattle.tally.specs.Tally.{grown}
+use Rattle.tally.specs.declared.Growth.{Growth}
+use Rattle.tally.specs.declared.Growth.the-variants as growth
+use Rattle.condition.specs.declared.Condition.{Condition}
 use Rattle.condition.specs.declared.Condition.the-variants.{Labelled, Grouped, Closed}
 use Rattle.condition.specs.declared.Counts.{Counts}
 use Rattle.condition.specs.declared.Open.{Open}
@@ -13,24 +17,50 @@ use Rattle.condition.specs.declared.Judge.{Judge}
 -- ---------------------------------------------------------------------------
 -- A right line
 
--- one line more
-abbrev pub oneMore : ℕ → ℕ → Counts → Counts
-oneMore groups orders n = record { lines = n .lines + 1; groups = groups; orders = orders }
+-- what a line of a type adds to a tally: a 301 a group, a 309 an order of its amount, the others nothing
+abbrev pub growthOf : LineType → List ℕ → Growth
+growthOf Label s = growth.Nothing
+growthOf Group s = growth.Group
+growthOf Order s = growth.Order (numberIn (partOf Order 10 s))
+growthOf Closing s = growth.Nothing
+
+-- one line more, and what it adds
+abbrev pub oneMore : Growth → Counts → Counts
+oneMore more n = record { lines = n .lines + 1; tally = grown (n .tally) more }
 
 -- a group's first line: the number and the sum that it declares
 abbrev pub opened : List ℕ → Open
 opened s = record { declared = numberIn (partOf Group 5 s); promised = sumOf 100 (numberOf (partOf Group 6 s)); counted = 0; total = noCents }
 
--- an order: counted, and its amount added
-abbrev pub ordered : List ℕ → Open → Open
-ordered s g = record { declared = g .declared; promised = g .promised; counted = g .counted + 1; total = added 100 (g .total) (numberIn (partOf Order 10 s)) }
+-- the open group after a line: a 301 opens one, an order is counted in it and its amount added
+abbrev pub groupAfter : Open → List ℕ → Growth → Open
+groupAfter g s growth.Nothing = g
+groupAfter g s growth.Group = opened s
+groupAfter g s (growth.Order cents) = record { declared = g .declared; promised = g .promised; counted = g .counted + 1; total = added 100 (g .total) cents }
 
--- the record after a right line: a label's kind is kept, a 301 opens a group, a 309 goes into it, and a 399 closes the file
+-- where the judge stands after a line
+abbrev pub conditionAfter : LineType → Condition
+conditionAfter Label = Labelled
+conditionAfter Group = Grouped
+conditionAfter Order = Grouped
+conditionAfter Closing = Closed
+
+-- the kind: the one that the label tells
+abbrev pub kindAfter : ℕ → List ℕ → LineType → ℕ
+kindAfter kind s Label = numberIn (partOf Label 2 s)
+kindAfter kind s Group = kind
+kindAfter kind s Order = kind
+kindAfter kind s Closing = kind
+
+-- the record after a right line
 abbrev pub after : Judge → List ℕ → LineType → Judge
-after j s Label = record { condition = Labelled; day = j .day; kind = numberIn (partOf Label 2 s); read = oneMore (j .read .groups) (j .read .orders) (j .read); group = j .group }
-after j s Group = record { condition = Grouped; day = j .day; kind = j .kind; read = oneMore (j .read .groups + 1) (j .read .orders) (j .read); group = opened s }
-after j s Order = record { condition = Grouped; day = j .day; kind = j .kind; read = oneMore (j .read .groups) (j .read .orders + 1) (j .read); group = ordered s (j .group) }
-after j s Closing = record { condition = Closed; day = j .day; kind = j .kind; read = oneMore (j .read .groups) (j .read .orders) (j .read); group = j .group }
+after j s t = record {
+  condition = conditionAfter t;
+  day = j .day;
+  kind = kindAfter (j .kind) s t;
+  read = oneMore (growthOf t s) (j .read);
+  group = groupAfter (j .group) s (growthOf t s);
+}
 
 -- ---------------------------------------------------------------------------
 -- 10, 12, 13, then the fields in order: a number tells the first three, 0 none of them

@@ -1,17 +1,19 @@
 // Whether a line may come where the judge stands, and what a right one leaves in its record.
 //
-// Document 01, "The wage file": the refusals 10, 12 and 13; "A 301 or 399 straight after a 301 is 10". W5's running total is
-// changed in `after`.
+// Document 01, "The wage file": the refusals 10, 12 and 13; "A 301 or 399 straight after a 301 is 10". Document 02, W5: what
+// a line adds to a tally, that of the judge's record and one that a caller lends.
 ghost use mathlib.Core.Path.{_≡_};
 ghost use mathlib.Core.Bool.{true, cond};
 ghost use Prim.Native.Nat.{_≤_};
 ghost use Rattle.sums.specs.Sums.{numberIn};
 ghost use Rattle.wage_places.specs.Places.{partOf};
 ghost use Rattle.condition.specs.Record.{isSound};
-ghost use Rattle.standing.specs.Standing.{opened, ordered, after as afterLine, wholeVerdict, standVerdict};
+ghost use Rattle.standing.specs.Standing.{growthOf, groupAfter, opened, after as afterLine, wholeVerdict, standVerdict};
 use condition::Condition;
+use condition::Counts;
 use condition::Judge;
 use condition::Open;
+use tally::Growth;
 use wage_places::LineType;
 
 // ---------------------------------------------------------------------------
@@ -94,19 +96,35 @@ fn opening(s: &[u8]) -> Open
     }
 }
 
-// The group with an order more.
-fn with_order(g: Open, s: &[u8]) -> Open
+// What a line of a type adds to a tally.
+pub fn growth(t: LineType, s: &[u8]) -> Growth
+    ensures { λ r. ⌜ r ≡ growthOf t (now (s .entry)) ⌝ }
+{
+    match t {
+        LineType::Label => Growth::Nothing,
+        LineType::Group => Growth::Group,
+        LineType::Order => Growth::Order(number_at(LineType::Order, 10, s)),
+        LineType::Closing => Growth::Nothing,
+    }
+}
+
+// The group that is open after a line that adds so much.
+fn group_after(g: Open, more: Growth, s: &[u8]) -> Open
     requires { ⌜ g .counted ≤ 1000000 ⌝ }
-    ensures { λ r. ⌜ r ≡ ordered (now (s .entry)) g ⌝ }
+    ensures { λ r. ⌜ r ≡ groupAfter g (now (s .entry)) more ⌝ }
 {
     let promised = g.promised;
     let counted = g.counted;
     let total = g.total;
-    Open {
-        declared: g.declared,
-        promised,
-        counted: counted + 1,
-        total: sums::add(total, number_at(LineType::Order, 10, s), 100),
+    match more {
+        Growth::Nothing => g,
+        Growth::Group => opening(s),
+        Growth::Order(cents) => Open {
+            declared: g.declared,
+            promised,
+            counted: counted + 1,
+            total: sums::add(total, cents, 100),
+        },
     }
 }
 
@@ -117,25 +135,22 @@ fn after_sound(j: Judge, t: LineType, s: &[u8]) -> Judge
 {
     let day = j.day;
     let kind = j.kind;
-    let group = j.group;
-    let mut read = j.read;
-    let lines = read.lines + 1;
-    read.lines = lines;
+    let open = j.group;
+    let before = j.read;
+    let tally = before.tally;
+    let more = growth(t, s);
+    let read = Counts {
+        lines: before.lines + 1,
+        tally: tally::grow(tally, more),
+    };
+    let group = group_after(open, more, s);
     match t {
         LineType::Label => {
             let told = number_at(LineType::Label, 2, s);
             condition::made(day, Condition::Labelled, told, read, group)
         }
-        LineType::Group => {
-            let groups = read.groups + 1;
-            read.groups = groups;
-            condition::made(day, Condition::Grouped, kind, read, opening(s))
-        }
-        LineType::Order => {
-            let orders = read.orders + 1;
-            read.orders = orders;
-            condition::made(day, Condition::Grouped, kind, read, with_order(group, s))
-        }
+        LineType::Group => condition::made(day, Condition::Grouped, kind, read, group),
+        LineType::Order => condition::made(day, Condition::Grouped, kind, read, group),
         LineType::Closing => condition::made(day, Condition::Closed, kind, read, group),
     }
 }

@@ -1,6 +1,6 @@
 -- What is promised of sums and of numbers read from digits: sums exact below any limit and told apart.
 -- Assumes nothing.
-use Rattle.refusal.proofs.Basics.{_≡_, refl, sym, ap, _∙_, arith, ℕ, _+_, _*_, _^_, _≤_, _<_, length, lt-ltb, le-ltb, ltb-true, ltb-false, eq-eqb, ne-eqb, eqb-true, List, Bool, true, false, ltb, take-all, zero-add, pow-le-pow-right, _↔_}
+use Rattle.refusal.proofs.Basics.{_≡_, refl, sym, ap, _∙_, arith, ℕ, _+_, _*_, _^_, _≤_, _<_, length, lt-ltb, le-ltb, ltb-true, ltb-false, eq-eqb, ne-eqb, eqb-true, List, Bool, true, false, false≢true, ltb, take-all, zero-add, pow-le-pow-right, _↔_}
 use Rattle.text.specs.Digits.{digitsOf}
 use Rattle.text.proofs.Values.{value-below, digits-few}
 use Rattle.sums.specs.declared.Sum.{Sum}
@@ -26,6 +26,14 @@ module _ (most n : ℕ) where
   -- some cents more are counted exactly
   pub added-exact : (s : Sum) → centsOf s + n < most * limb → centsOf (added most s n) ≡ centsOf s + n
   added-exact s h = cents-small most (centsOf s + n) h
+
+  -- a number whose sum fits is what the sum stands for
+  pub exact-where-fits : fits most (sumOf most n) ≡ true → centsOf (sumOf most n) ≡ n
+  exact-where-fits e = go (ltb n (most * limb)) refl
+    where
+      go : (t : Bool) → ltb n (most * limb) ≡ t → centsOf (sumOf most n) ≡ n
+      go true f = sum-exact (ltb-true n (most * limb) f)
+      go false f = absurd (false≢true (sym (sum-beyond (ltb-false n (most * limb) f)) ∙ e))
 
 -- a sum of more stays one, whatever is added
 pub beyond-stays : (most n : ℕ) (s : Sum) → fits most s ≡ false → fits most (added most s n) ≡ false

@@ -11,6 +11,7 @@ ghost use Rattle.text.specs.Digits.{digitsOf, valueFrom};
 ghost use Rattle.sums.specs.Sums.{limb, centsOf, noCents, sumOf, fits, added, sameSum, numberOf, numberIn};
 
 // `high` times 10^18 and `low`, in cents.
+#[repr(C)]
 pub struct Sum {
     pub high: u64,
     pub low: u64,

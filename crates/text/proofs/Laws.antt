@@ -6,6 +6,7 @@ use Rattle.text.specs.declared.Found.{Found}
 use Rattle.text.specs.declared.Found.the-variants.{At, Nothing}
 use Rattle.text.specs.Digits.{digitsOf, valueFrom}
 use Rattle.verdict.specs.Verdict.{Within}
+use Rattle.verdict.proofs.Verdicts.{plain-within, byte-at-within}
 use Rattle.classes.specs.Classes.{isDigit, permits}
 use Rattle.text.specs.Bytes.{later, firstBad, found, bytesVerdict, allOf, countOf}
 
@@ -83,8 +84,8 @@ found-below k s i e = subst (λ (f : Found). Below (length s) f) e (bad-below k 
 
 -- so its 3 tells a byte of the text
 pub found-within : (n : ℕ) (f : Found) → Below n f → Within n (found f)
-found-within n (At i) h = omega arith
-found-within n Nothing h = omega arith
+found-within n (At i) h = byte-at-within n i h
+found-within n Nothing h = plain-within n 0 (omega arith)
 
 pub bytes-within : (k : Class) (s : List ℕ) → Within (length s) (bytesVerdict k s)
 unfolding bytesVerdict

@@ -1,7 +1,7 @@
 -- What a rule says of a text before it is known where the text stands: its verdict, one number. 0 refuses nothing; a number below 32 is the
 -- refusal of that number in document 01's table, told of the text's first byte; 32 + i is a 3 whose first offending byte is i, counted from
 -- the text's first byte. Every rule of a field or a place is a chain of these.
-use Rattle.refusal.specs.Basics.{ℕ, _+_, _-_, _<_, Bool, cond, eqb, leb}
+use Rattle.refusal.specs.Basics.{ℕ, _+_, _-_, _≤_, _<_, Bool, cond, eqb, leb}
 use Rattle.refusal.specs.declared.Answer.{Answer}
 use Rattle.refusal.specs.declared.Answer.the-variants.{Accepted, Refused}
 use Rattle.refusal.specs.Refusal.{refusalOf}
@@ -42,6 +42,6 @@ answerAt field start v = answerOf v field (start + verdictByte v)
 abbrev pub answerIn : ℕ → ℕ → Answer
 answerIn field v = answerOf v field (verdictByte v)
 
--- a 3's byte lies within a text of n bytes
+-- the verdict of a text of n bytes: 0, a number of document 01's table, or a 3 whose byte lies within the text
 abbrev pub Within : ℕ → ℕ → Type 0
-Within n v = v < 32 + n
+Within n v = (v < 32 + n) × (18 ≤ v → 32 ≤ v)

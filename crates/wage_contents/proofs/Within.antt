@@ -2,7 +2,7 @@
 -- Assumes nothing.
 use Rattle.refusal.proofs.Basics.{arith, ℕ, _<_, length, take, drop, List, Bool, _&&_, _||_}
 use Rattle.verdict.specs.Verdict.{onlyIf, Within}
-use Rattle.verdict.proofs.Verdicts.{choice-within, then-within, only-within}
+use Rattle.verdict.proofs.Verdicts.{plain-within, choice-within, then-within, only-within}
 use Rattle.text.specs.Bytes.{bytesVerdict, allOf, same, eur}
 use Rattle.classes.specs.declared.Class.{Class}
 use Rattle.classes.specs.declared.Class.the-variants.{Digits, Blanks, Zeros, Place}
@@ -12,7 +12,7 @@ use Rattle.account.proofs.Theorems.{iban-check-within}
 use Rattle.wage_contents.specs.Contents.{tested, amongVerdict, oibPlaceVerdict, employerVerdict, dateVerdict, ibanPlaceVerdict, currencyVerdict}
 
 -- 3, then a test
-pub tested-within : (k : Class) (f : List ℕ) (b : Bool) (n : ℕ) → n < 32 → Within (length f) (tested k f b n)
+pub tested-within : (k : Class) (f : List ℕ) (b : Bool) (n : ℕ) → n < 18 → Within (length f) (tested k f b n)
 unfolding tested
 tested-within k f b n h = then-within (length f) (bytesVerdict k f) (onlyIf b n) (bytes-within k f) (only-within (length f) b n h)
 
@@ -39,7 +39,7 @@ unfolding ibanPlaceVerdict
 iban-place-within blank f =
     let n = length f in
     then-within n (bytesVerdict Place f) _ (bytes-within Place f)
-    (choice-within n (blank && allOf Blanks f) _ _ (omega arith)
+    (choice-within n (blank && allOf Blanks f) _ _ (plain-within n 0 (omega arith))
     (then-within n _ _ (only-within n (allOf Blanks (drop 21 f)) 5 (omega arith)) (iban-check-within n (take 21 f))))
 
 pub currency-within : (blank : Bool) (f : List ℕ) → Within (length f) (currencyVerdict blank f)

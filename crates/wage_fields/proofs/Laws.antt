@@ -8,7 +8,7 @@ use Rattle.refusal.specs.declared.Answer.the-variants.{Accepted, Refused}
 use Rattle.refusal.specs.declared.Place.{Place}
 use Rattle.refusal.specs.declared.Refusal.{Refusal}
 use Rattle.refusal.specs.declared.Refusal.the-variants.{Size}
-use Rattle.verdict.proofs.Verdicts.{told-place, byte-within}
+use Rattle.verdict.proofs.Verdicts.{told-place, plain-within, byte-within}
 use Rattle.wage_places.specs.declared.LineType.{LineType}
 use Rattle.wage_places.specs.declared.LineType.the-variants.{Label, Group, Order, Closing}
 use Rattle.wage_places.specs.declared.Spot.{Spot}
@@ -27,7 +27,7 @@ pub rule-within : (day kind : ℕ) (t : LineType) (n : ℕ) (f s : List ℕ) →
 rule-within day kind Label n f s = label-within day n f s
 rule-within day kind Group n f s = group-within day n f
 rule-within day kind Order n f s = order-within kind n f s
-rule-within day kind Closing n f s = omega arith
+rule-within day kind Closing n f s = plain-within (length f) 0 (omega arith)
 
 -- so of a place, or the one behind it
 pub place-within : (day kind : ℕ) (t : LineType) (p : Spot) (s : List ℕ) → verdictByte (placeVerdict day kind t p s) ≤ p .size
@@ -76,6 +76,7 @@ told-byte n v field start r w some e = go (leb 32 v) refl
         (refusalNumber r ≡ 3 → (start ≤ refusalPlace r .byte) × (refusalPlace r .byte < start + n)) × ((refusalNumber r ≡ 3 → ⊥) → refusalPlace r .byte ≡ start)
     go true f =
         let h : 32 ≤ v = leb-true 32 v f in
+        let inside : v < 32 + n = w .0 in
         let b = byte in
         let d : verdictByte v ≡ v - 32 = rw f in
         let z : eqb v 0 ≡ false = ne-eqb v 0 (λ q. omega arith) in

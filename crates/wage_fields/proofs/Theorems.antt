@@ -1,12 +1,13 @@
 -- What is promised of a line's places: accepted exactly when each is, and what a refusal tells.
 -- Assumes nothing.
-use Rattle.refusal.proofs.Basics.{_≡_, refl, ap, arith, ℕ, zero, suc, _+_, _≤_, _<_, length, getD, ltb-true, List, [], _∷_, true, _&&_, ltb, _↔_, both-true}
-use Rattle.refusal.specs.Refusal.{refusalNumber, refusalPlace}
-use Rattle.verdict.specs.Verdict.{verdictByte}
+use Rattle.refusal.proofs.Basics.{_≡_, refl, ap, arith, ℕ, zero, suc, _+_, _≤_, _<_, length, getD, ltb-true, List, [], _∷_, Bool, true, false, cond, _&&_, eqb, ltb, _↔_, both-true}
+use Rattle.refusal.specs.Refusal.{none, refusalNumber, refusalPlace, answerNumber}
+use Rattle.verdict.specs.Verdict.{verdictByte, answerAt}
 use Rattle.refusal.specs.declared.Answer.the-variants.{Accepted, Refused}
 use Rattle.refusal.specs.declared.Place.{Place}
 use Rattle.refusal.specs.declared.Refusal.{Refusal}
-use Rattle.verdict.proofs.Verdicts.{answer-accepted, accepted-answer, first-both, told-place}
+use Rattle.refusal.specs.declared.Refusal.the-variants.{Size}
+use Rattle.verdict.proofs.Verdicts.{answer-accepted, accepted-answer, first-both, told-place, answer-never-29}
 use Rattle.text.specs.Bytes.{bytesVerdict}
 use Rattle.classes.specs.declared.Class.the-variants.{Digits}
 use Rattle.wage_places.specs.declared.LineType.{LineType}
@@ -153,3 +154,14 @@ module _ (day kind : ℕ) (t : LineType) (s : List ℕ) (r : Refusal) where
         inside = rw size at (b .0);
         first = b .1;
       }
+
+-- the number 29, of a tally, is not among those that a line's places give
+pub places-never-29 : (day kind : ℕ) (t : LineType) (s : List ℕ) (r : Refusal) → placesAnswer day kind t s ≡ Refused r → refusalNumber r ≡ 29 → ⊥
+unfolding placeAnswer placeVerdict
+places-never-29 day kind t s r e h =
+    let w = first-refused day kind t s r e in
+    go (placeAt t (w .order)) (eqb (length s) 1002) (w .here)
+  where
+    go : (p : Spot) (b : Bool) → cond b (answerAt (p .field) (p .start) (placeVerdict day kind t p s)) (Refused (Size none)) ≡ Refused r → ⊥
+    go p true f = answer-never-29 (length (partAt p s)) (placeVerdict day kind t p s) (p .field) _ r (rule-within day kind t (p .field) (partAt p s) s) f h
+    go p false f = let n : 1 ≡ refusalNumber r = ap answerNumber f in omega arith

@@ -1,6 +1,6 @@
 -- What is promised of a whole wage file: accepted exactly when it is right, with its counts told, and its parts told by its lines.
 -- Assumes nothing.
-use Rattle.refusal.proofs.Basics.{_≡_, refl, sym, ap, _∙_, arith, ℕ, suc, length, List, [], _∷_, _++_, append-assoc, true, _↔_}
+use Rattle.refusal.proofs.Basics.{_≡_, refl, sym, ap, _∙_, arith, ℕ, suc, _+_, zero-add, length, List, [], _∷_, _++_, append-assoc, true, _↔_}
 use Rattle.refusal.specs.Refusal.{none}
 use Rattle.refusal.specs.declared.Answer.the-variants.{Accepted}
 use Rattle.refusal.specs.declared.Refusal.the-variants.{Date}
@@ -13,21 +13,25 @@ use Rattle.wage_line.specs.declared.Typed.the-variants as typed
 use Rattle.wage_line.specs.Line.{typedOf}
 use Rattle.wage_line.proofs.PieceLaws.{Each, each-more}
 use Rattle.wage_fields.specs.Rules.{placesAnswer, RightLine}
+use Rattle.worked_out.specs.Amounts.{amounts}
 use Rattle.condition.specs.declared.Counts.{Counts}
 use Rattle.condition.specs.declared.Ending.the-variants as ending
 use Rattle.condition.specs.declared.Judge.{Judge}
 use Rattle.condition.specs.Record.{isSound, fresh, begun, ended}
+use Rattle.tally.specs.Tally.{isWithin}
 use Rattle.standing.specs.Standing.{after, standVerdict}
+use Rattle.standing.proofs.Laws.{Read}
 use Rattle.judge.specs.Judge.{stepped, steps}
-use Rattle.wage_file.specs.Right.{Payments, File, groupLines, linesOf, ordersIn, tally, kindOf, RightGroup, RightFile}
-use Rattle.wage_file.proofs.RunLaws.{Ends, chosen, came, told, goes, same-counts, noGroup, inGroup, Rest, right-group, rest-run, run-rest}
+use Rattle.judge.proofs.Laws.{goes}
+use Rattle.wage_file.specs.Right.{Payments, File, groupLines, linesOf, ordersIn, amountsIn, countsIn, kindOf, RightGroup, RightFile}
+use Rattle.wage_file.proofs.RunLaws.{Ends, chosen, came, told, same-counts, noGroup, inGroup, Rest, right-group, rest-run, run-rest}
 
 -- ---------------------------------------------------------------------------
 -- The first two lines
 
--- the counts after a label and a group's first line
-abbrev two : Counts
-two = record { lines = 2; groups = 1; orders = 0 }
+-- what was read after a label and a group's first line
+abbrev two : Read
+two = record { lines = 2; tally = record { groups = 1; orders = 0; cents = 0 } }
 
 module _ (day : ℕ) where
   -- the record after the label
@@ -41,12 +45,12 @@ module _ (day : ℕ) where
 
   -- a right label is taken
   label-made : (label : List ℕ) → RightLine day 0 Label label → stepped (fresh day) label ≡ afterLabel label
-  unfolding standVerdict isSound sumOf
+  unfolding standVerdict isSound isWithin sumOf
   label-made label w = goes (fresh day) label Label refl refl (omega arith) w refl
 
   -- and a right 301 after it
   head-made : (label head : List ℕ) → RightLine day (kindOf label) Group head → stepped (afterLabel label) head ≡ inGroup day (kindOf label) head two 0 0
-  unfolding standVerdict isSound sumOf
+  unfolding standVerdict isSound isWithin sumOf
   head-made label head w = goes (afterLabel label) head Group refl refl (omega arith) w refl
 
   module _ (n : Counts) where
@@ -58,7 +62,7 @@ module _ (day : ℕ) where
     -- only a right label is taken first
     label-told : (s : List ℕ) (ss : List (List ℕ)) → Ends n (s ∷ ss) (fresh day) → RightLine day 0 Label s × Ends n ss (afterLabel s)
     unfolding standVerdict
-    label-told s ss e = let w = came n ss (fresh day) s refl e in go (w .line) (w .typed) (w .stands) (w .fields) (w .goes)
+    label-told s ss e = let w = came n ss (fresh day) s e in go (w .0 .line) (w .0 .typed) (w .0 .stands) (w .0 .fields) (w .1)
       where
         go :
             (t : LineType) → typedOf s ≡ typed.Line t → standVerdict 0 (fresh day .group) t ≡ 0 → placesAnswer day 0 t s ≡ Accepted → Ends n ss (after (fresh day) s t) →
@@ -71,7 +75,7 @@ module _ (day : ℕ) where
     -- and only a right 301 after it
     head-told : (label s : List ℕ) (ss : List (List ℕ)) → Ends n (s ∷ ss) (afterLabel label) → RightLine day (kindOf label) Group s × Ends n ss (inGroup day (kindOf label) s two 0 0)
     unfolding standVerdict sumOf
-    head-told label s ss e = let w = came n ss (afterLabel label) s refl e in go (w .line) (w .typed) (w .stands) (w .fields) (w .goes)
+    head-told label s ss e = let w = came n ss (afterLabel label) s e in go (w .0 .line) (w .0 .typed) (w .0 .stands) (w .0 .fields) (w .1)
       where
         go :
             (t : LineType) → typedOf s ≡ typed.Line t → standVerdict 1 (fresh day .group) t ≡ 0 → placesAnswer day (kindOf label) t s ≡ Accepted → Ends n ss (after (afterLabel label) s t) →
@@ -89,14 +93,14 @@ pub record RightLines (day : ℕ) (ls : List (List ℕ)) (n : Counts) : Type 0 w
   pub file : File
   pub lines : linesOf file ≡ ls
   pub right : RightFile day file
-  pub counts : tally file ≡ n
+  pub counts : countsIn file ≡ n
 
 module _ (day : ℕ) where
   -- a right label, a right 301 and what must follow are a right file
   file-made :
       (label head : List ℕ) (ss : List (List ℕ)) (n : Counts) → isDate day ≡ true → RightLine day 0 Label label → RightLine day (kindOf label) Group head →
       Rest day (kindOf label) head two 0 0 ss n → RightLines day (label ∷ (head ∷ ss)) n
-  unfolding groupLines ordersIn
+  unfolding groupLines ordersIn amountsIn
   file-made label head ss n a b c r =
       let g : Payments = record { head = head; orders = r .payments } in
       let f : File = record { label = label; groups = g ∷ r .following; closing = r .closing } in
@@ -113,7 +117,7 @@ module _ (day : ℕ) where
           closing = r .last;
           limit = omega (arith, ap length e, r .limit);
         };
-        counts = same-counts (tally f) n (omega (arith, ap length e, r .linesTold)) (omega (arith, r .groupsTold)) (omega (arith, r .ordersTold));
+        counts = same-counts (countsIn f) n (omega (arith, ap length e, r .linesTold)) (omega (arith, r .groupsTold)) (omega (arith, r .ordersTold)) (ap (sumOf 1000) (sym (zero-add (amounts (r .payments) + amountsIn (r .following)))) ∙ sym (r .totalTold));
       }
 
   -- what is accepted is right
@@ -134,15 +138,15 @@ module _ (day : ℕ) where
       file-made s t ss n (a .0) (b .0) (c .0) (run-rest day (kindOf s) n ss t two 0 0 (c .1))
 
   -- the lines of a right file end accepted, with its counts
-  right-run : (label : List ℕ) (gs : List Payments) (closing : List ℕ) → let f : File = record { label = label; groups = gs; closing = closing } in RightFile day f → Ends (tally f) (linesOf f) (begun day)
-  unfolding steps groupLines ordersIn
+  right-run : (label : List ℕ) (gs : List Payments) (closing : List ℕ) → let f : File = record { label = label; groups = gs; closing = closing } in RightFile day f → Ends (countsIn f) (linesOf f) (begun day)
+  unfolding steps groupLines ordersIn amountsIn
   right-run label [] closing w = let h = w .some in absurd (omega arith)
   right-run label (g ∷ gs) closing w =
       let f : File = record { label = label; groups = g ∷ gs; closing = closing } in
       let x : RightGroup day (kindOf label) g = w .each 0 (omega arith) in
       let ss = (g .orders ++ groupLines gs) ++ (closing ∷ []) in
       let limit = w .limit in
-      let r : Rest day (kindOf label) (g .head) two 0 0 ss (tally f) =
+      let r : Rest day (kindOf label) (g .head) two 0 0 ss (countsIn f) =
       record {
         payments = g .orders;
         following = gs;
@@ -158,11 +162,12 @@ module _ (day : ℕ) where
         linesTold = omega arith;
         groupsTold = omega arith;
         ordersTold = omega arith;
+        totalTold = ap (sumOf 1000) (sym (zero-add (amounts (g .orders) + amountsIn gs)));
       } in
       ap (λ (j : Judge). ended (steps j (linesOf f))) (begun-made day (w .dated)) ∙
       (ap (λ (j : Judge). ended (steps j (g .head ∷ ss))) (label-made day label (w .label)) ∙
       (ap (λ (j : Judge). ended (steps j ss)) (head-made day label (g .head) (x .head)) ∙
-      rest-run day (kindOf label) (g .head) two 0 0 ss (tally f) (omega arith) (omega arith) r))
+      rest-run day (kindOf label) (g .head) two 0 0 ss (countsIn f) (record { groups = omega arith; orders = omega arith; cents = omega arith }) r))
 
   -- what is right is accepted
   right-accepted : (ls : List (List ℕ)) (n : Counts) → RightLines day ls n → ended (steps (begun day) ls) ≡ ending.Accepted n

@@ -2,7 +2,7 @@
 -- more 309; then one 399 and nothing after", each line's fields right, each group's number and exact sum as declared.
 use Rattle.refusal.specs.Basics.{ℕ, _+_, _<_, _≤_, _≡_, true, List, [], _∷_, _++_, length, getD}
 use Rattle.dates.specs.Dates.{isDate}
-use Rattle.sums.specs.Sums.{numberOf, numberIn}
+use Rattle.sums.specs.Sums.{sumOf, numberOf, numberIn}
 use Rattle.wage_places.specs.declared.LineType.the-variants.{Label, Group, Order, Closing}
 use Rattle.wage_line.specs.declared.Typed.the-variants.{Line}
 use Rattle.wage_line.specs.Line.{typedOf}
@@ -39,9 +39,17 @@ unfoldable pub ordersIn : List Payments → ℕ
 ordersIn [] = 0
 ordersIn (g ∷ gs) = length (g .orders) + ordersIn gs
 
--- "lines, groups and orders"
-abbrev pub tally : File → Counts
-tally f = record { lines = length (linesOf f); groups = length (f .groups); orders = ordersIn (f .groups) }
+-- what their orders come to
+unfoldable pub amountsIn : List Payments → ℕ
+amountsIn [] = 0
+amountsIn (g ∷ gs) = amounts (g .orders) + amountsIn gs
+
+-- "lines, groups and orders", and document 02, W5: "the file's own total too"
+abbrev pub countsIn : File → Counts
+countsIn f = record {
+  lines = length (linesOf f);
+  tally = record { groups = length (f .groups); orders = ordersIn (f .groups); total = sumOf 1000 (amountsIn (f .groups)) };
+}
 
 -- ---------------------------------------------------------------------------
 -- What is right

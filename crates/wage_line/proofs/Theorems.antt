@@ -1,11 +1,12 @@
 -- What is promised of a line of the wage file: its type exactly when, and what it hands back.
 -- Assumes nothing.
 use Rattle.refusal.proofs.Basics.{_≡_, refl, sym, _∙_, arith, ℕ, _<_, length, take, drop, getD, eq-eqb, eqb-true, List, [], _∷_, Bool, true, false, cond, eqb, _↔_, chosen, entered, and-second, both-true}
-use Rattle.refusal.specs.Refusal.{none}
+use Rattle.refusal.specs.Refusal.{none, refusalNumber}
 use Rattle.refusal.specs.declared.Refusal.{Refusal}
 use Rattle.refusal.specs.declared.Refusal.the-variants.{Size, Ends}
 use Rattle.wage_places.specs.declared.LineType.{LineType}
 use Rattle.wage_places.specs.declared.LineType.the-variants.{Label, Group, Order, Closing}
+use Rattle.wage_line.specs.declared.Typed.{Typed}
 use Rattle.wage_line.specs.declared.Typed.the-variants.{Line, Refused}
 use Rattle.wage_places.specs.Places.{spots, spotOf, partOf}
 use Rattle.wage_line.specs.Line.{endsRight, wrongType, typeFrom, typeText, typeOf, typedOf, placeOf}
@@ -108,3 +109,32 @@ module _ (s : List ℕ) (n : ℕ) where
   -- of an unknown number, nothing
   pub place-unknown : (t : LineType) → typedOf s ≡ Line t → ((k : ℕ) → k < length (spots t) → placeAt t k .field ≡ n → ⊥) → placeOf s n ≡ []
   place-unknown t e f = place-typed t e ∙ rw (unknown-spot t n f)
+
+-- ---------------------------------------------------------------------------
+-- What a refusal is
+
+-- one of another number than 29
+abbrev pub NotOverfull : Typed → Type 0
+NotOverfull (Line t) = Unit
+NotOverfull (Refused r) = refusalNumber r ≡ 29 → ⊥
+
+-- a line is refused with 1, 2 or 5, so never with 29
+pub type-never-29 : (s : List ℕ) → NotOverfull (typedOf s)
+unfolding typedOf typeFrom
+type-never-29 s =
+    either (eqb (length s) 1002) _ _
+    (either (endsRight s) _ _
+    (either (eqb (getD s 997 0) 51) _ wrongType
+    (either (eqb (getD s 998 0) 48) _ _
+    (either (eqb (getD s 999 0) 48) (Line Label) _ tt (either (eqb (getD s 999 0) 49) (Line Group) _ tt (either (eqb (getD s 999 0) 57) (Line Order) wrongType tt wrong)))
+    (either (eqb (getD s 998 0) 57) _ wrongType (either (eqb (getD s 999 0) 57) (Line Closing) wrongType tt wrong) wrong))
+    wrong)
+    (λ (e : 2 ≡ 29). omega arith))
+    (λ (e : 1 ≡ 29). omega arith)
+  where
+    either : (b : Bool) (x y : Typed) → NotOverfull x → NotOverfull y → NotOverfull (cond b x y)
+    either true x y f g = f
+    either false x y f g = g
+
+    wrong : NotOverfull wrongType
+    wrong e = omega arith

@@ -21,8 +21,8 @@ pub ending-at-most : (e : Ending) → length (endingPrinted e) ≤ 108
 unfolding endingPrinted
 ending-at-most (Accepted n) =
     both-at-most (counted acceptedWord (n .lines)) _ 29 79 (counted-at-most acceptedWord (n .lines))
-    (both-at-most (counted linesWord (n .groups)) _ 27 52 (counted-at-most linesWord (n .groups))
-    (both-at-most (counted groupsWord (n .orders)) ordersWord 28 24 (counted-at-most groupsWord (n .orders)) (omega arith)))
+    (both-at-most (counted linesWord (n .tally .groups)) _ 27 52 (counted-at-most linesWord (n .tally .groups))
+    (both-at-most (counted groupsWord (n .tally .orders)) ordersWord 28 24 (counted-at-most groupsWord (n .tally .orders)) (omega arith)))
 ending-at-most (Refused r) = refused-at-most r
 
 -- in a room of 108 bytes the call leaves all of it at the front

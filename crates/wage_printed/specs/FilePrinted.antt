@@ -28,7 +28,7 @@ ordersWord = spelt " orders\n"
 
 -- one line
 unfoldable pub endingPrinted : Ending → List ℕ
-endingPrinted (Accepted n) = counted acceptedWord (n .lines) ++ (counted linesWord (n .groups) ++ (counted groupsWord (n .orders) ++ ordersWord))
+endingPrinted (Accepted n) = counted acceptedWord (n .lines) ++ (counted linesWord (n .tally .groups) ++ (counted groupsWord (n .tally .orders) ++ ordersWord))
 endingPrinted (Refused r) = refusedText r
 
 -- the program's input: nine bytes that tell the day, and a wage file

@@ -30,8 +30,9 @@ fn put_counts(c: Counts, out: &mut [u8]) -> usize
     ensures { λ r. ⌜ Puts (endingPrinted (Accepted c)) 0 (now (out .entry)) r (now (out .exit)) ⌝ }
 {
     let lines = c.lines;
-    let groups = c.groups;
-    let orders = c.orders;
+    let tally = c.tally;
+    let groups = tally.groups;
+    let orders = tally.orders;
     let mut next = printed::put_counted(out, 0, b"accepted ", lines);
     next = printed::put_counted(out, next, b" lines ", groups);
     next = printed::put_counted(out, next, b" groups ", orders);

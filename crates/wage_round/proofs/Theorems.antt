@@ -19,7 +19,7 @@ use Rattle.condition.specs.declared.Counts.{Counts}
 use Rattle.condition.specs.declared.Ending.the-variants as ending
 use Rattle.wage_fields.specs.Rules.{RightLine}
 use Rattle.worked_out.specs.Amounts.{amounts}
-use Rattle.wage_file.specs.Right.{Payments, File, groupLines, linesOf, tally, kindOf, RightGroup, RightFile}
+use Rattle.wage_file.specs.Right.{Payments, File, groupLines, linesOf, countsIn, kindOf, RightGroup, RightFile}
 use Rattle.wage_file.specs.File.{fileAnswer}
 use Rattle.wage_file.proofs.RunLaws.{noGroup}
 use Rattle.wage_file.proofs.Exactly.{accepted-exactly}
@@ -179,10 +179,10 @@ module _ (day : ℕ) where
       closing-whole s e (suc k) h = absurd (omega arith)
 
   -- the lines of a right file, one behind the other, are accepted, with its counts
-  pub right-file-accepted : (f : File) → RightFile day f → fileAnswer day (joined (linesOf f)) ≡ ending.Accepted (tally f)
+  pub right-file-accepted : (f : File) → RightFile day f → fileAnswer day (joined (linesOf f)) ≡ ending.Accepted (countsIn f)
   right-file-accepted f w =
       of-lines day (linesOf f) (file-whole f w) ∙
-      accepted-exactly day (linesOf f) (tally f) .1 (record { file = f; lines = refl; right = w; counts = refl })
+      accepted-exactly day (linesOf f) (countsIn f) .1 (record { file = f; lines = refl; right = w; counts = refl })
 
   module _ (w : Given) (written : AllWritten day w) where
     -- what was written line by line is a right file
@@ -231,7 +231,7 @@ module _ (day : ℕ) where
             plain-each kind gs (λ n. room (suc n)) (λ n i. f (suc n) (omega arith)) (λ n j i m. q (suc n) j (omega arith) m) k (omega arith)
 
     -- and the judge accepts it, with its counts
-    pub written-file-accepted : fileAnswer day (joined (linesOf (writtenFile day w))) ≡ ending.Accepted (tally (writtenFile day w))
+    pub written-file-accepted : fileAnswer day (joined (linesOf (writtenFile day w))) ≡ ending.Accepted (countsIn (writtenFile day w))
     written-file-accepted = right-file-accepted (writtenFile day w) written-file-right
 
 -- ---------------------------------------------------------------------------

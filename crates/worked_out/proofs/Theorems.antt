@@ -12,11 +12,12 @@ use Rattle.worked_out.specs.Amounts.{amounts}
 -- The sum of at most 99,999 orders, whatever their bytes are
 
 -- fifteen bytes write less than 10^15
-amount-small : (s : List ℕ) → numberIn (partOf Order 10 s) < 1000000000000000
+pub amount-small : (s : List ℕ) → numberIn (partOf Order 10 s) < 1000000000000000
 unfolding spots spotIn
 amount-small s = text-small 15 (take 18 (partOf Order 10 s)) (simp length-take (omega arith))
 
-amounts-at-most : (ss : List (List ℕ)) → amounts ss ≤ length ss * 1000000000000000
+-- so each order at most 10^15 - 1
+pub amounts-at-most : (ss : List (List ℕ)) → amounts ss ≤ length ss * 999999999999999
 unfolding amounts
 amounts-at-most [] = omega arith
 amounts-at-most (s ∷ ss) = omega (arith, amount-small s, amounts-at-most ss)

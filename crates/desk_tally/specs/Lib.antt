@@ -1,0 +1,2 @@
+-- The definitions of the crate `desk_tally`.
+pub mod Tallied

@@ -1,0 +1,3 @@
+-- The laws of a tally, and what is promised of it.
+pub mod Laws
+pub mod One
