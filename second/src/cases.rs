@@ -1,5 +1,5 @@
 //! The cases: one question a line, answered behind ` -> `. A desk keeps what was
-//! written last, some kept lines and a judge from question to question.
+//! written last, some kept lines, a judge and a tally from question to question.
 //! README.md lists the verbs.
 
 use crate::account::{iban, oib};
@@ -9,8 +9,8 @@ use crate::reference::Model;
 use crate::refusal::{Reason, Refusal};
 use crate::slip::{Slip, TEXTS};
 use crate::standing::{standing_text, write_standing, Owner, Refused, Standing};
-use crate::wage::record::Told;
-use crate::wage::{place, write_close, write_group, write_label, write_order, Judge, LINE};
+use crate::wage::record::{Cents, Ended, Record, Tally, Told};
+use crate::wage::{place, write_close, write_group, write_label, write_order, LINE};
 use crate::wet::{list_iban, list_reference, Listing};
 use std::fmt::Write as _;
 use std::io::{self, Write};
@@ -38,7 +38,8 @@ pub struct Desk {
     /// What is written stands at its front.
     memory: [u8; MEMORY],
     kept: [u8; MOST_KEPT],
-    judge: Judge,
+    judge: Record,
+    tally: Tally,
 }
 
 impl Default for Desk {
@@ -46,7 +47,8 @@ impl Default for Desk {
         Desk {
             memory: [0; MEMORY],
             kept: [0; MOST_KEPT],
-            judge: Judge::begin(0),
+            judge: Record::begin(0),
+            tally: Tally::default(),
         }
     }
 }
@@ -139,7 +141,7 @@ impl Desk {
         }))
     }
 
-    /// The memory as a wage line, and the judge.
+    /// The memory as a wage line, the judge and the tally.
     fn handle(&mut self, verb: &[u8], fields: &Fields) -> Vec<u8> {
         let size = fields.size(0);
         let seen = front(&self.memory, size);
@@ -158,21 +160,53 @@ impl Desk {
             b"place" => place(seen, fields.size(1)).to_vec(),
             b"show" => seen.to_vec(),
             b"begin" => {
-                self.judge = Judge::begin(fields.day(0));
-                verdict(self.judge.refusal().map_or(Ok(()), Err)).into_bytes()
+                self.judge = Record::begin(fields.number(0));
+                answer(self.judge.told).into_bytes()
             }
-            b"step" => verdict(self.judge.step(seen)).into_bytes(),
+            b"step" => {
+                self.judge = self.judge.step(seen);
+                answer(self.judge.told).into_bytes()
+            }
+            b"step tally" => {
+                self.judge = self.judge.step_tally(seen, &mut self.tally);
+                self.tallied().into_bytes()
+            }
+            b"tally" => {
+                self.tally = Tally {
+                    groups: fields.size(0),
+                    orders: fields.size(1),
+                    total: fields.cents(2),
+                };
+                Vec::new()
+            }
+            b"total" => {
+                self.judge.file_total = fields.cents(0);
+                Vec::new()
+            }
             b"end" => self.end().into_bytes(),
             _ => b"unknown".to_vec(),
         }
     }
 
+    fn tallied(&self) -> String {
+        let Tally {
+            groups,
+            orders,
+            total,
+        } = self.tally;
+        let told = answer(self.judge.told);
+        let (total, file) = (in_two(total), in_two(self.judge.file_total));
+        format!("{told} groups {groups} orders {orders} total {total} file {file}")
+    }
+
     fn end(&self) -> String {
-        let (told, lines, groups, orders) = match self.judge.end() {
-            Ok(all) => ("accepted".to_string(), all.lines, all.groups, all.orders),
-            Err(refusal) => (told(refusal), 0, 0, 0),
+        let (told, all) = match self.judge.end() {
+            Ok(all) => (Told::default(), all),
+            Err(told) => (told, Ended::default()),
         };
-        format!("{told} lines {lines} groups {groups} orders {orders}")
+        let (told, total) = (answer(told), in_two(all.total));
+        let (lines, groups, orders) = (all.lines, all.groups, all.orders);
+        format!("{told} lines {lines} groups {groups} orders {orders} total {total}")
     }
 }
 
@@ -194,6 +228,14 @@ impl<'a> Fields<'a> {
 
     fn size(&self, k: usize) -> usize {
         self.number(k) as usize
+    }
+
+    /// Cents in two fields.
+    fn cents(&self, k: usize) -> Cents {
+        Cents {
+            high: self.number(k),
+            low: self.number(k + 1),
+        }
     }
 
     /// A number that is too large for a day is as little a date as 0.
@@ -232,10 +274,21 @@ fn verdict(result: Result<(), Refusal>) -> String {
 }
 
 fn told(refusal: Refusal) -> String {
-    let told = Told::of(refusal);
+    answer(Told::of(refusal))
+}
+
+/// What a record or an end tells; 0 is no refusal.
+fn answer(told: Told) -> String {
+    if told.number == 0 {
+        return "accepted".to_string();
+    }
     let (number, line, field, byte) = (told.number, told.line, told.field, told.byte);
     let needed = told.needed;
     format!("refused {number} line {line} field {field} byte {byte} needed {needed}")
+}
+
+fn in_two(cents: Cents) -> String {
+    format!("{} {}", cents.high, cents.low)
 }
 
 fn made(result: Result<u8, Refusal>) -> String {
@@ -520,12 +573,12 @@ mod tests {
         run(&[
             (
                 "end",
-                "refused 11 line 0 field 0 byte 0 needed 0 lines 0 groups 0 orders 0",
+                "refused 11 line 0 field 0 byte 0 needed 0 lines 0 groups 0 orders 0 total 0 0",
             ),
             ("begin|20240228", "accepted"),
             (
                 "end",
-                "refused 14 line 1 field 0 byte 0 needed 0 lines 0 groups 0 orders 0",
+                "refused 14 line 1 field 0 byte 0 needed 0 lines 0 groups 0 orders 0 total 0 0",
             ),
             ("place|1002|1", ""),
             (
@@ -583,6 +636,60 @@ mod tests {
     }
 
     #[test]
+    fn tallies() {
+        let label = format!("300|1002|{LABEL}");
+        let order = "309|1002|20240228|4||HR7023400091510946338             |\
+            {name}|191|    |{reference}|SALA|{text}|000000000000002|    |{reference}|0|EUR|3|0|100|\
+            12345678903"
+            .replace("{name}", &" ".repeat(140))
+            .replace("{reference}", &" ".repeat(22))
+            .replace("{text}", &format!("{:140}", "Placa"));
+        let head = "301|1002|20240228|4|1002|HR1210010051863000160|EUR|                     |   |\
+            20240228";
+        run(&[
+            ("tally|1|2|3|4|5", ""),
+            (
+                "step tally|5",
+                "refused 11 line 0 field 0 byte 0 needed 0 groups 1 orders 2 total 3 4 file 0 0",
+            ),
+            ("begin|20240228", "accepted"),
+            (&label, "accepted"),
+            (
+                "step tally|1002",
+                "accepted groups 1 orders 2 total 3 4 file 0 0",
+            ),
+            (&order, "accepted"),
+            ("keep|0", ""),
+            (head, "accepted"),
+            ("total|5|99999999999999999999", ""),
+            (
+                "step tally|1002",
+                "accepted groups 2 orders 2 total 3 4 file 5 18446744073709551615",
+            ),
+            (&order, "accepted"),
+            (
+                "step tally|1002",
+                "accepted groups 2 orders 3 total 3 6 file 23 446744073709551617",
+            ),
+            ("tally|0|1000001", ""),
+            ("399|1002|20240228", "accepted"),
+            (
+                "step tally|1002",
+                "refused 29 line 4 field 0 byte 0 needed 0 groups 0 orders 1000001 total 0 0 \
+                 file 23 446744073709551617",
+            ),
+            ("step|1002", "refused 29 line 4 field 0 byte 0 needed 0"),
+            (
+                "end",
+                "refused 29 line 4 field 0 byte 0 needed 0 lines 0 groups 0 orders 0 total 0 0",
+            ),
+            ("begin|20240228", "accepted"),
+            ("total|1000|0", ""),
+            ("step|5", "refused 17 line 1000001 field 0 byte 0 needed 0"),
+        ]);
+    }
+
+    #[test]
     fn lines_are_bytes() {
         let run = |input: &[u8]| {
             let mut output = Vec::new();
@@ -598,7 +705,7 @@ mod tests {
         );
     }
 
-    /// What a person chose meets every refusal but 17.
+    /// What a person chose meets every refusal.
     #[test]
     fn hand_picked() {
         let mut desk = Desk::default();
@@ -606,7 +713,10 @@ mod tests {
         for question in [HAND, WAGE].concat().split(|&b| b == b'\n') {
             answers.push(desk.answer(question));
         }
-        for number in (1..=16).chain([20, 28]).map(|n| format!("refused {n} ")) {
+        for number in (1..=17)
+            .chain([20, 28, 29])
+            .map(|n| format!("refused {n} "))
+        {
             let met = answers.iter().any(|a| a.starts_with(number.as_bytes()));
             assert!(met, "{number}");
         }

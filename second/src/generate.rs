@@ -12,11 +12,13 @@ use std::io::{self, Write};
 mod ledgers;
 mod slips;
 mod standing;
+mod tallies;
 mod wagecases;
 mod wages;
 pub use ledgers::{ledger_slip, lipa, right_kuna_slip};
 pub use slips::{right_slip, slip, spoil_slip};
 pub use standing::{huge_sheet, right_sheet, sheet, sheets, standing_field, texts_given};
+pub use tallies::{counted, lent_tally, total};
 pub use wagecases::{spoilt_line, wage_cases};
 pub use wages::{
     large_wage_file, long_wage_file, right_day, right_group, right_label, right_order,

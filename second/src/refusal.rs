@@ -25,6 +25,7 @@ pub enum Reason {
     Lines = 17,
     Sheet = 20,
     Field = 28,
+    Overfull = 29,
 }
 
 #[derive(Clone, Copy, Debug, PartialEq, Eq)]

@@ -1,7 +1,9 @@
 //! Wage cases by dice: little scenes at the desk.
 
+use super::tallies::{lent_tally, total};
 use super::wages::{right_day, right_group, right_label, right_order, spoil, Fields};
 use super::Dice;
+use crate::wage::record::{Cents, Tally};
 use crate::wage::{places, Type, LINE};
 use std::io::{self, Write};
 
@@ -28,12 +30,13 @@ type Commands = Vec<Vec<u8>>;
 fn scene(dice: &mut Dice, commands: &mut Commands) {
     let day = right_day(dice);
     let kind = *dice.pick(&[4, 5]);
-    match dice.below(20) {
+    match dice.below(22) {
         0..=3 => file(dice, commands, day, kind),
         4..=13 => lines(dice, commands, day, kind),
         14..=16 => group(dice, commands, day, kind),
         17 => queries(dice, commands, day, kind),
         18 => rooms(dice, commands, day, kind),
+        19 | 20 => tallied(dice, commands, day, kind),
         _ => odd(dice, commands),
     }
 }
@@ -144,6 +147,10 @@ fn poke(dice: &mut Dice, of: Type) -> Vec<u8> {
 /// A small file, line by line, with a mishap now and then.
 fn file(dice: &mut Dice, commands: &mut Commands, day: u32, kind: u64) {
     let mishap = dice.below(3);
+    let whole_step = *dice.pick(&["step|1002", "step tally|1002"]);
+    if !dice.one_in(4) {
+        say(commands, "tally|0|0|0|0");
+    }
     let begun = match dice.below(12) {
         0 => day + 1,
         1 => *dice.pick(&[0, 20230229, 20221231, 21000229, 20231301, 20230100]),
@@ -161,11 +168,12 @@ fn file(dice: &mut Dice, commands: &mut Commands, day: u32, kind: u64) {
         }
         if mishap == 1 && dice.one_in(14) {
             let size = *dice.pick(&[0, 1, 998, 1000, 1001]);
-            commands.push(format!("step|{size}").into_bytes());
+            let verb = *dice.pick(&["step", "step tally"]);
+            commands.push(format!("{verb}|{size}").into_bytes());
         }
-        say(commands, "step|1002");
+        say(commands, whole_step);
         if mishap == 1 && dice.one_in(14) {
-            say(commands, "step|1002");
+            say(commands, whole_step);
         }
     };
     let label = write(dice, Type::Label, day, kind, 0, LENT);
@@ -201,6 +209,49 @@ fn file(dice: &mut Dice, commands: &mut Commands, day: u32, kind: u64) {
     if dice.one_in(6) {
         say(commands, "end");
     }
+}
+
+/// A right file of one order, with made-up tallies and totals before its lines.
+fn tallied(dice: &mut Dice, commands: &mut Commands, day: u32, kind: u64) {
+    let mut lent = LENT;
+    let fields = right_order(dice, kind);
+    let cents = fields[7]
+        .iter()
+        .fold(0, |n, b| n * 10 + u64::from(b - b'0'));
+    let order = written(format!("309|{LINE}|{day}|{kind}|"), fields);
+    commands.push(order.clone());
+    keep(commands, &mut lent);
+    let lines = [
+        write(dice, Type::Label, day, kind, 0, LENT),
+        write(dice, Type::Group, day, kind, 0, lent),
+        order,
+        write(dice, Type::Close, day, kind, 0, LENT),
+    ];
+    commands.push(format!("begin|{day}").into_bytes());
+    for line in lines {
+        commands.push(line);
+        if dice.one_in(2) {
+            let Tally {
+                groups,
+                orders,
+                total: Cents { high, low },
+            } = lent_tally(dice, cents);
+            commands.push(format!("tally|{groups}|{orders}|{high}|{low}").into_bytes());
+        }
+        if dice.one_in(4) {
+            let Cents { high, low } = total(dice, cents);
+            commands.push(format!("total|{high}|{low}").into_bytes());
+        }
+        if dice.one_in(10) {
+            commands.push(format!("step tally|{}", dice.below(LINE)).into_bytes());
+        }
+        let verb = *dice.pick(&["step", "step tally", "step tally"]);
+        commands.push(format!("{verb}|{LINE}").into_bytes());
+        if dice.one_in(6) {
+            say(commands, "end");
+        }
+    }
+    say(commands, "end");
 }
 
 /// Some lines, right and wrong.
@@ -341,6 +392,14 @@ fn odd(dice: &mut Dice, commands: &mut Commands) {
         "399|1101|20230101",
         "step",
         "show",
+        "step tally",
+        "step tally|99999999999999999999",
+        "tally",
+        "tally|1",
+        "tally|99999999999999999999|18446744073709551616|x|1 8",
+        "total",
+        "total|1000",
+        "tallies|1",
     ];
     let text: &str = texts[dice.below(texts.len())];
     say(commands, text);
@@ -475,8 +534,17 @@ mod tests {
             "step 0: 11",
             "step 0: 12",
             "step 0: 13",
+            "step 0: 17",
             "step accepted",
+            "step tally 0: 1",
+            "step tally 0: 17",
+            "step tally 0: 29",
+            "step tally accepted",
+            "tally nothing",
+            "total nothing",
             "end 0: 14",
+            "end 0: 17",
+            "end 0: 29",
             "end accepted",
         ] {
             if !met.contains_key(key) {

@@ -361,10 +361,16 @@ mod tests {
             let these = file.lines.iter().filter(|line| line[997..1000] == *digits);
             these.count()
         };
+        let orders = file.lines.iter().filter(|line| line[997..1000] == *b"309");
+        let amounts = orders.map(|line| {
+            let digits = std::str::from_utf8(&line[347..362]).unwrap();
+            digits.parse::<u128>().unwrap()
+        });
         Accepted {
             lines: file.lines.len(),
             groups: of(b"301"),
             orders: of(b"309"),
+            total: amounts.sum(),
         }
     }
 

@@ -3,6 +3,7 @@
 use super::date::is_date;
 use super::fields::{self, Declared, Kind};
 use super::layout::{parts, Line, Type, GROUP, LABEL, LINE, ORDER};
+use super::tally::{Brought, Tally};
 use crate::refusal::{Reason, Refusal};
 use std::fmt;
 
@@ -22,8 +23,11 @@ pub struct Accepted {
     pub lines: usize,
     pub groups: usize,
     pub orders: usize,
+    /// What its orders come to, in cents.
+    pub total: u128,
 }
 
+/// As the file program says it, which does not tell the total.
 impl fmt::Display for Accepted {
     fn fmt(&self, f: &mut fmt::Formatter<'_>) -> fmt::Result {
         write!(
@@ -93,17 +97,39 @@ impl Judge {
 
     /// Reads the next line. Once it has refused, it gives that refusal again.
     pub fn step(&mut self, bytes: &[u8]) -> Result<(), Refusal> {
+        self.take(bytes).map(drop)
+    }
+
+    /// Reads the next line, and brings the tally up to date. A refused line
+    /// leaves the tally as it stood. 29 is the last of the refusals: the line
+    /// is right, but would leave the tally too full, and is not taken.
+    pub fn step_tally(&mut self, bytes: &[u8], tally: &mut Tally) -> Result<(), Refusal> {
+        let before = *self;
+        let brought = self.take(bytes)?;
+        let Some(next) = tally.after(brought) else {
+            let refusal = Refusal::from(Reason::Overfull).in_line(before.told.lines + 1);
+            *self = Judge {
+                condition: Condition::Refused(refusal),
+                ..before
+            };
+            return Err(refusal);
+        };
+        *tally = next;
+        Ok(())
+    }
+
+    fn take(&mut self, bytes: &[u8]) -> Result<Brought, Refusal> {
         if let Some(refusal) = self.refusal() {
             return Err(refusal);
         }
         let number = self.told.lines + 1;
-        self.read(number, bytes).map_err(|refusal| {
+        let brought = self.read(number, bytes).map_err(|refusal| {
             let refusal = refusal.in_line(number);
             self.condition = Condition::Refused(refusal);
             refusal
         })?;
         self.told.lines = number;
-        Ok(())
+        Ok(brought)
     }
 
     /// What all the lines together come to. It changes nothing.
@@ -115,7 +141,7 @@ impl Judge {
         }
     }
 
-    fn read(&mut self, number: usize, bytes: &[u8]) -> Result<(), Refusal> {
+    fn read(&mut self, number: usize, bytes: &[u8]) -> Result<Brought, Refusal> {
         if number > MOST_LINES {
             return Err(Reason::Lines.into());
         }
@@ -125,10 +151,12 @@ impl Judge {
                 if open.orders >= open.declared.orders {
                     return Err(Reason::Orders.into());
                 }
-                open.sum += u128::from(fields::order(&parts(line, &ORDER), *kind)?);
+                let cents = fields::order(&parts(line, &ORDER), *kind)?;
+                open.sum += u128::from(cents);
                 open.orders += 1;
                 self.told.orders += 1;
-                Ok(())
+                self.told.total += u128::from(cents);
+                Ok(Brought::Order(cents))
             }
             (&mut Condition::InGroup(kind, open), Type::Group) => {
                 open.closes()?;
@@ -137,19 +165,19 @@ impl Judge {
             (Condition::InGroup(_, open), Type::Close) => {
                 open.closes()?;
                 self.condition = Condition::Closed;
-                Ok(())
+                Ok(Brought::Nothing)
             }
             (&mut Condition::Labelled(kind), Type::Group) => self.begin_group(kind, line),
             (Condition::Fresh, Type::Label) => {
                 let kind = fields::label(&parts(line, &LABEL), self.day)?;
                 self.condition = Condition::Labelled(kind);
-                Ok(())
+                Ok(Brought::Nothing)
             }
             _ => Err(Reason::Type.into()),
         }
     }
 
-    fn begin_group(&mut self, kind: Kind, line: &Line) -> Result<(), Refusal> {
+    fn begin_group(&mut self, kind: Kind, line: &Line) -> Result<Brought, Refusal> {
         let open = Open {
             declared: fields::group(&parts(line, &GROUP), self.day)?,
             orders: 0,
@@ -157,7 +185,7 @@ impl Judge {
         };
         self.condition = Condition::InGroup(kind, open);
         self.told.groups += 1;
-        Ok(())
+        Ok(Brought::Group)
     }
 }
 

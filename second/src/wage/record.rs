@@ -1,11 +1,12 @@
-//! The judge's record as plain numbers, as a caller in another language keeps
-//! it: whoever made it up, a step and the end have an answer.
+//! The judge's record and the tally as plain numbers, as a caller in another
+//! language keeps them: whoever made them up, a step and the end have an answer.
 
 use super::fields::{Declared, Kind};
 use super::judge::{Accepted, Condition, Judge, Open, MOST_LINES};
+use super::tally::{self, TOO_MUCH_IN_ALL};
 use crate::refusal::{Reason, Refusal};
 
-/// A sum of so many cents or more has no twenty digits.
+/// A group's sum of so many cents or more has no twenty digits.
 pub const TOO_MUCH: u128 = 100_000_000_000_000_000_000;
 const BASE: u128 = 1_000_000_000_000_000_000;
 
@@ -21,12 +22,75 @@ impl Cents {
         u128::from(self.high) * BASE + u128::from(self.low)
     }
 
-    /// `low` below 10^18; 10^20 stands for all above it too.
-    pub fn of(value: u128) -> Cents {
-        let value = value.min(TOO_MUCH);
+    /// `low` below 10^18; the limit stands for all above it too.
+    pub fn up_to(limit: u128, value: u128) -> Cents {
+        let value = value.min(limit);
         Cents {
             high: (value / BASE) as u64,
             low: (value % BASE) as u64,
+        }
+    }
+
+    /// A group's sum.
+    pub fn of_group(value: u128) -> Cents {
+        Cents::up_to(TOO_MUCH, value)
+    }
+
+    /// The total of a file or a tally.
+    pub fn in_all(value: u128) -> Cents {
+        Cents::up_to(TOO_MUCH_IN_ALL, value)
+    }
+}
+
+/// The tally that a caller lends.
+#[derive(Clone, Copy, Debug, Default, PartialEq, Eq)]
+pub struct Tally {
+    pub groups: usize,
+    pub orders: usize,
+    pub total: Cents,
+}
+
+impl Tally {
+    fn value(self) -> tally::Tally {
+        tally::Tally {
+            groups: self.groups,
+            orders: self.orders,
+            total: self.total.value(),
+        }
+    }
+
+    /// The same numbers but for what a line has brought: only an order writes
+    /// the total anew.
+    fn brought_to(self, value: tally::Tally) -> Tally {
+        let total = if value.orders > self.orders {
+            Cents::in_all(value.total)
+        } else {
+            self.total
+        };
+        Tally {
+            groups: value.groups,
+            orders: value.orders,
+            total,
+        }
+    }
+}
+
+/// What an accepted file comes to, its total in the numbers of its record.
+#[derive(Clone, Copy, Debug, Default, PartialEq, Eq)]
+pub struct Ended {
+    pub lines: usize,
+    pub groups: usize,
+    pub orders: usize,
+    pub total: Cents,
+}
+
+impl From<Accepted> for Ended {
+    fn from(accepted: Accepted) -> Self {
+        Ended {
+            lines: accepted.lines,
+            groups: accepted.groups,
+            orders: accepted.orders,
+            total: Cents::in_all(accepted.total),
         }
     }
 }
@@ -61,7 +125,7 @@ impl Told {
     /// 17, and no other than 15 needs anything.
     fn of_refused(self) -> Told {
         let number = match self.number {
-            1..=17 | 20 | 28 => self.number,
+            1..=17 | 20 | 28 | 29 => self.number,
             _ => Reason::Lines as usize,
         };
         let needed = match number {
@@ -91,6 +155,8 @@ pub struct Record {
     pub lines: usize,
     pub groups: usize,
     pub orders: usize,
+    /// What all orders of the file came to so far.
+    pub file_total: Cents,
     pub declared: u64,
     pub promised: Cents,
     pub counted: u64,
@@ -113,13 +179,33 @@ impl Record {
     /// The record after one line. What the line does not speak of stays as it
     /// stood, and a refused line changes nothing but the condition.
     pub fn step(self, line: &[u8]) -> Record {
+        self.stepped(|judge| judge.step(line))
+    }
+
+    /// The record after one line, and the tally brought up to date; a refused
+    /// line leaves every number of the tally.
+    pub fn step_tally(self, line: &[u8], lent: &mut Tally) -> Record {
+        let mut value = lent.value();
+        let next = self.stepped(|judge| judge.step_tally(line, &mut value));
+        if next.condition != REFUSED {
+            *lent = lent.brought_to(value);
+        }
+        next
+    }
+
+    fn stepped(self, step: impl FnOnce(&mut Judge) -> Result<(), Refusal>) -> Record {
         let mut judge = match self.judge() {
             Ok(judge) => judge,
             Err(told) => return self.refused(told),
         };
-        if let Err(refusal) = judge.step(line) {
-            return self.refused(Told::of(refusal));
+        match step(&mut judge) {
+            Ok(()) => self.brought_to(&judge),
+            Err(refusal) => self.refused(Told::of(refusal)),
         }
+    }
+
+    /// The same record but for what a line has brought to its judge.
+    fn brought_to(self, judge: &Judge) -> Record {
         let counts = judge.counts();
         let mut next = Record {
             told: Told::default(),
@@ -128,6 +214,9 @@ impl Record {
             orders: counts.orders,
             ..self
         };
+        if counts.orders > self.orders {
+            next.file_total = Cents::in_all(counts.total);
+        }
         match *judge.condition() {
             Condition::Labelled(kind) => {
                 next.condition = LABELLED;
@@ -140,10 +229,10 @@ impl Record {
                 next.condition = GROUPED;
                 if counts.groups > self.groups {
                     next.declared = u64::from(open.declared.orders);
-                    next.promised = Cents::of(open.declared.sum);
+                    next.promised = Cents::of_group(open.declared.sum);
                 }
                 next.counted = u64::from(open.orders);
-                next.total = Cents::of(open.sum);
+                next.total = Cents::of_group(open.sum);
             }
             _ => next.condition = CLOSED,
         }
@@ -170,11 +259,17 @@ impl Record {
         }
     }
 
-    pub fn end(self) -> Result<Accepted, Told> {
-        self.judge()?.end().map_err(Told::of)
+    /// An accepted file's total is told as it stands in the record.
+    pub fn end(self) -> Result<Ended, Told> {
+        let accepted = self.judge()?.end().map_err(Told::of)?;
+        Ok(Ended {
+            total: self.file_total,
+            ..accepted.into()
+        })
     }
 
-    /// Whether no count is above 1,000,000 and no sum 10^20 or more.
+    /// Whether no count is above 1,000,000, no sum of the group 10^20 or more,
+    /// and the file's total not 10^21 or more.
     fn is_sound(&self) -> bool {
         let counts = [self.lines, self.groups, self.orders].map(|n| n as u64);
         let most = MOST_LINES as u64;
@@ -183,6 +278,7 @@ impl Record {
             && self.counted <= most
             && self.promised.value() < TOO_MUCH
             && self.total.value() < TOO_MUCH
+            && self.file_total.value() < TOO_MUCH_IN_ALL
     }
 
     /// The judge that the record stands for, or what it is refused with.
@@ -214,6 +310,7 @@ impl Record {
             lines: self.lines,
             groups: self.groups,
             orders: self.orders,
+            total: self.file_total.value(),
         };
         Ok(Judge::from_parts(day_of(self.day), condition, counts))
     }
@@ -252,7 +349,7 @@ mod tests {
             let input = wage_input(&mut dice);
             for bytes in [file.lines.as_flattened(), &input[9.min(input.len())..]] {
                 let record = Record::begin(u64::from(file.day)).steps(bytes);
-                let expected = whole(file.day, bytes).map_err(Told::of);
+                let expected = whole(file.day, bytes).map(Ended::from).map_err(Told::of);
                 assert_eq!(record.end(), expected);
             }
         }
@@ -272,6 +369,10 @@ mod tests {
             lines: 1_000_000,
             groups: 1_000_000,
             orders: 1_000_000,
+            file_total: Cents {
+                high: 981,
+                low: u64::MAX,
+            },
             declared: 1_000_000,
             promised: Cents { high: 99, low: 0 },
             counted: 1_000_000,
@@ -320,6 +421,17 @@ mod tests {
                 },
                 ..sound
             },
+            Record {
+                file_total: Cents { high: 1000, low: 0 },
+                ..sound
+            },
+            Record {
+                file_total: Cents {
+                    high: 982,
+                    low: u64::MAX,
+                },
+                ..sound
+            },
         ] {
             assert_eq!(broken.end(), Err(beyond));
             let after = broken.step(&[0; LINE]);
@@ -358,7 +470,7 @@ mod tests {
         };
         assert_eq!(refused.step(b""), refused);
         assert_eq!(refused.end(), Err(refused.told));
-        for number in [1, 17, 20, 28] {
+        for number in [1, 17, 20, 28, 29] {
             let mut known = refused;
             known.told = Told {
                 number,
@@ -368,7 +480,7 @@ mod tests {
             assert_eq!(known.step(b""), known);
             assert_eq!(known.end(), Err(known.told));
         }
-        for number in [0, 18, 19, 21, 27, 29, 256 + 20, usize::MAX] {
+        for number in [0, 18, 19, 21, 27, 30, 256 + 20, usize::MAX] {
             let strange = Record {
                 told: Told {
                     number,
@@ -412,10 +524,17 @@ mod tests {
             TOO_MUCH - 1,
             TOO_MUCH,
         ] {
-            assert_eq!(Cents::of(value).value(), value);
-            assert!(u128::from(Cents::of(value).low) < BASE);
+            for cents in [Cents::of_group(value), Cents::in_all(value)] {
+                assert_eq!(cents.value(), value);
+                assert!(u128::from(cents.low) < BASE);
+            }
         }
-        assert_eq!(Cents::of(TOO_MUCH + 1), Cents { high: 100, low: 0 });
+        let limit = Cents { high: 100, low: 0 };
+        assert_eq!(Cents::of_group(TOO_MUCH + 1), limit);
+        assert_eq!(Cents::in_all(TOO_MUCH + 1), Cents { low: 1, ..limit });
+        let limit = Cents { high: 1000, low: 0 };
+        assert_eq!(Cents::in_all(TOO_MUCH_IN_ALL), limit);
+        assert_eq!(Cents::in_all(TOO_MUCH_IN_ALL + 1), limit);
         let most = Cents {
             high: u64::MAX,
             low: u64::MAX,

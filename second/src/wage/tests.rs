@@ -1,5 +1,6 @@
-//! 01's paragraph on the wage file, sentence by sentence.
+//! 01's paragraph on the wage file, sentence by sentence, and 02's W5.
 
+use super::record::{Cents, Record, Tally, Told, REFUSED};
 use super::*;
 use crate::refusal::{Reason, Refusal};
 
@@ -638,6 +639,7 @@ fn a_sum_beyond_64_bits() {
             judge.step(line).unwrap();
         }
         let _ = judge.step(&close_line());
+        assert_eq!(judge.counts().total, ORDERS as u128 * 999_999_999_999_999);
         answer(judge.end())
     };
     assert_eq!(run(sum), "accepted 18503 lines 1 groups 18500 orders");
@@ -751,6 +753,261 @@ fn a_million_lines() {
     assert_eq!(answer(open.end()), refused(14, 1_000_001, 0, 0));
     assert_eq!(open.step(&order), Err(beyond));
     assert_eq!(open.end(), Err(beyond));
+}
+
+// 02, W5: the file's total, and the tally.
+
+/// Puts an amount into a 309.
+fn order_of(cents: u64) -> Line {
+    let mut line = order_line();
+    line[347..362].copy_from_slice(format!("{cents:015}").as_bytes());
+    line
+}
+
+/// A right file with one order, and its record before each of the four lines.
+fn small(cents: u64) -> [(Line, Record); 4] {
+    let order = order_of(cents);
+    let mut record = Record::begin(u64::from(DAY));
+    [label_line(), group_line(&[order]), order, close_line()].map(|line| {
+        let before = record;
+        record = record.step(&line);
+        assert_ne!(record.condition, REFUSED);
+        (line, before)
+    })
+}
+
+fn tally(groups: usize, orders: usize, high: u64, low: u64) -> Tally {
+    let total = Cents { high, low };
+    Tally {
+        groups,
+        orders,
+        total,
+    }
+}
+
+fn overfull(line: usize) -> Told {
+    Told {
+        number: 29,
+        line,
+        ..Told::default()
+    }
+}
+
+const MOST: u64 = u64::MAX;
+const LOWS: u64 = 1_000_000_000_000_000_000;
+
+#[test]
+fn a_step_with_a_tally() {
+    let file = small(1);
+    let [label, group, order, close] = [0, 1, 2, 3];
+    #[rustfmt::skip]
+    let rows = [
+        (tally(0, 0, 0, 0), label, Some(tally(0, 0, 0, 0))),
+        (tally(0, 0, 0, 0), group, Some(tally(1, 0, 0, 0))),
+        (tally(1, 0, 0, 0), order, Some(tally(1, 1, 0, 1))),
+        (tally(7, 8, 9, 10), close, Some(tally(7, 8, 9, 10))),
+        // At the most, and one beyond.
+        (tally(999_999, 0, 0, 0), group, Some(tally(1_000_000, 0, 0, 0))),
+        (tally(1_000_000, 0, 0, 0), label, Some(tally(1_000_000, 0, 0, 0))),
+        (tally(1_000_000, 0, 0, 0), order, Some(tally(1_000_000, 1, 0, 1))),
+        (tally(1_000_000, 0, 0, 0), group, None),
+        (tally(0, 999_999, 0, 0), order, Some(tally(0, 1_000_000, 0, 1))),
+        (tally(0, 1_000_000, 0, 0), group, Some(tally(1, 1_000_000, 0, 0))),
+        (tally(0, 1_000_000, 0, 0), order, None),
+        (tally(0, 0, 999, LOWS - 2), order, Some(tally(0, 1, 999, LOWS - 1))),
+        (tally(0, 0, 999, LOWS - 1), order, None),
+        (tally(0, 0, 999, LOWS - 1), close, Some(tally(0, 0, 999, LOWS - 1))),
+        // Beyond already, whatever the line.
+        (tally(1_000_001, 0, 0, 0), label, None),
+        (tally(0, 1_000_001, 0, 0), close, None),
+        (tally(0, 0, 1000, 0), label, None),
+        (tally(usize::MAX, 0, 0, 0), group, None),
+        (tally(0, usize::MAX, 0, 0), order, None),
+        (tally(0, 0, MOST, MOST), order, None),
+        (tally(0, 0, MOST, MOST), close, None),
+        // Numbers that nobody would write: taken by the cents that they stand for.
+        (tally(0, 0, 0, MOST), order, Some(tally(0, 1, 18, 446_744_073_709_551_616))),
+        (tally(0, 0, 0, MOST), group, Some(tally(1, 0, 0, MOST))),
+        (tally(0, 0, 0, MOST), label, Some(tally(0, 0, 0, MOST))),
+        (tally(0, 0, 981, MOST), order, Some(tally(0, 1, 999, 446_744_073_709_551_616))),
+        (tally(0, 0, 982, MOST), order, None),
+        (tally(0, 0, 999, LOWS), close, None),
+        (tally(0, 0, 998, LOWS), order, Some(tally(0, 1, 999, 1))),
+    ];
+    for (lent, step, taken) in rows {
+        let (line, before) = file[step];
+        let mut after = lent;
+        let answer = before.step_tally(&line, &mut after);
+        assert_eq!(after, taken.unwrap_or(lent), "{lent:?} {step}");
+        let refused = Record {
+            condition: REFUSED,
+            told: overfull(step + 1),
+            ..before
+        };
+        let expected = if taken.is_some() {
+            before.step(&line)
+        } else {
+            refused
+        };
+        assert_eq!(answer, expected, "{lent:?} {step}");
+        // A refusal stays, and so does the tally.
+        let stood = after;
+        if taken.is_none() {
+            assert_eq!(answer.step_tally(&line, &mut after), answer);
+            assert_eq!(answer.step(&line), answer);
+            assert_eq!(answer.steps(&line), answer);
+            assert_eq!(answer.end(), Err(overfull(step + 1)));
+            assert_eq!(after, stood);
+        }
+    }
+}
+
+/// An order of nothing is an order, and its total is written anew.
+#[test]
+fn an_order_of_nothing() {
+    let [_, _, (line, before), _] = small(0);
+    let mut lent = tally(0, 0, 1, LOWS);
+    let after = before.step_tally(&line, &mut lent);
+    assert_eq!(lent, tally(0, 1, 2, 0));
+    assert_eq!(after.file_total, Cents::default());
+    let before = Record {
+        file_total: Cents { high: 1, low: LOWS },
+        ..before
+    };
+    assert_eq!(before.step(&line).file_total, Cents { high: 2, low: 0 });
+    lent = tally(0, 1_000_000, 0, 0);
+    assert_eq!(before.step_tally(&line, &mut lent).told, overfull(3));
+}
+
+/// 29 is given last, and no refused line changes the tally.
+#[test]
+fn every_refusal_comes_before_29() {
+    let full = tally(usize::MAX, usize::MAX, MOST, MOST);
+    let file = small(1);
+    let number = |before: Record, line: &[u8]| {
+        let mut lent = full;
+        let answer = before.step_tally(line, &mut lent);
+        assert_eq!(lent, full);
+        assert_eq!(answer.condition, REFUSED);
+        if answer.told.number != 29 {
+            assert_eq!(answer, before.step(line));
+        }
+        answer.told.number
+    };
+    for (step, (line, before)) in file.iter().enumerate() {
+        assert_eq!(number(*before, line), 29);
+        assert_eq!(number(*before, b"short"), 1);
+        let mut other = *line;
+        other[1000] = b' ';
+        assert_eq!(number(*before, &other), 2);
+        other = *line;
+        other[997] = b'4';
+        assert_eq!(number(*before, &other), 5);
+        let stranger = file[if step == 0 { 2 } else { 0 }].0;
+        assert_eq!(number(*before, &stranger), 10);
+        let beyond = Record {
+            lines: 1_000_001,
+            ..*before
+        };
+        assert_eq!(number(beyond, line), 17);
+        let beyond = Record {
+            file_total: Cents { high: 1000, low: 0 },
+            ..*before
+        };
+        assert_eq!(number(beyond, line), 17);
+    }
+    let [_, _, (order, inside), (close, last)] = file;
+    let mut other = order;
+    other[0] = b'~';
+    assert_eq!(number(inside, &other), 3);
+    assert_eq!(number(last, &order), 12);
+    let promised = Cents { high: 0, low: 2 };
+    assert_eq!(number(Record { promised, ..last }, &close), 13);
+}
+
+/// Begun at zero, over several files: what adding all orders anew would give.
+#[test]
+fn one_tally_over_files() {
+    let orders = [order_of(999_999_999_999_999), order_of(1), order_of(0)];
+    let mut lines = vec![label_line(), group_line(&orders)];
+    lines.extend(orders);
+    lines.extend([group_line(&orders[..1]), orders[0], close_line()]);
+    let mut lent = Tally::default();
+    let mut sum = 0;
+    for file in 1..=3 {
+        let mut record = Record::begin(u64::from(DAY));
+        for line in &lines {
+            let plain = record.step(line);
+            record = record.step_tally(line, &mut lent);
+            assert_eq!(record, plain);
+            if line[TYPE] == *b"309" {
+                let digits = std::str::from_utf8(&line[347..362]).unwrap();
+                sum += digits.parse::<u128>().unwrap();
+            }
+            assert_eq!(lent.total.value(), sum);
+        }
+        assert_eq!((lent.groups, lent.orders), (2 * file, 4 * file));
+        let total = Cents {
+            high: 0,
+            low: 1_999_999_999_999_999,
+        };
+        let ended = record.end().unwrap();
+        assert_eq!((ended.groups, ended.orders, ended.total), (2, 4, total));
+    }
+}
+
+#[test]
+fn the_total_of_a_file() {
+    let [(label, fresh), (group, labelled), (order, inside), (close, last)] = small(1);
+    let with = |record: Record, high, low| Record {
+        file_total: Cents { high, low },
+        ..record
+    };
+    let beyond = Told {
+        number: 17,
+        line: 1_000_001,
+        ..Told::default()
+    };
+    // Only an order changes it.
+    for (line, before) in [(label, fresh), (group, labelled), (close, last)] {
+        for (high, low) in [(0, 5), (0, MOST), (981, MOST), (999, LOWS - 1)] {
+            let after = with(before, high, low).step(&line);
+            assert_eq!(after, with(before.step(&line), high, low));
+        }
+    }
+    for (high, low, next_high, next_low) in [
+        (0, 12_345, 0, 12_346),
+        (0, LOWS - 1, 1, 0),
+        (0, MOST, 18, 446_744_073_709_551_616),
+        (999, LOWS - 2, 999, LOWS - 1),
+        // Reached by this order, which is not refused for it.
+        (999, LOWS - 1, 1000, 0),
+    ] {
+        let after = with(inside, high, low).step(&order);
+        assert_eq!(after, with(inside.step(&order), next_high, next_low));
+    }
+    let reached = with(inside, 999, LOWS - 1).step(&order);
+    assert_eq!(reached.step(&close).told, beyond);
+    assert_eq!(reached.end(), Err(beyond));
+    // Too much is 17 before all else of a line, and at the end.
+    for (high, low) in [(1000, 0), (999, LOWS), (982, MOST), (MOST, MOST)] {
+        for before in [fresh, labelled, inside, last, last.step(&close)] {
+            let before = with(before, high, low);
+            let refused = Record {
+                condition: REFUSED,
+                told: beyond,
+                ..before
+            };
+            assert_eq!(before.step(b"short"), refused);
+            assert_eq!(before.steps(&close), refused);
+            assert_eq!(before.end(), Err(beyond));
+            assert_eq!(before.steps(b""), before);
+        }
+    }
+    // The end tells it as it stands.
+    let closed = with(last.step(&close), 5, MOST);
+    let total = closed.file_total;
+    assert_eq!(closed.end().map(|ended| ended.total), Ok(total));
 }
 
 // The writers.
