@@ -3,10 +3,12 @@
 // gate compares.
 //
 // A question is a verb and its fields, divided by bars; second/README.md lists the verbs. From question to question stay a
-// memory, at whose front stands what was written last, the lines kept for a group, and the judge's record. Other verbs are
-// answered by the program `cases`.
+// memory, at whose front stands what was written last, the lines kept for a group, the judge's record and a tally. Other
+// verbs are answered by the program `cases`.
 use boundary::Told;
+use desk_judge::Ended;
 use desk_record::Record;
+use desk_tally::Tallied;
 use question::behind;
 use question::count;
 use question::field;
@@ -17,6 +19,8 @@ use question::put_fields;
 use question::put_sizes;
 use question::size_of;
 use question::tell;
+use sums::Sum;
+use tally::Tally;
 use text::front;
 use words::say;
 
@@ -28,9 +32,9 @@ fn main() {
     answer_all(front(&input, n), &mut memory, &mut kept);
 }
 
-// Answers each line. The judge's verbs are `judge_by`'s, all others `respond`'s.
+// Answers each line. The verbs of judge and tally are `judge_by`'s, all others `respond`'s.
 fn answer_all(s: &[u8], memory: &mut [u8], kept: &mut [u8]) {
-    let mut r = desk_judge::lanecockle_judge_begin(0);
+    let mut r = begun();
     let mut at = 0;
     while at < s.len() {
         let start = at;
@@ -49,7 +53,7 @@ fn answer(question: &[u8], memory: &mut [u8], kept: &mut [u8]) -> usize {
     say(b" -> ");
     let verb = number_of(
         field(question, 0),
-        b"300|301|309|399|keep|poke|place|show|begin|step|end",
+        b"300|301|309|399|keep|poke|place|show|begin|step|end|tally|step tally|total",
     );
     respond(verb, question, memory, kept);
     verb
@@ -61,7 +65,7 @@ fn respond(verb: usize, question: &[u8], memory: &mut [u8], kept: &mut [u8]) {
         0..=3 => write(verb, question, memory, kept),
         4..=5 => keep(verb, question, memory, kept),
         6..=7 => show(verb, question, memory),
-        8..=10 => {}
+        8..=13 => {}
         _ => {
             say(b"unknown");
         }
@@ -151,15 +155,41 @@ fn show(verb: usize, question: &[u8], memory: &[u8]) {
 }
 
 // ---------------------------------------------------------------------------
-// The judge
+// The judge and the tally
 
-// begin, step, end: the record after it. Ends the line of every answer.
-fn judge_by(verb: usize, question: &[u8], r: Record, memory: &[u8]) -> Record {
+// A judge begun with no date, and a tally of nothing.
+fn begun() -> Tallied {
+    both(desk_judge::lanecockle_judge_begin(0), tally::zero())
+}
+
+fn both(r: Record, t: Tally) -> Tallied {
+    Tallied {
+        record: r,
+        tally: t,
+    }
+}
+
+// Judge and tally after a question. Ends the line of every answer.
+fn judge_by(verb: usize, question: &[u8], b: Tallied, memory: &[u8]) -> Tallied {
+    let r = b.record;
+    let t = b.tally;
+    if verb == 12 {
+        return count_by(question, r, t, memory);
+    }
+    both(
+        record_by(verb, question, r, memory),
+        tally_by(verb, question, t),
+    )
+}
+
+// begin, step, end, total: the record after it.
+fn record_by(verb: usize, question: &[u8], r: Record, memory: &[u8]) -> Record {
     let n = number_at(question, 1);
     match verb {
         8 => told(desk_judge::lanecockle_judge_begin(n as u64)),
         9 => told(desk_judge::lanecockle_judge_step(r, front(memory, n))),
         10 => ended(r),
+        13 => over(with_total(r, sum_at(question, 1, 2))),
         _ => over(r),
     }
 }
@@ -171,13 +201,96 @@ fn told(r: Record) -> Record {
 }
 
 fn ended(r: Record) -> Record {
-    let e = desk_judge::lanecockle_judge_end(r);
-    let t = e.told;
-    tell(t);
-    count(b" lines ", e.lines);
-    count(b" groups ", e.groups);
-    count(b" orders ", e.orders);
+    tell_end(desk_judge::lanecockle_judge_end(r));
     over(r)
+}
+
+// A record with another total of the file.
+fn with_total(r: Record, file_total: Sum) -> Record {
+    let t = r.told;
+    let promised = r.promised;
+    let total = r.total;
+    Record {
+        condition: r.condition,
+        told: t,
+        day: r.day,
+        kind: r.kind,
+        lines: r.lines,
+        groups: r.groups,
+        orders: r.orders,
+        file_total,
+        declared: r.declared,
+        promised,
+        counted: r.counted,
+        total,
+    }
+}
+
+// tally: the one that is lent after it.
+fn tally_by(verb: usize, question: &[u8], t: Tally) -> Tally {
+    if verb == 11 {
+        return tally_at(question);
+    }
+    t
+}
+
+// The tally in four fields.
+fn tally_at(question: &[u8]) -> Tally {
+    Tally {
+        groups: number_at(question, 1),
+        orders: number_at(question, 2),
+        total: sum_at(question, 3, 4),
+    }
+}
+
+// The sum in two fields.
+fn sum_at(question: &[u8], high: usize, low: usize) -> Sum {
+    Sum {
+        high: number_at(question, high) as u64,
+        low: number_at(question, low) as u64,
+    }
+}
+
+// step tally: a line with the tally lent, and both after it.
+fn count_by(question: &[u8], r: Record, t: Tally, memory: &[u8]) -> Tallied {
+    let n = number_at(question, 1);
+    counted(desk_tally::lent(r, front(memory, n), t))
+}
+
+fn counted(b: Tallied) -> Tallied {
+    let r = b.record;
+    let t = b.tally;
+    tell_both(r, t);
+    b
+}
+
+fn tell_both(r: Record, t: Tally) {
+    let said = r.told;
+    let total = t.total;
+    let file_total = r.file_total;
+    tell(said);
+    tell_counts(t.groups, t.orders, total);
+    tell_sum(b" file ", file_total);
+    say(b"\n");
+}
+
+fn tell_end(e: Ended) {
+    let said = e.told;
+    let total = e.total;
+    tell(said);
+    count(b" lines ", e.lines);
+    tell_counts(e.groups, e.orders, total);
+}
+
+fn tell_counts(groups: usize, orders: usize, total: Sum) {
+    count(b" groups ", groups);
+    count(b" orders ", orders);
+    tell_sum(b" total ", total);
+}
+
+fn tell_sum(word: &[u8], s: Sum) {
+    count(word, s.high as usize);
+    count(b" ", s.low as usize);
 }
 
 // Ends an answer's line.
