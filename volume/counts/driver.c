@@ -104,12 +104,20 @@ int main(void) {
     for (int i = 0; i < 8; i++) day = day * 10 + items[0].bytes[i] - '0';
     WORK("wage file of 2,000 lines, whole",
         lanecockle_ended e = lanecockle_wage_file(day, LENT(1));
-        add(e.told); sum += e.lines + e.orders * 7;);
+        add(e.told); sum += e.lines + e.orders * 7 + e.total.low;);
     sum = 0;
     WORK("wage file of 2,000 lines, steps",
         lanecockle_record r = lanecockle_judge_begin(day);
         for (uint64_t i = 0; i + 1002 <= items[1].length; i += 1002) r = lanecockle_judge_step(r, items[1].bytes + i, 1002);
         lanecockle_ended e = lanecockle_judge_end(r);
-        add(e.told); sum += e.lines + e.orders * 7;);
+        add(e.told); sum += e.lines + e.orders * 7 + e.total.low;);
+    sum = 0;
+    WORK("wage file of 2,000 lines, tally",
+        lanecockle_record r = lanecockle_judge_begin(day);
+        lanecockle_tally t = {0};
+        for (uint64_t i = 0; i + 1002 <= items[1].length; i += 1002)
+            r = lanecockle_judge_step_tally(r, items[1].bytes + i, 1002, &t);
+        lanecockle_ended e = lanecockle_judge_end(r);
+        add(e.told); sum += e.lines + t.orders * 7 + t.total.low;);
     return 0;
 }

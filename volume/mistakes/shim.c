@@ -530,6 +530,7 @@ lanecockle_standing_written lanecockle_slip_write_standing(uint64_t cents, const
 
 lanecockle_record right_lanecockle_judge_begin(uint64_t);
 lanecockle_record right_lanecockle_judge_step(lanecockle_record, const uint8_t *, size_t);
+lanecockle_record right_lanecockle_judge_step_tally(lanecockle_record, const uint8_t *, size_t, lanecockle_tally *);
 lanecockle_record right_lanecockle_judge_lines(lanecockle_record, const uint8_t *, size_t);
 lanecockle_ended right_lanecockle_judge_end(lanecockle_record);
 lanecockle_ended right_lanecockle_wage_file(uint64_t, const uint8_t *, size_t);
@@ -541,6 +542,48 @@ lanecockle_record lanecockle_judge_begin(uint64_t day)
     if (is("begin-day"))
         record.day = (uint32_t)day ^ 1;
     return record;
+}
+
+/* Totals (W5) as one number, and in two. */
+typedef unsigned __int128 wide;
+static const uint64_t LIMB = 1000000000000000000;
+static const wide BEYOND = (wide)1000 * 1000000000000000000;
+static wide cents_of(lanecockle_cents c) { return (wide)c.high * LIMB + c.low; }
+static lanecockle_cents in_two(wide n) { lanecockle_cents c = { (uint64_t)(n / LIMB), (uint64_t)(n % LIMB) }; return c; }
+
+static lanecockle_record refused(lanecockle_record record, size_t number, size_t line)
+{
+    memset(&record.told, 0, sizeof record.told);
+    record.condition = LANECOCKLE_REFUSED, record.told.number = number, record.told.line = line;
+    return record;
+}
+
+/* A record with its file's total cut to what is no 17. */
+static lanecockle_record with_room(lanecockle_record record)
+{
+    if (record.condition < LANECOCKLE_REFUSED && cents_of(record.file_total) >= BEYOND)
+        memset(&record.file_total, 0, sizeof record.file_total);
+    return record;
+}
+
+/* The file's total after a step, with one of W5's mistakes in it. */
+static lanecockle_cents other_total(lanecockle_record before, lanecockle_record after, const uint8_t *line)
+{
+    int taken = after.condition < LANECOCKLE_REFUSED, order = taken && after.orders > before.orders;
+    wide sum = order ? cents_of(before.file_total) + number_of(line + 347, 15) : 0;
+    if (is("step-file-forgotten") && order)
+        return before.file_total;
+    if (is("step-file-64-bits") && order && sum < BEYOND)
+        return in_two((uint64_t)sum);
+    if (is("step-file-low-wraps") && order && sum < BEYOND)
+        return in_two((wide)before.file_total.high * LIMB + (uint64_t)(before.file_total.low + number_of(line + 347, 15)));
+    if (is("step-file-uncapped") && order)
+        return in_two(sum);
+    if (is("step-file-of-group") && order)
+        return after.total;
+    if (is("step-file-normalised") && taken && !order)
+        return in_two(cents_of(after.file_total));
+    return after.file_total;
 }
 
 /* A 309 with other contents in the wage reference of its field 7. */
@@ -563,6 +606,15 @@ lanecockle_record lanecockle_judge_step(lanecockle_record record, const uint8_t 
 {
     lanecockle_record after = right_lanecockle_judge_step(record, line, length);
     int refuses = record.condition < 4 && after.condition == 4;
+    after.file_total = other_total(record, after, line);
+    if (is("step-file-beyond") && refuses && after.told.number == 17) {
+        after = right_lanecockle_judge_step(with_room(record), line, length);
+        after.file_total = record.file_total;
+    }
+    if (is("step-file-10^20") && record.condition < 4 && cents_of(record.file_total) >= BEYOND / 10)
+        return refused(record, 17, 1000001);
+    if (is("step-overfull-forgotten") && record.condition == 4 && after.told.number == LANECOCKLE_OVERFULL)
+        after.told.number = 17;
     if (is("step-line") && refuses && after.told.number == 12)
         after.told.line--;
     if (is("step-total") && after.condition == 2 && after.counted > record.counted && after.total.high > 10)
@@ -588,7 +640,14 @@ lanecockle_record lanecockle_judge_lines(lanecockle_record record, const uint8_t
         length -= 1002;
     if (is("lines-short-last") && length > 1002)
         length -= length % 1002;
-    return right_lanecockle_judge_lines(record, bytes, length);
+    lanecockle_record after = right_lanecockle_judge_lines(record, bytes, length);
+    if (is("lines-file-forgotten") && after.condition < 4)
+        after.file_total = record.file_total;
+    if (is("lines-file-beyond") && record.condition < 4 && after.told.number == 17) {
+        after = right_lanecockle_judge_lines(with_room(record), bytes, length);
+        after.file_total = record.file_total;
+    }
+    return after;
 }
 
 lanecockle_ended lanecockle_judge_end(lanecockle_record record)
@@ -602,6 +661,18 @@ lanecockle_ended lanecockle_judge_end(lanecockle_record record)
         ended.told.number = record.told.number;
     if (is("end-sheet-forgotten") && ended.told.number == LANECOCKLE_SHEET)
         ended.told.number = 17;
+    if (is("end-overfull-forgotten") && ended.told.number == LANECOCKLE_OVERFULL)
+        ended.told.number = 17;
+    if (is("end-total-forgotten"))
+        memset(&ended.total, 0, sizeof ended.total);
+    if (is("end-total-normalised"))
+        ended.total = in_two(cents_of(ended.total));
+    if (is("end-total-refused") && ended.told.number)
+        ended.total = record.file_total;
+    if (is("end-total-of-group") && ended.told.number == 0)
+        ended.total = record.total;
+    if (is("end-file-beyond") && ended.told.number == 17)
+        return right_lanecockle_judge_end(with_room(record));
     return ended;
 }
 
@@ -612,9 +683,136 @@ lanecockle_ended lanecockle_wage_file(uint64_t day, const uint8_t *bytes, size_t
         ended.told.number = 0;
     if (is("file-counts") && ended.told.number == 0 && ended.groups > 1)
         ended.groups--;
+    if (is("file-total-forgotten"))
+        memset(&ended.total, 0, sizeof ended.total);
+    if (is("file-total-64-bits") && ended.total.high)
+        ended.total = in_two((uint64_t)cents_of(ended.total));
     if (is("file-reads-behind"))
         peek(bytes, (ptrdiff_t)length);
     return ended;
+}
+
+/* A step with a tally (W5) */
+
+static int is_full(lanecockle_tally t) { return t.groups > 1000000 || t.orders > 1000000 || cents_of(t.total) >= BEYOND; }
+
+/* What a line that is taken makes of a tally, whatever the limits. */
+static lanecockle_tally grown(lanecockle_tally tally, lanecockle_record before, lanecockle_record after, const uint8_t *line)
+{
+    tally.groups += after.groups - before.groups;
+    if (after.orders > before.orders) {
+        tally.orders++;
+        tally.total = in_two(cents_of(tally.total) + number_of(line + 347, 15));
+    }
+    return tally;
+}
+
+/* Whether a tally is too full only by what one of W5's mistakes lets pass. */
+static int lets_fill(lanecockle_tally before, lanecockle_tally after)
+{
+    int same_groups = before.groups == after.groups, same_orders = before.orders == after.orders;
+    if (is("tally-million-late") && (after.groups == 1000001 || after.orders == 1000001)) {
+        after.groups = after.orders = 0;
+        return !is_full(after);
+    }
+    if (is("tally-10^21-late") && cents_of(after.total) == BEYOND) {
+        after.total.high = 0;
+        return !is_full(after);
+    }
+    if (is("tally-label-passes"))
+        return same_groups && same_orders;
+    if (is("tally-own-limit-alone")) {
+        after.groups = same_groups ? 0 : after.groups;
+        after.orders = same_orders ? 0 : after.orders;
+        after.total.high = same_orders ? 0 : after.total.high;
+        return !(same_groups && same_orders) && !is_full(after);
+    }
+    return 0;
+}
+
+/* Whether a tally that is not too full is so by one of W5's mistakes. */
+static int fills_early(lanecockle_tally before, lanecockle_tally after)
+{
+    return is("tally-10^20") ? cents_of(after.total) >= BEYOND / 10
+         : is("tally-million-early") ? after.groups + after.orders > before.groups + before.orders &&
+                                           (after.groups == 1000000 || after.orders == 1000000)
+                                     : 0;
+}
+
+/* The tally after a line that was taken, with one of W5's mistakes in it. */
+static lanecockle_tally counted_otherwise(lanecockle_tally before, lanecockle_tally after, const uint8_t *line)
+{
+    int group = after.groups > before.groups, order = after.orders > before.orders;
+    uint64_t amount = order ? number_of(line + 347, 15) : 0;
+    if (is("tally-forgotten"))
+        return before;
+    if (is("tally-group-normalises") && group)
+        after.total = in_two(cents_of(after.total));
+    if (is("tally-64-bits") && order)
+        after.total = in_two((uint64_t)cents_of(after.total));
+    if (is("tally-low-wraps") && order)
+        after.total = in_two((wide)before.total.high * LIMB + (uint64_t)(before.total.low + amount));
+    if (is("tally-low-as-it-is") && order && before.total.low + amount >= before.total.low)
+        after.total.high = before.total.high, after.total.low = before.total.low + amount;
+    if (is("tally-nothing") && order && amount == 0)
+        after = before;
+    if (is("tally-label-clears") && memcmp(line + 997, "300", 3) == 0)
+        memset(&after, 0, sizeof after);
+    if (is("tally-close-normalises") && memcmp(line + 997, "399", 3) == 0)
+        after.total = in_two(cents_of(after.total));
+    return after;
+}
+
+lanecockle_record lanecockle_judge_step_tally(lanecockle_record record, const uint8_t *line, size_t length,
+                                              lanecockle_tally *tally)
+{
+    lanecockle_tally before = *tally, more;
+    lanecockle_record plain = right_lanecockle_judge_step(record, line, length);
+    lanecockle_record after = right_lanecockle_judge_step_tally(record, line, length, tally);
+    int unrefused = record.condition < LANECOCKLE_REFUSED;
+    if (is("tally-reads-behind"))
+        peek(tally, (ptrdiff_t)sizeof *tally);
+    if (is("tally-reads-before"))
+        peek(tally, -1);
+    if (is("tally-reads-line"))
+        peek(line, (ptrdiff_t)length);
+    if (after.condition < LANECOCKLE_REFUSED) {
+        if (fills_early(before, *tally)) {
+            *tally = before;
+            return refused(record, LANECOCKLE_OVERFULL, record.lines + 1);
+        }
+        *tally = counted_otherwise(before, *tally, line);
+        if (is("tally-record-total"))
+            after.file_total = record.file_total;
+        return after;
+    }
+    if (plain.condition == LANECOCKLE_REFUSED) { /* refused without a tally too */
+        if (is("tally-refused-counts") && unrefused && length == 1002 && line[999] == '9')
+            tally->orders++;
+        if (is("tally-29-first") && unrefused && is_full(before))
+            return refused(record, LANECOCKLE_OVERFULL, record.lines + 1);
+        if (is("tally-29-before-fields") && unrefused && after.told.field && is_full(before))
+            return refused(record, LANECOCKLE_OVERFULL, record.lines + 1);
+        if (is("tally-29-forgotten") && !unrefused && after.told.number == LANECOCKLE_OVERFULL)
+            after.told.number = 17;
+        return after;
+    }
+    more = grown(before, record, plain, line);
+    if (lets_fill(before, more)) {
+        *tally = more;
+        return plain;
+    }
+    if (is("tally-29-line"))
+        after.told.line--;
+    if (is("tally-29-place") && plain.orders > record.orders)
+        after.told.field = 10, after.told.byte = 347;
+    if (is("tally-29-read"))
+        return refused(plain, LANECOCKLE_OVERFULL, after.told.line);
+    if (is("tally-29-counts"))
+        *tally = more;
+    if (is("tally-29-normalises"))
+        tally->total = in_two(cents_of(tally->total));
+    return after;
 }
 
 lanecockle_part lanecockle_wage_place(const uint8_t *line, size_t length, size_t field)

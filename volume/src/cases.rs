@@ -1,6 +1,6 @@
 //! The cases of second/README.md, answered through the static library.
 
-use crate::ffi::{Ledger, Record, Told, Valued};
+use crate::ffi::{Cents, Ledger, Record, Tally, Told, Valued};
 use crate::lane::{self, Lent, Sheets};
 use crate::lent::Given;
 use std::io::{self, Write};
@@ -18,6 +18,7 @@ pub fn answer_all(input: &[u8], mut output: impl Write) -> io::Result<()> {
         memory: vec![0; MEMORY],
         kept: vec![0; MOST_KEPT],
         record: lane::judge_begin(0),
+        tally: Tally::default(),
     };
     for line in input.split_inclusive(|&b| b == b'\n') {
         let question = line.strip_suffix(b"\n").unwrap_or(line);
@@ -35,6 +36,7 @@ struct Desk {
     memory: Vec<u8>,
     kept: Vec<u8>,
     record: Record,
+    tally: Tally,
 }
 
 impl Desk {
@@ -161,16 +163,41 @@ impl Desk {
                 return Some(seen[part.start..][..part.length].to_vec());
             }
             b"show" => return Some(seen.to_vec()),
+            b"tally" => {
+                self.tally = Tally {
+                    groups: size,
+                    orders: fields.size(1),
+                    total: fields.cents(2),
+                };
+            }
+            b"step tally" => {
+                self.record = lane::judge_step_tally(self.record, seen, &mut self.tally);
+                return Some(self.tallied());
+            }
+            b"total" => self.record.file_total = fields.cents(0),
             b"end" => {
                 let ended = lane::judge_end(self.record);
                 let (lines, groups, orders) = (ended.lines, ended.groups, ended.orders);
-                let counts = format!(" lines {lines} groups {groups} orders {orders}");
+                let total = in_two(ended.total);
+                let counts =
+                    format!(" lines {lines} groups {groups} orders {orders} total {total}");
                 return Some([answer(ended.told), counts.into_bytes()].concat());
             }
             _ => return None,
         }
         Some(Vec::new())
     }
+
+    fn tallied(&self) -> Vec<u8> {
+        let (groups, orders) = (self.tally.groups, self.tally.orders);
+        let (total, file) = (in_two(self.tally.total), in_two(self.record.file_total));
+        let numbers = format!(" groups {groups} orders {orders} total {total} file {file}");
+        [answer(self.record.told), numbers.into_bytes()].concat()
+    }
+}
+
+fn in_two(cents: Cents) -> String {
+    format!("{} {}", cents.high, cents.low)
 }
 
 fn standing(fields: &Fields) -> Vec<u8> {
@@ -256,6 +283,14 @@ impl Fields {
 
     fn size(&self, k: usize) -> usize {
         self.number(k) as usize
+    }
+
+    /// Cents in two fields.
+    fn cents(&self, k: usize) -> Cents {
+        Cents {
+            high: self.number(k),
+            low: self.number(k + 1),
+        }
     }
 
     /// A sheet: `~` stands for a line feed.

@@ -27,6 +27,7 @@ pub struct Ended {
     pub lines: usize,
     pub groups: usize,
     pub orders: usize,
+    pub total: Cents,
 }
 
 /// A part of the lent bytes.
@@ -86,9 +87,19 @@ pub struct Record {
     pub lines: usize,
     pub groups: usize,
     pub orders: usize,
+    pub file_total: Cents,
     pub declared: u64,
     pub promised: Cents,
     pub counted: u64,
+    pub total: Cents,
+}
+
+/// The tally that is lent to a step.
+#[repr(C)]
+#[derive(Clone, Copy, Debug, Default, PartialEq, Eq)]
+pub struct Tally {
+    pub groups: usize,
+    pub orders: usize,
     pub total: Cents,
 }
 
@@ -166,6 +177,12 @@ extern "C" {
 
     pub fn lanecockle_judge_begin(day: u64) -> Record;
     pub fn lanecockle_judge_step(record: Record, line: *const u8, length: usize) -> Record;
+    pub fn lanecockle_judge_step_tally(
+        record: Record,
+        line: *const u8,
+        length: usize,
+        tally: *mut Tally,
+    ) -> Record;
     pub fn lanecockle_judge_lines(record: Record, bytes: *const u8, length: usize) -> Record;
     pub fn lanecockle_judge_end(record: Record) -> Ended;
     pub fn lanecockle_wage_file(day: u64, bytes: *const u8, length: usize) -> Ended;

@@ -169,6 +169,18 @@ impl Room {
             (room, before)
         }
     }
+
+    /// A thing that a call may change where it stands, flush against the page
+    /// on this side.
+    pub fn hold<T: Copy>(&mut self, thing: T, side: Side) -> &mut T {
+        let start = self.lent.start(size_of::<T>(), side);
+        unsafe {
+            let at = self.lent.inside().add(start).cast::<T>();
+            assert!(at.is_aligned(), "a thing whose size is none of its places");
+            at.write(thing);
+            &mut *at
+        }
+    }
 }
 
 #[cfg(test)]
@@ -192,6 +204,11 @@ mod tests {
                 lent.fill(7);
             }
         }
+        for side in [Side::Front, Side::Back] {
+            let held = room.hold([1u64, u64::MAX], side);
+            assert_eq!(*held, [1, u64::MAX]);
+            held[1] = 2;
+        }
     }
 
     /// The bytes beside what is lent stand in the pages that may not be touched.
@@ -204,5 +221,11 @@ mod tests {
         assert_eq!(front, inside);
         let back = lender.lend(b"abc", Side::Back).as_ptr() as usize;
         assert_eq!(back + 3, inside + lender.lent.size);
+        let mut room = Room::new(1);
+        let inside = room.lent.inside() as usize;
+        let front = std::ptr::from_ref(room.hold(7u64, Side::Front)) as usize;
+        assert_eq!(front, inside);
+        let back = std::ptr::from_ref(room.hold(7u64, Side::Back)) as usize;
+        assert_eq!(back + 8, inside + room.lent.size);
     }
 }

@@ -155,6 +155,10 @@ pub fn judge_step(record: Record, line: &[u8]) -> Record {
     unsafe { lanecockle_judge_step(record, line.as_ptr(), line.len()) }
 }
 
+pub fn judge_step_tally(record: Record, line: &[u8], tally: &mut Tally) -> Record {
+    unsafe { lanecockle_judge_step_tally(record, line.as_ptr(), line.len(), tally) }
+}
+
 pub fn judge_lines(record: Record, bytes: &[u8]) -> Record {
     unsafe { lanecockle_judge_lines(record, bytes.as_ptr(), bytes.len()) }
 }

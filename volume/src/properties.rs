@@ -11,6 +11,7 @@ mod rounds;
 mod slips;
 mod slipwrites;
 mod standing;
+mod tallies;
 mod wagefiles;
 mod wages;
 mod wagewrites;
@@ -31,6 +32,7 @@ pub fn run(plan: &Plan) {
     records::run(plan);
     wagewrites::run(plan);
     wagefiles::run(plan);
+    tallies::run(plan);
     rounds::run(plan);
 }
 

@@ -2,8 +2,8 @@
 
 use crate::clock::now;
 
-/// Refusals go up to 28.
-const NUMBERS: usize = 29;
+/// Refusals go up to 29.
+const NUMBERS: usize = 30;
 
 /// What one property came to.
 pub struct Tally {

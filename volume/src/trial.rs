@@ -173,7 +173,8 @@ shown_as_it_is!(
     usize,
     &[usize],
     Vec<usize>,
-    crate::ffi::Record
+    crate::ffi::Record,
+    crate::ffi::Tally
 );
 
 /// Second's answer in the words of the header.

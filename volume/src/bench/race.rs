@@ -12,6 +12,20 @@ pub struct Race {
 }
 
 impl Race {
+    /// Before the first stretch of a work.
+    pub const NOTHING: Race = Race {
+        ours: 0.0,
+        theirs: 0.0,
+    };
+
+    /// Two stretches of a work, one behind the other.
+    pub fn and(self, other: Race) -> Race {
+        Race {
+            ours: self.ours + other.ours,
+            theirs: self.theirs + other.theirs,
+        }
+    }
+
     /// How much faster ours is: at least 1.0 is the bar.
     pub fn ratio(&self) -> f64 {
         self.theirs / self.ours

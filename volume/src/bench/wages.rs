@@ -1,13 +1,14 @@
 //! A wage file judged whole, step by step, and by the programs.
 
 use super::child::{self, Spent};
-use super::race::{plain_pass, turns};
+use super::race::{plain_pass, turns, Race};
 use super::sheet::{scaled, Sheet};
 use super::Size;
 use crate::clock::seconds;
+use crate::ffi::{Record, Tally};
 use crate::lane;
 use second::generate::long_wage_file;
-use second::wage::{whole, Judge, LINE};
+use second::wage::{self, whole, Judge, LINE};
 use std::fs;
 use std::hint::black_box;
 use std::io;
@@ -17,6 +18,12 @@ use std::path::{Path, PathBuf};
 const FRONT: usize = 9;
 /// The bar of a file judged step by step: a record is handed over at each line.
 const STEPS: f64 = 0.95;
+/// The bar of a step with a tally beside one without (document 02, W5).
+const TALLY: f64 = 0.9;
+/// Lines that are gone through by turns with a tally, and turns at the least: a
+/// machine that is busy with other things is slow for longer than one takes.
+const STRETCH: usize = 5_000;
+const TURNS: usize = 20;
 /// The bar of the program's memory.
 const MEMORY: u64 = 8 * 1024 * 1024;
 
@@ -57,6 +64,10 @@ fn in_memory(size: Size, sheet: &mut Sheet, input: &[u8]) {
     );
     sheet.bytes("  judged step by step", bytes.len(), race, STEPS);
 
+    let [by_second, by_none] = with_tally(size, day, bytes);
+    sheet.bytes("  in steps with a tally", bytes.len(), by_second, STEPS);
+    sheet.bytes("  beside our own without one", bytes.len(), by_none, TALLY);
+
     let sum = (0..size.passes)
         .map(|_| {
             seconds(|| {
@@ -70,11 +81,62 @@ fn in_memory(size: Size, sheet: &mut Sheet, input: &[u8]) {
 }
 
 fn step_by_step(day: u32, bytes: &[u8]) {
-    let mut record = lane::judge_begin(u64::from(day));
+    let record = steps(lane::judge_begin(u64::from(day)), bytes);
+    assert_eq!(black_box(lane::judge_end(record)).told.number, 0);
+}
+
+fn steps(mut record: Record, bytes: &[u8]) -> Record {
     for line in bytes.chunks(LINE) {
         record = lane::judge_step(record, line);
     }
-    assert_eq!(black_box(lane::judge_end(record)).told.number, 0);
+    record
+}
+
+/// Steps with a tally by turns with second's, and by turns with our own without
+/// one: the best turns over each stretch of the file, together.
+fn with_tally(size: Size, day: u32, bytes: &[u8]) -> [Race; 2] {
+    let rounds = size.passes.max(TURNS);
+    let (mut record, mut tally) = (lane::judge_begin(u64::from(day)), Tally::default());
+    let (mut judge, mut counted) = (Judge::begin(day), wage::Tally::default());
+    let mut races = [Race::NOTHING; 2];
+    for stretch in bytes.chunks(STRETCH * LINE) {
+        let (begun, second_begun) = (tally, (judge, counted));
+        let mut ours = || {
+            tally = begun;
+            black_box(steps_tally(record, black_box(stretch), &mut tally));
+        };
+        let by_second = turns(rounds, &mut ours, || {
+            (judge, counted) = second_begun;
+            second_steps_tally(&mut judge, black_box(stretch), &mut counted);
+        });
+        let by_none = turns(rounds, &mut ours, || {
+            black_box(steps(record, black_box(stretch)));
+        });
+        races = [races[0].and(by_second), races[1].and(by_none)];
+        record = lane::judge_lines(record, stretch);
+    }
+    let (ended, accepted) = (lane::judge_end(record), judge.end().expect("a right file"));
+    assert_eq!((tally.orders, tally.total), (ended.orders, ended.total));
+    assert_eq!(
+        (counted.orders, counted.total),
+        (accepted.orders, accepted.total)
+    );
+    races
+}
+
+fn steps_tally(mut record: Record, bytes: &[u8], tally: &mut Tally) -> Record {
+    for line in bytes.chunks(LINE) {
+        record = lane::judge_step_tally(record, line, black_box(&mut *tally));
+    }
+    record
+}
+
+fn second_steps_tally(judge: &mut Judge, bytes: &[u8], tally: &mut wage::Tally) {
+    for line in bytes.chunks(LINE) {
+        if black_box(judge.step_tally(line, black_box(&mut *tally))).is_err() {
+            break;
+        }
+    }
 }
 
 fn second_step_by_step(day: u32, bytes: &[u8]) {

@@ -1,6 +1,6 @@
 //! Wage lines judged one by one from varied records, and their places.
 
-use super::wages::{any_type, ended, fitting, lent, line, sum};
+use super::wages::{amount, any_type, ended, fitting, lent, line, sum};
 use super::MILLION;
 use crate::dice::Dice;
 use crate::ffi::Part;
@@ -26,7 +26,7 @@ fn judged(trial: &mut Trial, maker: &mut Maker, lender: &mut Lender) {
     let dice = &mut trial.dice;
     let (of, day, kind) = (any_type(dice), right_day(dice), *dice.pick(&[4, 5]));
     let line = line(maker, dice, of, day, kind);
-    let before = fitting(dice, of, day, kind);
+    let before = fitting(dice, of, day, kind, amount(&line));
     let before = varied(dice, before);
     let side = Side::any(dice);
     let ours = lane::judge_step(lent(before), lender.lend(&line, side));
@@ -45,7 +45,7 @@ fn judged(trial: &mut Trial, maker: &mut Maker, lender: &mut Lender) {
 }
 
 /// Mostly as it is: else something that the line does not expect.
-fn varied(dice: &mut Dice, record: Record) -> Record {
+pub fn varied(dice: &mut Dice, record: Record) -> Record {
     match dice.below(16) {
         0 => Record {
             condition: dice.below(4),

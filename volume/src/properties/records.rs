@@ -1,14 +1,14 @@
 //! Records that the judge did not make: a step, the lines of a part of a file,
 //! and the end answer as the law says.
 
-use super::wages::{any_type, ended, fitting, lent, line};
+use super::wages::{amount, any_type, ended, fitting, lent, line};
 use super::MILLION;
 use crate::dice::Dice;
 use crate::guard::{Lender, Side};
 use crate::lane;
 use crate::maker::Maker;
 use crate::trial::{Inputs, Plan, Trial};
-use second::generate::right_day;
+use second::generate::{right_day, total};
 use second::wage::record::{Cents, Record, Told, TOO_MUCH};
 use second::wage::MOST_LINES;
 
@@ -22,11 +22,15 @@ pub fn run(plan: &Plan) {
 fn one(trial: &mut Trial, maker: &mut Maker, lender: &mut Lender) {
     let dice = &mut trial.dice;
     let (of, day, kind) = (any_type(dice), right_day(dice), *dice.pick(&[4, 5]));
-    let mut record = fitting(dice, of, day, kind);
-    for _ in 0..dice.between(1, 3) {
-        mangle(dice, &mut record);
-    }
     let mut bytes = line(maker, dice, of, day, kind);
+    let cents = amount(&bytes);
+    let mut record = fitting(dice, of, day, kind, cents);
+    for _ in 0..dice.between(1, 3) {
+        match dice.below(12) {
+            0 => record.file_total = total(dice, cents),
+            _ => mangle(dice, &mut record),
+        }
+    }
     for _ in 0..*dice.pick(&[0, 0, 0, 1, 2]) {
         let of = any_type(dice);
         bytes.extend(line(maker, dice, of, day, kind));
@@ -57,7 +61,8 @@ fn one(trial: &mut Trial, maker: &mut Maker, lender: &mut Lender) {
     trial.answered(end.told.number);
 }
 
-fn mangle(dice: &mut Dice, record: &mut Record) {
+/// Another number in one of its places; the file's total stays.
+pub fn mangle(dice: &mut Dice, record: &mut Record) {
     match dice.below(12) {
         0 | 1 => record.condition = *dice.pick(&[0, 1, 2, 3, 4, 4, 4, 5, 6, 1 << 32, usize::MAX]),
         2 => record.told = any_told(dice),
@@ -133,6 +138,6 @@ fn any_sum(dice: &mut Dice) -> Cents {
             high: 98 + dice.roll() % 4,
             low: 999_999_999_999_999_999 + dice.roll() % 3,
         },
-        _ => Cents::of(TOO_MUCH - dice.roll() as u128 % 3),
+        _ => Cents::of_group(TOO_MUCH - dice.roll() as u128 % 3),
     }
 }

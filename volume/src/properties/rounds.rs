@@ -3,7 +3,7 @@
 
 use super::{HUNDRED_THOUSAND, MILLION};
 use crate::dice::Dice;
-use crate::ffi::{Ended, Part, Told};
+use crate::ffi::{Cents, Ended, Part, Told};
 use crate::guard::{Lender, Side};
 use crate::lane;
 use crate::maker::{Head, Maker};
@@ -78,6 +78,13 @@ struct Group {
     orders: Vec<Fields>,
 }
 
+/// Where the amount stands among the fields of an order.
+const AMOUNT: usize = 7;
+
+fn number(digits: &[u8]) -> u64 {
+    digits.iter().fold(0, |n, b| n * 10 + u64::from(b - b'0'))
+}
+
 impl Sheets {
     fn by_dice(dice: &mut Dice) -> Sheets {
         let (day, kind) = (right_day(dice), *dice.pick(&[4, 5]));
@@ -122,11 +129,18 @@ impl Sheets {
 
     fn counts(&self) -> Ended {
         let orders = self.groups.iter().map(|group| group.orders.len()).sum();
+        let amounts = self.groups.iter().flat_map(|group| &group.orders);
+        let total = amounts.map(|order| number(&order[AMOUNT])).sum();
         Ended {
             told: Told::default(),
             lines: 2 + self.groups.len() + orders,
             groups: self.groups.len(),
             orders,
+            // A few orders stay below 10^18.
+            total: Cents {
+                high: 0,
+                low: total,
+            },
         }
     }
 }

@@ -4,18 +4,18 @@ use super::rounds::written_file;
 use super::wages::{ended, lent};
 use super::HUNDRED_THOUSAND;
 use crate::dice::{bytes, damaged, mixed, Dice};
-use crate::ffi::Ended;
 use crate::guard::{Lender, Side};
 use crate::lane;
 use crate::maker::Maker;
-use crate::trial::{told, Inputs, Plan, Trial};
+use crate::trial::{Inputs, Plan, Trial};
 use second::generate::{large_wage_file, right_wage_file, wage_input};
-use second::wage::record::Record;
+use second::wage::record::{Ended, Record, Told};
 use second::wage::{whole, LINE};
 
 /// Eight digits and a line feed stand before the file in a program's input.
 const FRONT: usize = 9;
-const LARGEST: usize = 1 << 18;
+/// Bytes of such a file at the most.
+pub const LARGEST: usize = 1 << 18;
 
 pub fn run(plan: &Plan) {
     let (mut lender, mut maker) = (Lender::new(LARGEST), Maker::new());
@@ -36,12 +36,7 @@ fn one(trial: &mut Trial, lender: &mut Lender, day: u64, file: &[u8]) {
     let inputs: Inputs = &[("day", &day), ("file", &file)];
 
     let answer = whole(u32::try_from(day).unwrap_or(0), file);
-    let expected = Ended {
-        told: told(&answer),
-        lines: answer.map_or(0, |accepted| accepted.lines),
-        groups: answer.map_or(0, |accepted| accepted.groups),
-        orders: answer.map_or(0, |accepted| accepted.orders),
-    };
+    let expected = ended(answer.map(Ended::from).map_err(Told::of));
     trial.same("wage_file", lane::wage_file(day, file), expected, inputs);
 
     let mut record = Record::begin(day);
@@ -86,7 +81,8 @@ fn cuts<'a>(dice: &mut Dice, file: &'a [u8]) -> Vec<&'a [u8]> {
         .collect()
 }
 
-fn file(maker: &mut Maker, dice: &mut Dice) -> (u64, Vec<u8>) {
+/// A day and a file, right or damaged.
+pub fn file(maker: &mut Maker, dice: &mut Dice) -> (u64, Vec<u8>) {
     match dice.below(10) {
         0..=5 => {
             let input = wage_input(dice);
@@ -145,7 +141,7 @@ fn any_day(dice: &mut Dice) -> u64 {
 }
 
 /// A group whose sum is above 2^64, declared right or 2^64 less.
-fn large(number: u64, dice: &mut Dice) -> (u64, Vec<u8>) {
+pub fn large(number: u64, dice: &mut Dice) -> (u64, Vec<u8>) {
     let (mut file, sum) = large_wage_file(dice);
     let declared = match number % 2 {
         0 => sum,

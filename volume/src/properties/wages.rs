@@ -1,13 +1,13 @@
 //! What the properties of wage files share: lines, records, and the words of
-//! the header for second's record.
+//! the header for second's record and tally.
 
 use crate::dice::{damaged, fill, Dice};
 use crate::ffi;
 use crate::maker::{Head, Maker};
 use crate::trial::of_told;
-use second::generate::{right_group, right_label, right_order, spoil, Fields};
-use second::wage::record::{Cents, Record, Told, TOO_MUCH};
-use second::wage::{places, Accepted, Type, LINE, MOST_LINES, TYPE};
+use second::generate::{right_group, right_label, right_order, spoil, total, Fields};
+use second::wage::record::{Cents, Ended, Record, Tally, Told, TOO_MUCH};
+use second::wage::{place, places, Type, LINE, MOST_LINES, TOO_MUCH_IN_ALL, TYPE};
 
 pub fn cents(cents: Cents) -> ffi::Cents {
     ffi::Cents {
@@ -26,6 +26,7 @@ pub fn lent(record: Record) -> ffi::Record {
         lines: record.lines,
         groups: record.groups,
         orders: record.orders,
+        file_total: cents(record.file_total),
         declared: record.declared,
         promised: cents(record.promised),
         counted: record.counted,
@@ -33,14 +34,24 @@ pub fn lent(record: Record) -> ffi::Record {
     }
 }
 
+/// Second's tally in the words of the header.
+pub fn lent_tally(tally: Tally) -> ffi::Tally {
+    ffi::Tally {
+        groups: tally.groups,
+        orders: tally.orders,
+        total: cents(tally.total),
+    }
+}
+
 /// Second's end in the words of the header.
-pub fn ended(end: Result<Accepted, Told>) -> ffi::Ended {
+pub fn ended(end: Result<Ended, Told>) -> ffi::Ended {
     match end {
         Ok(accepted) => ffi::Ended {
             told: ffi::Told::default(),
             lines: accepted.lines,
             groups: accepted.groups,
             orders: accepted.orders,
+            total: cents(accepted.total),
         },
         Err(told) => ffi::Ended {
             told: of_told(told),
@@ -127,6 +138,16 @@ fn damaged_line(dice: &mut Dice, mut line: Vec<u8>) -> Vec<u8> {
     }
 }
 
+/// The amount of a 309 in cents; 0 where there is none.
+pub fn amount(line: &[u8]) -> u64 {
+    let digits = match Type::of(line) {
+        Ok((_, Type::Order)) => place(line, 10),
+        _ => &[],
+    };
+    let digits = std::str::from_utf8(digits).unwrap_or_default();
+    digits.parse().unwrap_or(0)
+}
+
 pub fn any_type(dice: &mut Dice) -> Type {
     *dice.pick(&[
         Type::Label,
@@ -140,8 +161,9 @@ pub fn any_type(dice: &mut Dice) -> Type {
 
 // Records.
 
-/// A record from which a line of this type may be read.
-pub fn fitting(dice: &mut Dice, of: Type, day: u32, kind: u64) -> Record {
+/// A record from which a line of this type may be read, an order of so many
+/// cents.
+pub fn fitting(dice: &mut Dice, of: Type, day: u32, kind: u64, cents: u64) -> Record {
     let counted = dice.between(1, 99_998) as u64;
     let total = sum(dice);
     let mut record = Record {
@@ -155,6 +177,7 @@ pub fn fitting(dice: &mut Dice, of: Type, day: u32, kind: u64) -> Record {
         lines: count(dice),
         groups: count(dice),
         orders: count(dice),
+        file_total: file_total(dice, cents),
         declared: counted,
         promised: total,
         counted,
@@ -175,6 +198,16 @@ pub fn fitting(dice: &mut Dice, of: Type, day: u32, kind: u64) -> Record {
     record
 }
 
+/// A file's total of fewer than 10^21 cents: some, or about all that an order of
+/// so many may be added to.
+pub fn file_total(dice: &mut Dice, cents: u64) -> Cents {
+    let some = Cents::in_all(u128::from(dice.roll() % 1_000_000_000_000_000));
+    match total(dice, cents) {
+        edge if edge.value() < TOO_MUCH_IN_ALL => *dice.pick(&[some, edge]),
+        _ => some,
+    }
+}
+
 /// Small, or about the most that there may be.
 pub fn count(dice: &mut Dice) -> usize {
     match dice.below(8) {
@@ -186,13 +219,13 @@ pub fn count(dice: &mut Dice) -> usize {
 /// A sum of fewer than 10^20 cents, about 2^64 or about 10^20 now and then.
 pub fn sum(dice: &mut Dice) -> Cents {
     match dice.below(8) {
-        0 => Cents::of(TOO_MUCH - 1 - u128::from(dice.roll() % 3)),
-        1 => Cents::of(u128::from(u64::MAX) + u128::from(dice.roll() % 3) - 1),
+        0 => Cents::of_group(TOO_MUCH - 1 - u128::from(dice.roll() % 3)),
+        1 => Cents::of_group(u128::from(u64::MAX) + u128::from(dice.roll() % 3) - 1),
         2 => Cents {
             high: dice.roll() % 81,
             low: dice.roll(),
         },
-        3 => Cents::of(TOO_MUCH - 1 - u128::from(dice.roll() % 2_000_000_000_000_000)),
-        _ => Cents::of(u128::from(dice.roll() % 1_000_000_000)),
+        3 => Cents::of_group(TOO_MUCH - 1 - u128::from(dice.roll() % 2_000_000_000_000_000)),
+        _ => Cents::of_group(u128::from(dice.roll() % 1_000_000_000)),
     }
 }
