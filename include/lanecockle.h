@@ -8,11 +8,12 @@
  * What a caller sees to, and no proof can:
  *   - a pointer with its length is memory that may be read (`const`) or written (`out`) for that many elements; where the
  *     length is 0 the pointer is not followed;
- *   - what is lent as `out` overlaps nothing else lent to the same call;
+ *   - `tally`, which has no length, points to one tally, which may be read and written: it is not NULL;
+ *   - what is lent as `out` or `tally` overlaps nothing else that is lent meanwhile, to the same call or to another;
  *   - `size_t` has 64 bits, as on the machines that the library is built for.
  *
  * What a call never does: write to what is lent as `const`; write to `out` at all where it refuses; write to `out` behind
- * what it says it wrote.
+ * what it says it wrote; leave a byte of `tally` other than it was where it refuses.
  *
  * Text is bytes, not a C string: no call looks for a 0 at the end. */
 #ifndef LANECOCKLE_H
@@ -22,8 +23,8 @@
 #include <stdint.h>
 
 /* The version of this header; lanecockle_version() is that of the library that a program runs with. */
-#define LANECOCKLE_VERSION "1.3.0"
-#define LANECOCKLE_VERSION_NUMBER 10300
+#define LANECOCKLE_VERSION "2.0.0"
+#define LANECOCKLE_VERSION_NUMBER 20000
 
 #ifdef __cplusplus
 extern "C" {
@@ -35,8 +36,8 @@ extern "C" {
  * `number` is 0 where all is right, and otherwise one refusal. Lines and fields count from 1, bytes from 0 in the slip or
  * in the line of the wage file; 0 stands for "none". `needed` is told for 15 alone.
  *
- * For 3, `byte` is the first offending byte; otherwise the field's first byte. 1, 2, 10, 12, 13, 14, 15, 17, 20 and 28 have
- * field 0 and byte 0. A wrong type of line is 5 with field 0 and byte 997. For 20, `line` is a line of a sheet. */
+ * For 3, `byte` is the first offending byte; otherwise the field's first byte. 1, 2, 10, 12, 13, 14, 15, 17, 20, 28 and
+ * 29 have field 0 and byte 0. A wrong type of line is 5 with field 0 and byte 997. For 20, `line` is a line of a sheet. */
 enum {
     LANECOCKLE_ACCEPTED = 0,
     LANECOCKLE_SIZE = 1,        /* wrong size of the whole input or line */
@@ -57,7 +58,8 @@ enum {
     LANECOCKLE_MARKS = 16,      /* more than four unreadable digits */
     LANECOCKLE_BEYOND = 17,     /* line beyond 1,000,000 */
     LANECOCKLE_SHEET = 20,      /* sheet line malformed */
-    LANECOCKLE_FIELD = 28       /* a field number other than 4 to 9, 13 and 14 */
+    LANECOCKLE_FIELD = 28,      /* a field number other than 4 to 9, 13 and 14 */
+    LANECOCKLE_OVERFULL = 29    /* the line would leave the lent tally beyond 1,000,000 groups or orders, or at 10^21 cents or more */
 };
 
 /* An answer. */
@@ -75,12 +77,20 @@ typedef struct {
     size_t value;
 } lanecockle_valued;
 
-/* What a wage file comes to; the three counts are 0 where it is refused. */
+/* Exact cents: `high` times 10^18, and `low`. */
+typedef struct {
+    uint64_t high;
+    uint64_t low;
+} lanecockle_cents;
+
+/* What a wage file comes to: its counts, and in `total` what all its orders come to; all of these are 0 where it is
+ * refused. */
 typedef struct {
     lanecockle_told told;
     size_t lines;
     size_t groups;
     size_t orders;
+    lanecockle_cents total;
 } lanecockle_ended;
 
 /* A part of the lent bytes: `length` bytes from `start`, counted from 0. No part is 0 and 0. */
@@ -242,19 +252,14 @@ uint64_t lanecockle_lipa_in_cents(uint64_t lipa);
  * A file is lines of 1,002 bytes, CR LF the last two. Whole in memory: lanecockle_wage_file. Line by line: begin, step for
  * each line, end. The day of submission is a number, YYYYMMDD. */
 
-/* Exact cents: `high` times 10^18, and `low`. */
-typedef struct {
-    uint64_t high;
-    uint64_t low;
-} lanecockle_cents;
-
 /* The judge's record, plain data: keep it, copy it, store it. `condition` is 0 fresh, 1 after the label, 2 inside a group,
  * 3 closed, 4 refused; the refusal is then `told`, and `told.number` is 0 in the others. `lines`, `groups` and `orders` are
- * those read so far, `declared` and `promised` the orders and the sum that the group declares, `counted` and `total` what
- * its orders came to. A record that the judge did not make gets an answer as well: 17 at line 1,000,001, at a step or the
- * end, for a condition above 4, and in one that has not refused for a count above 1,000,000 or a sum of 10^20 or more. In
- * condition 4 the numbers 1 to 17, 20 and 28 are kept and any other stands for 17, at the place told, and `needed` counts
- * for 15 alone; in the others `told` is not read. */
+ * those read so far, `file_total` what all these orders came to; `declared` and `promised` are the orders and the sum that
+ * the group declares, `counted` and `total` what its own orders came to. A record that the judge did not make gets an answer
+ * as well: 17 at line 1,000,001, at a step or the end, for a condition above 4, and in one that has not refused for a count
+ * above 1,000,000, a sum of the group of 10^20 or more, or a `file_total` of 10^21 or more; an order that brings it there
+ * leaves it at 1000 and 0, and 17 comes behind that order. In condition 4 the numbers 1 to 17, 20, 28 and 29 are kept and any
+ * other stands for 17, at the place told, and `needed` counts for 15 alone; in the others `told` is not read. */
 typedef struct {
     size_t condition;
     lanecockle_told told;
@@ -263,6 +268,7 @@ typedef struct {
     size_t lines;
     size_t groups;
     size_t orders;
+    lanecockle_cents file_total;
     uint64_t declared;
     lanecockle_cents promised;
     uint64_t counted;
@@ -286,11 +292,32 @@ lanecockle_record lanecockle_judge_step(lanecockle_record record, const uint8_t 
 /* The record after the lines of a part of a file: pieces of 1,002 bytes, of which the last may be short (1). */
 lanecockle_record lanecockle_judge_lines(lanecockle_record record, const uint8_t *bytes, size_t length);
 
-/* What the file comes to: its counts, its first refusal, or 14 at the next line where the 399 was not read. */
+/* What the file comes to: its counts and its total, its first refusal, or 14 at the next line where the 399 was not read. */
 lanecockle_ended lanecockle_judge_end(lanecockle_record record);
 
 /* A whole file: begin, lanecockle_judge_lines and end in one call. */
 lanecockle_ended lanecockle_wage_file(uint64_t day, const uint8_t *bytes, size_t length);
+
+/* A tally of what was read, plain data: groups, orders, and what these orders came to. Begin it with zeros. */
+typedef struct {
+    size_t groups;
+    size_t orders;
+    lanecockle_cents total;
+} lanecockle_tally;
+
+/* The record after one line, as lanecockle_judge_step gives it, and the lent tally brought up to date in place: by a 301 that
+ * is taken one group is added, by a 309 one order and its amount, by a 300 and a 399 nothing. So a tally that was begun with
+ * zeros beside a fresh judge holds after each line what adding up all that was read so far would give, with no line read
+ * twice. One tally may go through several files, a fresh judge for each, and is then the sum over them.
+ *
+ * A line that is refused leaves every byte of the tally as it was. Refusals: those of lanecockle_judge_step; then 29, with
+ * the line's number, where the tally would come to more than 1,000,000 groups or orders, or to 10^21 cents or more. The
+ * record is then refused, all else in it as before the line, so each step and the end give 29 again. A file that is read
+ * with a tally begun with zeros never meets 29; a tally that was lent beyond these limits gets it for every line that is
+ * right, a 300 and a 399 too. `total` may be any two numbers: they are taken by the cents that they stand for, and an order
+ * leaves them with `low` below 10^18. */
+lanecockle_record lanecockle_judge_step_tally(lanecockle_record record, const uint8_t *line, size_t length,
+                                              lanecockle_tally *tally);
 
 /* Where a place stands in its line of 1,002 bytes, by the field number of the layout tables: 1 to 8 of a 300, 1 to 7 of a
  * 301, 1, 2, 5 to 12 and 18 to 23 of a 309. No part for another number, or where 1, 2 or 5 (type) refuses the line. */

@@ -1,17 +1,21 @@
-/* Example in C: reads a slip from standard input and prints its fields; or writes a slip of the cents and the IBAN that are
- * given, with the standing text of two sheets, the farm's and the association's. What is refused is printed. Exit status 1
- * is a refusal, 2 wrong usage.
+/* Example in C: reads a slip from standard input and prints its fields; or, where a day of submission is given, a wage file,
+ * and prints its running total after each line; or writes a slip of the cents and the IBAN that are given, with the standing
+ * text of two sheets, the farm's and the association's. What is refused is printed. Exit status 1 is a refusal, 2 wrong
+ * usage.
  *
  *     gcc -Iinclude callers/c/example.c target/staticlib/libdesk.a -o example && ./example < slip.txt
+ *     ./example 20240229 < wages.txt
  *     ./example farm.txt association.txt 12355 HR1210010051863000160 */
+#include <inttypes.h>
 #include <stdio.h>
 #include <stdlib.h>
 #include <string.h>
 
 #include "lanecockle.h"
 
-/* A slip has at most 483 bytes; one more tells that it is too long. A sheet that is right has fewer. */
-enum { ROOM = 484 };
+/* A slip has at most 483 bytes; one more tells that it is too long. A sheet that is right has fewer. A line of a wage file
+ * has 1,002. */
+enum { ROOM = 484, LINE = 1002 };
 
 static void print_refusal(lanecockle_told told)
 {
@@ -39,6 +43,42 @@ static int read_slip(void)
     for (number = 4; number <= 14; number++) {
         print_field(slip, length, number);
     }
+    return 0;
+}
+
+/* Exact cents in digits: `high` counts 10^18, so `low` below it is the last eighteen digits. */
+static void print_cents(lanecockle_cents cents)
+{
+    if (cents.high == 0) {
+        printf("%" PRIu64 " cents", cents.low);
+    } else {
+        printf("%" PRIu64 "%018" PRIu64 " cents", cents.high, cents.low);
+    }
+}
+
+/* Reads a wage file a line at a time; no line is kept, and none is read twice. */
+static int read_wages(uint64_t day)
+{
+    lanecockle_record record = lanecockle_judge_begin(day);
+    lanecockle_tally tally = {0, 0, {0, 0}};
+    lanecockle_ended ended;
+    uint8_t line[LINE];
+    size_t length;
+    while (record.condition != LANECOCKLE_REFUSED && (length = fread(line, 1, LINE, stdin)) > 0) {
+        record = lanecockle_judge_step_tally(record, line, length, &tally);
+        printf("groups %zu, orders %zu, ", tally.groups, tally.orders);
+        print_cents(tally.total);
+        printf("\n");
+    }
+    ended = lanecockle_judge_end(record);
+    if (ended.told.number != LANECOCKLE_ACCEPTED) {
+        print_refusal(ended.told);
+        printf("\n");
+        return 1;
+    }
+    printf("accepted: lines %zu, groups %zu, orders %zu, ", ended.lines, ended.groups, ended.orders);
+    print_cents(ended.total);
+    printf("\n");
     return 0;
 }
 
@@ -84,9 +124,12 @@ int main(int count, char **given)
     if (count == 1) {
         return read_slip();
     }
+    if (count == 2) {
+        return read_wages(strtoull(given[1], NULL, 10));
+    }
     if (count == 5) {
         return write_slip(given[1], given[2], strtoull(given[3], NULL, 10), given[4]);
     }
-    fprintf(stderr, "usage: example < SLIP, or example FARM ASSOCIATION CENTS IBAN > SLIP\n");
+    fprintf(stderr, "usage: example < SLIP, example DAY < WAGES, or example FARM ASSOCIATION CENTS IBAN > SLIP\n");
     return 2;
 }

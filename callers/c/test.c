@@ -68,19 +68,28 @@ static void check_part(lanecockle_part part, size_t start, size_t length, const 
 
 #define PART(call, start, length) check_part((call), (start), (length), #call, __LINE__)
 
-static void check_ended(lanecockle_ended ended, size_t lines, size_t groups, size_t orders, const char *what, int at)
+static int is_cents(lanecockle_cents cents, uint64_t high, uint64_t low)
+{
+    return cents.high == high && cents.low == low;
+}
+
+static void check_ended(lanecockle_ended ended, size_t lines, size_t groups, size_t orders, uint64_t cents,
+                        const char *what, int at)
 {
     check_told(ended.told, 0, 0, 0, 0, 0, what, at);
     check(ended.lines == lines && ended.groups == groups && ended.orders == orders, what, at);
+    check(is_cents(ended.total, 0, cents), what, at);
 }
 
-#define COUNTS(call, lines, groups, orders) check_ended((call), (lines), (groups), (orders), #call, __LINE__)
+/* Acceptance with the counts and the total, which is below 10^18; a refusal, which has neither. */
+#define COUNTS(call, lines, groups, orders, cents) \
+    check_ended((call), (lines), (groups), (orders), (cents), #call, __LINE__)
 
 static void check_unended(lanecockle_ended ended, size_t number, size_t line, size_t field, size_t byte, const char *what,
                           int at)
 {
     check_told(ended.told, number, line, field, byte, 0, what, at);
-    check(ended.lines == 0 && ended.groups == 0 && ended.orders == 0, what, at);
+    check(ended.lines == 0 && ended.groups == 0 && ended.orders == 0 && is_cents(ended.total, 0, 0), what, at);
 }
 
 #define NO_COUNTS(call, number, line, field, byte) \
@@ -1418,6 +1427,9 @@ static void test_sizes(void)
 
 enum { FILE_LINES = 5 };
 
+/* What the orders of that file come to. */
+#define FILE_CENTS 1000000000012354u
+
 /* A file of a label, a group of two orders and the closing line. */
 static uint8_t *whole_file(void)
 {
@@ -1433,7 +1445,7 @@ static uint8_t *whole_file(void)
 static void test_wage_file(void)
 {
     uint8_t *file = whole_file();
-    COUNTS(lanecockle_wage_file(DAY, file, FILE_LINES * LINE), 5, 1, 2);
+    COUNTS(lanecockle_wage_file(DAY, file, FILE_LINES * LINE), 5, 1, 2, FILE_CENTS);
     NO_COUNTS(lanecockle_wage_file(DAY, NULL, 0), LANECOCKLE_UNFINISHED, 1, 0, 0);
     NO_COUNTS(lanecockle_wage_file(DAY, file, 4 * LINE), LANECOCKLE_UNFINISHED, 5, 0, 0);
     NO_COUNTS(lanecockle_wage_file(DAY, file, 4 * LINE + 1), LANECOCKLE_SIZE, 5, 0, 0);
@@ -1481,11 +1493,13 @@ static void test_judge_steps(void)
 {
     static const size_t condition[FILE_LINES + 1] = {LANECOCKLE_FRESH, LANECOCKLE_LABELLED, LANECOCKLE_GROUPED,
                                                      LANECOCKLE_GROUPED, LANECOCKLE_GROUPED, LANECOCKLE_CLOSED};
+    static const uint64_t total[FILE_LINES + 1] = {0, 0, 0, 12355, FILE_CENTS, FILE_CENTS};
     uint8_t *file = whole_file();
     lanecockle_record record = lanecockle_judge_begin(DAY);
     size_t n;
     for (n = 0; n <= FILE_LINES; n++) {
         CHECK(record.condition == condition[n] && record.lines == n && record.day == DAY);
+        CHECK(is_cents(record.file_total, 0, total[n]));
         ACCEPTED(record.told);
         if (n < FILE_LINES) {
             NO_COUNTS(lanecockle_judge_end(record), LANECOCKLE_UNFINISHED, n + 1, 0, 0);
@@ -1493,9 +1507,8 @@ static void test_judge_steps(void)
         }
     }
     CHECK(record.kind == 4 && record.groups == 1 && record.orders == 2 && record.declared == 2 && record.counted == 2);
-    CHECK(record.promised.high == 0 && record.promised.low == 1000000000012354u);
-    CHECK(record.total.high == 0 && record.total.low == 1000000000012354u);
-    COUNTS(lanecockle_judge_end(record), 5, 1, 2);
+    CHECK(is_cents(record.promised, 0, FILE_CENTS) && is_cents(record.total, 0, FILE_CENTS));
+    COUNTS(lanecockle_judge_end(record), 5, 1, 2, FILE_CENTS);
     CHECK(is_same_record(record, lanecockle_judge_lines(lanecockle_judge_begin(DAY), file, FILE_LINES * LINE)));
     record = lanecockle_judge_step(record, file, LINE);
     TOLD(record.told, LANECOCKLE_MISPLACED, 6, 0, 0, 0);
@@ -1507,9 +1520,9 @@ static void test_judge_parts(void)
     lanecockle_record record = lanecockle_judge_begin(DAY);
     CHECK(is_same_record(record, lanecockle_judge_lines(record, NULL, 0)));
     record = lanecockle_judge_lines(record, file, 2 * LINE);
-    CHECK(record.condition == LANECOCKLE_GROUPED && record.lines == 2 && record.promised.low == 1000000000012354u);
+    CHECK(record.condition == LANECOCKLE_GROUPED && record.lines == 2 && record.promised.low == FILE_CENTS);
     record = lanecockle_judge_lines(record, file + 2 * LINE, 3 * LINE);
-    COUNTS(lanecockle_judge_end(record), 5, 1, 2);
+    COUNTS(lanecockle_judge_end(record), 5, 1, 2, FILE_CENTS);
     record = lanecockle_judge_lines(lanecockle_judge_begin(DAY), file, LINE + 7);
     TOLD(record.told, LANECOCKLE_SIZE, 2, 0, 0, 0);
 }
@@ -1598,18 +1611,18 @@ static void test_record_conditions(void)
     CHECK(is_same_record(lanecockle_judge_lines(record, NULL, 0), open_group()));
 }
 
-/* A refusal of any number in a record: 1 to 17, 20 and 28 stay, another one is 17; its place stays. */
+/* A refusal of any number in a record: 1 to 17, 20, 28 and 29 stay, another one is 17; its place stays. */
 static void test_record_refusals(void)
 {
-    static const size_t numbers[28] = {1,  2,  3,  4,  5,  6,  7,  8,  9,  10, 11, 12, 13, 14, 15, 16, 17, 20, 28,
-                                       0, 18, 19, 21, 27, 29, 30, 32, SIZE_MAX};
+    static const size_t numbers[28] = {1,  2,  3,  4,  5,  6,  7,  8,  9,  10, 11, 12, 13, 14, 15, 16, 17, 20, 28, 29,
+                                       0, 18, 19, 21, 27, 30, 32, SIZE_MAX};
     lanecockle_record record = open_group();
     size_t i;
     record.condition = LANECOCKLE_REFUSED;
     record.told.line = 3, record.told.field = 4, record.told.byte = SIZE_MAX, record.told.needed = 7;
     record.lines = SIZE_MAX;
     for (i = 0; i < 28; i++) {
-        size_t number = i < 19 ? numbers[i] : LANECOCKLE_BEYOND;
+        size_t number = i < 20 ? numbers[i] : LANECOCKLE_BEYOND;
         size_t needed = number == LANECOCKLE_ROOM ? 7 : 0;
         lanecockle_record next;
         record.told.number = numbers[i];
@@ -1619,6 +1632,229 @@ static void test_record_refusals(void)
         next.told = record.told;
         CHECK(is_same_record(next, record));
     }
+}
+
+/* ---------------------------------------------------------------------------------------------------------------------
+ * The running total */
+
+#define TEN_TO_18 1000000000000000000u
+
+/* A file of a label, a group of one order of a cent and the closing line, and the judge that stands before a line of it. */
+enum { CENT_LINES = 4, LABEL_LINE = 1, GROUP_LINE = 2, ORDER_LINE = 3, CLOSING_LINE = 4 };
+
+static uint8_t *cent_file(void)
+{
+    uint8_t *file = block(CENT_LINES * LINE);
+    memcpy(file, label_line(), LINE);
+    memcpy(file + 2 * LINE, order_line("000000000000001"), LINE);
+    memcpy(file + LINE, group_line(file + 2 * LINE, 1), LINE);
+    memcpy(file + 3 * LINE, closing_line(), LINE);
+    return file;
+}
+
+static lanecockle_record before_line(const uint8_t *file, size_t number)
+{
+    return lanecockle_judge_lines(lanecockle_judge_begin(DAY), file, (number - 1) * LINE);
+}
+
+/* The total of the file in a record: an order adds its cents and writes the sum; every other line leaves the bytes. */
+static void test_file_total(void)
+{
+    uint8_t *file = cent_file();
+    lanecockle_record record = before_line(file, ORDER_LINE), next;
+    record.file_total.low = UINT64_MAX;
+    next = lanecockle_judge_step(record, file + 2 * LINE, LINE);
+    CHECK(next.condition == LANECOCKLE_GROUPED && is_cents(next.file_total, 18, 446744073709551616u));
+    record = before_line(file, GROUP_LINE);
+    record.file_total.low = UINT64_MAX;
+    next = lanecockle_judge_step(record, file + LINE, LINE);
+    CHECK(next.condition == LANECOCKLE_GROUPED && is_cents(next.file_total, 0, UINT64_MAX));
+    record = before_line(file, CLOSING_LINE);
+    record.file_total.high = 3, record.file_total.low = 2 * TEN_TO_18;
+    record = lanecockle_judge_step(record, file + 3 * LINE, LINE);
+    CHECK(is_cents(lanecockle_judge_end(record).total, 3, 2 * TEN_TO_18));
+}
+
+/* 10^21 cents or more in a record are 17; the order that brings them there is taken. */
+static void test_file_total_beyond(void)
+{
+    uint8_t *file = cent_file();
+    lanecockle_record record = before_line(file, ORDER_LINE);
+    record.file_total.high = 999, record.file_total.low = TEN_TO_18 - 2;
+    record = lanecockle_judge_step(record, file + 2 * LINE, LINE);
+    CHECK(record.condition == LANECOCKLE_GROUPED && is_cents(record.file_total, 999, TEN_TO_18 - 1));
+    CHECK(lanecockle_judge_step(record, file + 3 * LINE, LINE).condition == LANECOCKLE_CLOSED);
+    record = before_line(file, ORDER_LINE);
+    record.file_total.high = 999, record.file_total.low = TEN_TO_18 - 1;
+    record = lanecockle_judge_step(record, file + 2 * LINE, LINE);
+    CHECK(record.condition == LANECOCKLE_GROUPED && record.lines == 3 && is_cents(record.file_total, 1000, 0));
+    BEYOND(record);
+    record = open_group();
+    record.file_total.high = 1000, BEYOND(record);
+    record.file_total.high = 999, record.file_total.low = TEN_TO_18, BEYOND(record);
+    record.file_total.high = UINT64_MAX, record.file_total.low = UINT64_MAX, BEYOND(record);
+    record.condition = LANECOCKLE_CLOSED, BEYOND(record);
+}
+
+/* A tally that is lent stands in a block of its own. */
+static lanecockle_tally *lent(lanecockle_tally tally)
+{
+    return memcpy(block(sizeof tally), &tally, sizeof tally);
+}
+
+/* Whether two tallies are the same; they hold no padding. */
+static int is_same_tally(const lanecockle_tally *a, lanecockle_tally b)
+{
+    return memcmp(a, &b, sizeof b) == 0;
+}
+
+static const lanecockle_tally zeros = {0, 0, {0, 0}};
+
+/* Begun with zeros beside a fresh judge, a tally holds after each line what was read so far; the record is the judge's. */
+static void test_tally_steps(void)
+{
+    static const lanecockle_tally after[FILE_LINES] = {
+        {0, 0, {0, 0}}, {1, 0, {0, 0}}, {1, 1, {0, 12355}}, {1, 2, {0, FILE_CENTS}}, {1, 2, {0, FILE_CENTS}}};
+    uint8_t *file = whole_file();
+    lanecockle_tally *tally = lent(zeros);
+    lanecockle_record record = lanecockle_judge_begin(DAY);
+    size_t n;
+    for (n = 0; n < FILE_LINES; n++) {
+        lanecockle_record step = lanecockle_judge_step(record, file + n * LINE, LINE);
+        record = lanecockle_judge_step_tally(record, file + n * LINE, LINE, tally);
+        CHECK(is_same_record(record, step));
+        CHECK(is_same_tally(tally, after[n]));
+    }
+    COUNTS(lanecockle_judge_end(record), 5, 1, 2, FILE_CENTS);
+}
+
+/* One tally may go through several files: it is the sum over them, and each file's own total is the file's. */
+static void test_tally_files(void)
+{
+    uint8_t *files[2] = {whole_file(), cent_file()};
+    static const size_t lines[2] = {FILE_LINES, CENT_LINES};
+    lanecockle_tally *tally = lent(zeros);
+    size_t i, n;
+    for (i = 0; i < 2; i++) {
+        lanecockle_record record = lanecockle_judge_begin(DAY);
+        for (n = 0; n < lines[i]; n++) {
+            record = lanecockle_judge_step_tally(record, files[i] + n * LINE, LINE, tally);
+        }
+        COUNTS(lanecockle_judge_end(record), lines[i], 1, i == 0 ? 2 : 1, i == 0 ? FILE_CENTS : 1);
+    }
+    CHECK(tally->groups == 2 && tally->orders == 3 && is_cents(tally->total, 0, FILE_CENTS + 1));
+}
+
+/* What is lent, the line of the file of a cent that is read, and what it leaves. */
+static const struct {
+    lanecockle_tally before;
+    size_t line;
+    lanecockle_tally after;
+} taken[] = {
+    {{0, 0, {0, 0}}, LABEL_LINE, {0, 0, {0, 0}}},
+    {{0, 0, {0, 0}}, GROUP_LINE, {1, 0, {0, 0}}},
+    {{1, 0, {0, 0}}, ORDER_LINE, {1, 1, {0, 1}}},
+    {{1, 1, {0, 1}}, CLOSING_LINE, {1, 1, {0, 1}}},
+    {{1000000, 0, {0, 0}}, LABEL_LINE, {1000000, 0, {0, 0}}},
+    {{1000000, 1000000, {999, TEN_TO_18 - 1}}, CLOSING_LINE, {1000000, 1000000, {999, TEN_TO_18 - 1}}},
+    {{999999, 1000000, {999, TEN_TO_18 - 1}}, GROUP_LINE, {1000000, 1000000, {999, TEN_TO_18 - 1}}},
+    {{1000000, 999999, {0, 0}}, ORDER_LINE, {1000000, 1000000, {0, 1}}},
+    {{0, 0, {999, TEN_TO_18 - 2}}, ORDER_LINE, {0, 1, {999, TEN_TO_18 - 1}}},
+    {{0, 0, {0, TEN_TO_18 - 1}}, ORDER_LINE, {0, 1, {1, 0}}},
+    {{0, 0, {0, UINT64_MAX}}, ORDER_LINE, {0, 1, {18, 446744073709551616u}}},
+    {{0, 0, {0, UINT64_MAX}}, GROUP_LINE, {1, 0, {0, UINT64_MAX}}},
+    {{0, 0, {0, UINT64_MAX}}, LABEL_LINE, {0, 0, {0, UINT64_MAX}}},
+};
+
+static void test_tally_taken(void)
+{
+    uint8_t *file = cent_file();
+    size_t i;
+    for (i = 0; i < sizeof taken / sizeof taken[0]; i++) {
+        const uint8_t *line = file + (taken[i].line - 1) * LINE;
+        lanecockle_record record = before_line(file, taken[i].line);
+        lanecockle_tally *tally = lent(taken[i].before);
+        lanecockle_record step = lanecockle_judge_step_tally(record, line, LINE, tally);
+        CHECK(step.condition != LANECOCKLE_REFUSED && is_same_record(step, lanecockle_judge_step(record, line, LINE)));
+        CHECK(is_same_tally(tally, taken[i].after));
+    }
+}
+
+/* Tallies, and a line of the file of a cent that would leave them beyond their limits. */
+static const struct {
+    lanecockle_tally tally;
+    size_t line;
+} overfull[] = {
+    {{1000000, 0, {0, 0}}, GROUP_LINE},
+    {{0, 1000000, {0, 0}}, ORDER_LINE},
+    {{0, 0, {999, TEN_TO_18 - 1}}, ORDER_LINE},
+    {{0, 0, {982, UINT64_MAX}}, ORDER_LINE},
+    /* beyond before the line */
+    {{SIZE_MAX, 0, {0, 0}}, LABEL_LINE},
+    {{1000001, 0, {0, 0}}, ORDER_LINE},
+    {{1000001, 0, {0, 0}}, CLOSING_LINE},
+    {{0, 1000001, {0, 0}}, LABEL_LINE},
+    {{0, SIZE_MAX, {0, 0}}, GROUP_LINE},
+    {{0, 0, {1000, 0}}, LABEL_LINE},
+    {{0, 0, {999, TEN_TO_18}}, CLOSING_LINE},
+    {{SIZE_MAX, SIZE_MAX, {UINT64_MAX, UINT64_MAX}}, GROUP_LINE},
+};
+
+/* 29 with the line's number; the tally and all else in the record are as they were, and 29 is given again. */
+static void test_tally_overfull(void)
+{
+    uint8_t *file = cent_file();
+    size_t i;
+    for (i = 0; i < sizeof overfull / sizeof overfull[0]; i++) {
+        lanecockle_tally *tally = lent(overfull[i].tally);
+        lanecockle_record before = before_line(file, overfull[i].line);
+        lanecockle_record record = lanecockle_judge_step_tally(before, file + (overfull[i].line - 1) * LINE, LINE, tally);
+        TOLD(record.told, LANECOCKLE_OVERFULL, overfull[i].line, 0, 0, 0);
+        CHECK(is_same_tally(tally, overfull[i].tally));
+        CHECK(is_same_record(record, lanecockle_judge_step(record, file, LINE)));
+        CHECK(is_same_record(record, lanecockle_judge_step_tally(record, file, LINE, lent(zeros))));
+        CHECK(is_same_record(record, lanecockle_judge_lines(record, file, CENT_LINES * LINE)));
+        NO_COUNTS(lanecockle_judge_end(record), LANECOCKLE_OVERFULL, overfull[i].line, 0, 0);
+        before.condition = LANECOCKLE_REFUSED, before.told = record.told;
+        CHECK(is_same_record(record, before));
+    }
+}
+
+/* A step that the judge refuses: its answer is the judge's, and no byte of the tally, whatever it holds, changes. */
+static void check_left(lanecockle_record record, const uint8_t *line, size_t length, int at)
+{
+    static const lanecockle_tally tallies[3] = {
+        {0, 0, {0, 0}}, {7, 9, {1, UINT64_MAX}}, {SIZE_MAX, SIZE_MAX, {UINT64_MAX, UINT64_MAX}}};
+    size_t i;
+    for (i = 0; i < 3; i++) {
+        lanecockle_tally *tally = lent(tallies[i]);
+        lanecockle_record step = lanecockle_judge_step_tally(record, line, length, tally);
+        check(step.condition == LANECOCKLE_REFUSED && step.told.number != LANECOCKLE_OVERFULL, "refused", at);
+        check(is_same_record(step, lanecockle_judge_step(record, line, length)), "judge_step_tally as judge_step", at);
+        check(is_same_tally(tally, tallies[i]), "the tally is as it was", at);
+    }
+}
+
+#define LEFT(record, line, length) check_left((record), (line), (length), __LINE__)
+
+static void test_tally_refused(void)
+{
+    uint8_t *file = cent_file();
+    lanecockle_record record = before_line(file, ORDER_LINE);
+    LEFT(lanecockle_judge_begin(DAY), bytes_of("300\r\n"), 5);
+    LEFT(lanecockle_judge_begin(DAY), NULL, 0);
+    LEFT(lanecockle_judge_begin(DAY + 1), file, LINE);
+    LEFT(lanecockle_judge_begin(20240230), file, LINE);
+    LEFT(record, file, LINE);
+    LEFT(record, file + LINE, LINE);
+    LEFT(before_line(file, CLOSING_LINE), file + 2 * LINE, LINE);
+    LEFT(lanecockle_judge_lines(lanecockle_judge_begin(DAY), file, CENT_LINES * LINE), file, LINE);
+    file[2 * LINE + 350] = ' ';
+    LEFT(record, file + 2 * LINE, LINE);
+    /* a record that no step goes on from: 17 comes before 29 */
+    record.lines = 1000000, LEFT(record, file + 2 * LINE, LINE);
+    record.condition = 5, LEFT(record, file + 2 * LINE, LINE);
+    record = open_group(), record.file_total.high = 1000, LEFT(record, file + 3 * LINE, LINE);
 }
 
 /* ---------------------------------------------------------------------------------------------------------------------
@@ -1777,7 +2013,7 @@ static void test_wage_round(void)
     ACCEPTED(lanecockle_write_label(DAY, F(label), again, LINE));
     ACCEPTED(lanecockle_write_closing(DAY, again + 4 * LINE, LINE));
     CHECK(memcmp(file, again, FILE_LINES * LINE) == 0);
-    COUNTS(lanecockle_wage_file(DAY, again, FILE_LINES * LINE), 5, 1, 2);
+    COUNTS(lanecockle_wage_file(DAY, again, FILE_LINES * LINE), 5, 1, 2, FILE_CENTS);
 }
 
 /* ------------------------------------------------------------------------------------------------------------------ */
@@ -1802,6 +2038,9 @@ static void (*const tests[])(void) = {
     test_wage_file,      test_wage_refusals,  test_judge_steps,
     test_judge_parts,    test_judge_refused,  test_record_counts,
     test_record_sums,    test_record_conditions, test_record_refusals,
+    test_file_total,     test_file_total_beyond, test_tally_steps,
+    test_tally_files,    test_tally_taken,    test_tally_overfull,
+    test_tally_refused,
     test_personal_income, test_two_codes,
     test_places,         test_wage_round,     test_version,
 };

@@ -26,16 +26,17 @@ from .calls import (
     wage_place, write_closing, write_group, write_label, write_order,
 )
 from .judging import Accepted, Judging
-from .library import Cents, Record, Told
+from .library import Cents, Record, Tally, Told
 from .refusal import Refusal, Sheet
+from .running import RunningTotal
 from .scan import BarcodeWarning, compact, scanned
 from .tables import FIELDS, KINDS, VERSION as __version__, Field
 
 __all__ = [
     "FIELDS", "KINDS", "LINE", "STANDING", "Accepted", "Amount", "BarcodeWarning", "Cents", "Counts", "EuroCents", "Field",
-    "Judge", "Judging", "LedgerSlip", "Lipa", "Record", "Refusal", "Rule", "Sheet", "Slip", "StandingText", "Told",
-    "__version__", "check_digits", "compact", "explain", "filled", "hints", "iban", "ledger", "ledger_field", "ledger_read",
-    "lipa_in_cents", "list_iban", "list_reference", "make_digit", "oib", "reference", "scanned", "sheet_text", "slip",
-    "slip_cents", "slip_field", "slip_read", "slip_write", "slip_write_standing", "standing_text", "version", "wage_file",
-    "wage_place", "write_closing", "write_group", "write_label", "write_order",
+    "Judge", "Judging", "LedgerSlip", "Lipa", "Record", "Refusal", "Rule", "RunningTotal", "Sheet", "Slip", "StandingText",
+    "Tally", "Told", "__version__", "check_digits", "compact", "explain", "filled", "hints", "iban", "ledger",
+    "ledger_field", "ledger_read", "lipa_in_cents", "list_iban", "list_reference", "make_digit", "oib", "reference",
+    "scanned", "sheet_text", "slip", "slip_cents", "slip_field", "slip_read", "slip_write", "slip_write_standing",
+    "standing_text", "version", "wage_file", "wage_place", "write_closing", "write_group", "write_label", "write_order",
 ]

@@ -8,7 +8,7 @@ from dataclasses import dataclass
 from enum import IntEnum
 from typing import Any, Dict, Iterable, List, Literal, NamedTuple, Optional, Sequence, Tuple, Union, overload
 
-from .library import Ended, Ledger, Part, Record, Standing, StandingWritten, Valued, load
+from .library import REFUSED, Ended, Ledger, Part, Record, Standing, StandingWritten, Tally, Valued, load
 from .refusal import Refusal, Sheet, accept
 from .scan import warn_of_barcode
 
@@ -23,7 +23,6 @@ LINE = 1002
 
 _SLIP = 483
 _FILLINGS = 10_000
-_REFUSED = 4
 _EURO = 1
 _KUNA = 2
 
@@ -427,16 +426,17 @@ def lipa_in_cents(lipa: Lipa) -> EuroCents:
 
 
 class Counts(NamedTuple):
-    """What an accepted wage file comes to."""
+    """What an accepted wage file comes to: its counts, and what all its orders come to, in cents."""
 
     lines: int
     groups: int
     orders: int
+    total: int
 
 
 def _counts(ended: Ended) -> Counts:
     accept(ended.told)
-    return Counts(ended.lines, ended.groups, ended.orders)
+    return Counts(ended.lines, ended.groups, ended.orders, ended.total.total())
 
 
 class Judge:
@@ -469,6 +469,26 @@ class Judge:
         """Judges one line of whatever size; raises the record's refusal."""
         self._take(_CALLS["judge_step"](self._record, *_lent(line)))
 
+    def step_tally(self, line: Bytes, tally: Tally) -> None:
+        """Judges one line as step does, and brings the tally up to date: a group more for a 301, an order and its amount
+        more for a 309. Where the line is refused the tally stays as it was.
+
+        Refusals: those of step; then 29, with the line's number, where the tally would come to more than 1,000,000 groups
+        or orders, or to 10^21 cents or more. One tally may go through several files; RunningTotal is a judge and a tally in
+        one.
+
+            >>> full = Tally(groups=1_000_000)
+            >>> judge = Judge(20240228)
+            >>> judge.step_tally(b"300", full)
+            Traceback (most recent call last):
+            lanecockle.refusal.Refusal: Line 1: the line is not 1,002 bytes long.
+            >>> full.groups, full.orders, full.total.total()
+            (1000000, 0, 0)
+        """
+        if not isinstance(tally, Tally):
+            raise TypeError(f"a Tally is needed, not {type(tally).__name__}")
+        self._take(_CALLS["judge_step_tally"](self._record, *_lent(line), tally))
+
     def lines(self, part: Bytes) -> None:
         """Judges the lines of a part of a file: pieces of 1,002 bytes, of which the last may be short (1)."""
         self._take(_CALLS["judge_lines"](self._record, *_lent(part)))
@@ -479,7 +499,7 @@ class Judge:
 
     def _take(self, record: Record) -> None:
         self._record = record
-        if record.condition == _REFUSED:
+        if record.condition == REFUSED:
             raise Refusal.of(record.told)
 
 

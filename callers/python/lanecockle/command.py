@@ -532,7 +532,8 @@ def _wage(asked: argparse.Namespace, language: str) -> Answer:
             progress.clear()
     ended = judging.end()
     if not isinstance(ended, Accepted):
-        return _refused(ended, language)
+        refused = _refused(ended, language)
+        return refused._replace(facts={**refused.facts, "read": judging.so_far()})
     counts = [count(number, language) for number in ended[:3]]
     return Answer(True, ended._asdict(), _say("counts", language, *counts, money(ended.cents, language)))
 

@@ -7,7 +7,7 @@ from itertools import islice
 from typing import Dict, Iterable, Iterator, List, NamedTuple, Optional, Tuple
 
 from .calls import LINE, STANDING
-from .refusal import LANGUAGES, SHEET, Refusal
+from .refusal import LANGUAGES, OVERFULL, SHEET, Refusal
 from .tables import FIELDS, Field
 
 #: At most so many hints are given, the likeliest first.
@@ -283,6 +283,12 @@ HINTS: Dict[str, Tuple[str, str]] = {
     "sheet_character": (
         "Character {at} of the text is `{seen}`, which is not permitted. Write another one in its place, or leave it out.",
         "{at}. znak teksta je `{seen}`, koji nije dozvoljen. Umjesto njega upišite drugi znak ili ga izostavite."),
+    # Running totals.
+    "overfull": (
+        "The line is right: it is the running total, carried over from the files before, that has no room for it. Begin the "
+        "running total of this file with zeros.",
+        "Slog je ispravan: u tekućem zbroju, prenesenom iz prijašnjih datoteka, nema mjesta za njega. Tekući zbroj ove "
+        "datoteke započnite od nule."),
     # Checks.
     "iban": (
         "It is the IBAN that fails its check: probably one digit was misread or two were exchanged. Compare it with "
@@ -701,6 +707,9 @@ def _wage(start: bytes, line: bytes, refusal: Refusal, day: int) -> Iterator[_Fo
     if refusal.number == 11 and refusal.line == 0:
         yield "day", {"date": str(day)}
         yield from _not_a_date(str(day))
+        return
+    if refusal.number == OVERFULL:
+        yield "overfull", {}
         return
     if refusal.number == 14:
         yield ("unfinished" if start else "empty"), {}

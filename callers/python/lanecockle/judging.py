@@ -1,19 +1,15 @@
 """A wage file judged in parts, in constant memory, and its refusal explained."""
 
-from typing import NamedTuple, Optional, Tuple, Union
+from typing import Dict, NamedTuple, Optional, Tuple, Union
 
 from . import explain
 from .calls import LINE, Bytes, Day, Judge
 from .explain import Shown
 from .refusal import Refusal
-from .tables import FIELDS
 
 #: The bytes that are judged by one call of the library, whole lines, and the first bytes that are kept for hints.
 _CHUNK = 1024 * LINE
 _START = 2 * LINE
-
-_SUM = FIELDS["301", 6]
-_TYPE = FIELDS["301", 9]
 
 
 class Accepted(NamedTuple):
@@ -39,7 +35,6 @@ class Judging:
         self._language = language
         self._start = b""
         self._rest = b""
-        self._cents = 0
         self._refused: Optional[Tuple[Refusal, bytes]] = None
 
     @property
@@ -59,13 +54,20 @@ class Judging:
 
     @property
     def cents(self) -> int:
-        """The sum that the groups read so far declare."""
-        return self._cents
+        """What the orders read so far come to, as the record has it."""
+        return self._judge.record().file_total.total()
 
     @property
     def refused(self) -> bool:
         """Whether the file is refused already."""
         return self._refused is not None
+
+    def so_far(self) -> Dict[str, int]:
+        """Lines, groups, orders and cents read so far, by name, all of one record: what a screen is redrawn from. Of a
+        refused file they are those of the lines before the refused one."""
+        record = self._judge.record()
+        cents = record.file_total.total()
+        return {"lines": record.lines, "groups": record.groups, "orders": record.orders, "cents": cents}
 
     def feed(self, part: Bytes) -> None:
         """Judges the next part of the file, which may end anywhere; after a refusal it is passed over."""
@@ -82,7 +84,7 @@ class Judging:
             self._read(self._rest)
         if self._refused is None:
             try:
-                return Accepted(*self._judge.end(), self._cents)
+                return Accepted(*self._judge.end())
             except Refusal as refusal:
                 self._refused = refusal, b""
         record = self._judge.record()
@@ -102,24 +104,12 @@ class Judging:
         try:
             self._judge.lines(chunk)
         except Refusal as refusal:
-            self._judge = Judge.from_record(before)
             if refusal.line == 0:
                 self._refused = refusal, b""
                 return
             at = (refusal.line - 1 - before.lines) * LINE
             self._refused = refusal, chunk[at:at + LINE]
-            chunk = chunk[:at]
-            self._judge.lines(chunk)
-        self._cents += _declared(chunk)
-
-
-def _declared(chunk: bytes) -> int:
-    """The sum that the 301 lines among accepted lines declare: no other type ends in 1."""
-    cents = 0
-    ends = chunk[_TYPE.start + _TYPE.width - 2::LINE]
-    at = ends.find(b"1")
-    while at >= 0:
-        start = at * LINE + _SUM.start - 1
-        cents += int(chunk[start:start + _SUM.width])
-        at = ends.find(b"1", at + 1)
-    return cents
+            # In place of the refused record only then: it has the same figures, so none that are shown go back meanwhile.
+            judge = Judge.from_record(before)
+            judge.lines(chunk[:at])
+            self._judge = judge

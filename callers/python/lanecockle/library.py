@@ -8,6 +8,9 @@ from typing import Any, Callable, Dict
 
 NAME = "liblanecockle.so"
 
+#: The condition of a Record that has refused.
+REFUSED = 4
+
 
 class Told(ctypes.Structure):
     """An answer by its numbers, as a Record keeps its refusal: number 0 is acceptance."""
@@ -28,14 +31,27 @@ class Valued(ctypes.Structure):
     _fields_ = [("told", Told), ("value", c_size_t)]
 
 
+class Cents(ctypes.Structure):
+    """Exact cents: `high` times 10^18, and `low`."""
+
+    high: int
+    low: int
+    _fields_ = [("high", c_uint64), ("low", c_uint64)]
+
+    def total(self) -> int:
+        """The cents as one number."""
+        return self.high * 10**18 + self.low
+
+
 class Ended(ctypes.Structure):
-    """What a wage file comes to; the three counts are 0 where it is refused."""
+    """What a wage file comes to: its counts, and what all its orders come to; all of these are 0 where it is refused."""
 
     told: Told
     lines: int
     groups: int
     orders: int
-    _fields_ = [("told", Told), ("lines", c_size_t), ("groups", c_size_t), ("orders", c_size_t)]
+    total: Cents
+    _fields_ = [("told", Told), ("lines", c_size_t), ("groups", c_size_t), ("orders", c_size_t), ("total", Cents)]
 
 
 class Standing(ctypes.Structure):
@@ -79,24 +95,12 @@ class Part(ctypes.Structure):
     _fields_ = [("start", c_size_t), ("length", c_size_t)]
 
 
-class Cents(ctypes.Structure):
-    """Exact cents: `high` times 10^18, and `low`."""
-
-    high: int
-    low: int
-    _fields_ = [("high", c_uint64), ("low", c_uint64)]
-
-    def total(self) -> int:
-        """The cents as one number."""
-        return self.high * 10**18 + self.low
-
-
 class Record(ctypes.Structure):
     """The judge's record, plain data: bytes(record) stores it, Record.from_buffer_copy(stored) brings it back.
 
     `condition` is 0 fresh, 1 after the label, 2 inside a group, 3 closed, 4 refused, with the refusal in `told`. `lines`,
-    `groups` and `orders` are those read so far, `declared` and `promised` the orders and the sum that the group declares,
-    `counted` and `total` what its orders came to.
+    `groups` and `orders` are those read so far, `file_total` what all these orders came to; `declared` and `promised` are
+    the orders and the sum that the group declares, `counted` and `total` what its own orders came to.
     """
 
     condition: int
@@ -106,15 +110,26 @@ class Record(ctypes.Structure):
     lines: int
     groups: int
     orders: int
+    file_total: Cents
     declared: int
     promised: Cents
     counted: int
     total: Cents
     _fields_ = [
         ("condition", c_size_t), ("told", Told), ("day", c_uint64), ("kind", c_uint64), ("lines", c_size_t),
-        ("groups", c_size_t), ("orders", c_size_t), ("declared", c_uint64), ("promised", Cents), ("counted", c_uint64),
-        ("total", Cents),
+        ("groups", c_size_t), ("orders", c_size_t), ("file_total", Cents), ("declared", c_uint64), ("promised", Cents),
+        ("counted", c_uint64), ("total", Cents),
     ]
+
+
+class Tally(ctypes.Structure):
+    """A tally of what was read, plain data that is stored as a Record is: groups, orders, and what these orders come to. It
+    begins with zeros."""
+
+    groups: int
+    orders: int
+    total: Cents
+    _fields_ = [("groups", c_size_t), ("orders", c_size_t), ("total", Cents)]
 
 
 _TEXT = [c_char_p, c_size_t]
@@ -143,6 +158,7 @@ _FUNCTIONS: Dict[str, Any] = {
     "lipa_in_cents": (c_uint64, [c_uint64]),
     "judge_begin": (Record, [c_uint64]),
     "judge_step": (Record, [Record] + _TEXT),
+    "judge_step_tally": (Record, [Record] + _TEXT + [POINTER(Tally)]),
     "judge_lines": (Record, [Record] + _TEXT),
     "judge_end": (Ended, [Record]),
     "wage_file": (Ended, [c_uint64] + _TEXT),

@@ -20,7 +20,7 @@ const TEXTS = {
     again: "Judge again",
     stop: "Stop",
     progress: "Part of the file that is judged",
-    soFar: "{percent} % · lines: {lines} · orders: {orders}",
+    soFar: "{percent} % · lines: {lines} · groups: {groups} · orders: {orders} · sum: {sum}",
     refusedSoFar: "A refusal is found; the rest of the file is passed over.",
     accepted: "Accepted",
     refused: "Refused (no. {number})",
@@ -88,7 +88,7 @@ const TEXTS = {
     again: "Provjeri ponovno",
     stop: "Prekini",
     progress: "Provjereni dio datoteke",
-    soFar: "{percent} % · slogovi: {lines} · nalozi: {orders}",
+    soFar: "{percent} % · slogovi: {lines} · grupe: {groups} · nalozi: {orders} · zbroj: {sum}",
     refusedSoFar: "Pronađena je pogreška; ostatak datoteke se preskače.",
     accepted: "Prihvaćeno",
     refused: "Odbijeno (br. {number})",
@@ -374,7 +374,7 @@ function judge(file) {
 
 function send(file, day) {
   const id = freshName();
-  const counts = { sent: 0, lines: 0, orders: 0, refused: false };
+  const counts = { sent: 0, lines: 0, groups: 0, orders: 0, sum: "…", refused: false };
   const tell = (told) => showRunning(file, Object.assign(counts, told));
   show("wage");
   tell({});
@@ -394,7 +394,7 @@ function send(file, day) {
 /** Asks how far a file is judged; what comes after the request's end is passed over. */
 async function askProgress(id, request, told) {
   try {
-    const answer = await (await fetch(`/api/progress?id=${id}`)).json();
+    const answer = await (await fetch(`/api/progress?id=${id}&lang=${language}`)).json();
     if (answer.running && running.wage === request) {
       told(answer);
     }
@@ -415,7 +415,8 @@ function showRunning(file, counts) {
     const share = file.size ? counts.sent / file.size : 1;
     at("wage-name").textContent = file.name;
     at("wage-progress").value = share;
-    const told = { percent: Math.floor(100 * share), lines: grouped(counts.lines), orders: grouped(counts.orders) };
+    const [lines, groups, orders] = [counts.lines, counts.groups, counts.orders].map(grouped);
+    const told = { percent: Math.floor(100 * share), lines, groups, orders, sum: counts.sum };
     at("wage-counts").textContent = counts.refused ? say("refusedSoFar") : say("soFar", told);
   }
 }

@@ -1,8 +1,8 @@
 """A page to try, for this machine alone: judges a wage file, reads a scanned slip, fills in a wet IBAN or reference.
 
-The server listens on the loopback address and keeps nothing: no file, no log, and of a wage file only the counts, while
-it is being judged. It answers no other page (Host and Origin are asked for), and what is wrong with a request gets a
-status from 400 up, or the connection ends.
+The server listens on the loopback address and keeps nothing: no file, no log, and of a wage file only the judge's record,
+while it is being judged. It answers no other page (Host and Origin are asked for), and what is wrong with a request gets
+a status from 400 up, or the connection ends.
 """
 
 import json
@@ -203,16 +203,14 @@ class _Request(BaseHTTPRequestHandler):
 
     def _get(self, path: str, query: Dict[str, str]) -> Tuple[str, bytes]:
         if path == "/api/progress":
-            return _JSON, _json(self.server.progress(query.get("id", "")))
+            return _JSON, _json(self.server.progress(query.get("id", ""), self._language(query)))
         if path in self.server.files:
             return _FILES[path][1], self.server.files[path]
         self._no_such(path)
 
     def _post(self, path: str, query: Dict[str, str]) -> Tuple[str, bytes]:
         self._ask_for_own_origin()
-        language = query.get("lang", self.server.language)
-        if language not in LANGUAGES:
-            raise _Bad(HTTPStatus.BAD_REQUEST, "lang must be en or hr")
+        language = self._language(query)
         if path == "/api/wage":
             return _JSON, _json(self._wage(query, language))
         if path == "/api/slip":
@@ -223,8 +221,15 @@ class _Request(BaseHTTPRequestHandler):
             return _JSON, _json(_check(_texts(self._small_body()), language))
         self._no_such(path)
 
+    def _language(self, query: Dict[str, str]) -> str:
+        """The language that is asked for, else the page's own."""
+        language = query.get("lang", self.server.language)
+        if language not in LANGUAGES:
+            raise _Bad(HTTPStatus.BAD_REQUEST, "lang must be en or hr")
+        return language
+
     def _wage(self, query: Dict[str, str], language: str) -> Answer:
-        """Judges the body, part by part; meanwhile its counts are told under the id that the client chose."""
+        """Judges the body, part by part; meanwhile its running total is told under the id that the client chose."""
         day, name = query.get("day", ""), query.get("id", "")
         if not re.fullmatch("[0-9]{8}", day) or not re.fullmatch("[0-9a-f]{0,64}", name):
             raise _Bad(HTTPStatus.BAD_REQUEST, "day must be eight digits, and id, if given, hexadecimal digits")
@@ -351,13 +356,13 @@ class PageServer(ThreadingHTTPServer):
         """The address of the page, for a browser."""
         return f"http://{LOOPBACK}:{self.server_port}/"
 
-    def progress(self, name: str) -> Answer:
-        """How far the wage file of an id is judged."""
+    def progress(self, name: str, language: str) -> Answer:
+        """How far the wage file of an id is judged, and what its orders come to so far."""
         judging = self.running.get(name)
         if judging is None:
             return {"running": False}
-        return {"running": True, "lines": judging.lines, "groups": judging.groups, "orders": judging.orders,
-                "refused": judging.refused}
+        read = judging.so_far()
+        return {"running": True, "refused": judging.refused, **read, "sum": money(read["cents"], language)}
 
     def handle_error(self, request: Any, client_address: Any) -> None:
         """A client that hung up or was too slow is forgotten; another failure is told by its name, without contents."""

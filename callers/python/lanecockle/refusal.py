@@ -15,6 +15,9 @@ TYPE_BYTE = 997
 #: The refusal whose line is one of a sheet.
 SHEET = 20
 
+#: The refusal of a line that is right, where the running total has no room for it.
+OVERFULL = 29
+
 
 class Sheet(IntEnum):
     """Whose sheet of standing text."""

@@ -3,7 +3,7 @@
 from typing import Dict, List, NamedTuple, Tuple
 
 #: The version of the package, which is that of the library it was made with.
-VERSION = "1.3.0"
+VERSION = "2.0.0"
 
 #: The name and the meaning of each refusal, by its number.
 KINDS: Dict[int, Tuple[str, str]] = {
@@ -26,6 +26,7 @@ KINDS: Dict[int, Tuple[str, str]] = {
     17: ("beyond", "line beyond 1,000,000"),
     20: ("sheet", "sheet line malformed"),
     28: ("field", "a field number other than 4 to 9, 13 and 14"),
+    29: ("overfull", "the line would leave the lent tally beyond 1,000,000 groups or orders, or at 10^21 cents or more"),
 }
 
 #: What each refusal is told as: its number, when (`line`, `byte`, `type` or `any`), English and Croatian. The first that
@@ -57,6 +58,7 @@ SENTENCES: List[Tuple[int, str, str, str]] = [
     (20, "line", "the line is not `number=text` as its field asks for, or is out of order.", "redak nije `broj=tekst` kako polje traži ili nije po redu."),
     (20, "any", "a line of a sheet is malformed.", "redak predloška nije ispravan."),
     (28, "any", "only the fields 4 to 9, 13 and 14 have standing text.", "stalni tekst imaju samo polja 4 do 9, 13 i 14."),
+    (29, "any", "the running total would pass 1,000,000 groups or orders, or reach 10^21 cents.", "tekući zbroj prešao bi 1.000.000 grupa ili naloga ili dosegnuo 10^21 centi."),
 ]
 
 #: The words of a place, in English and Croatian.

@@ -76,6 +76,10 @@ def file_of_two() -> bytes:
     return write_label(DAY, LABEL_FIELDS) + write_group(DAY, 4, GROUP_FIELDS, orders) + orders + write_closing(DAY)
 
 
+#: What that file comes to.
+COUNTS = Counts(lines=5, groups=1, orders=2, total=10**15 + 12354)
+
+
 def lines_of(file: bytes) -> List[bytes]:
     return [file[at:at + LINE] for at in range(0, len(file), LINE)]
 
@@ -290,7 +294,7 @@ class Slips(Case):
 class Wages(Case):
     def test_whole(self) -> None:
         file = file_of_two()
-        self.assertEqual(wage_file(DAY, file), Counts(lines=5, groups=1, orders=2))
+        self.assertEqual(wage_file(DAY, file), COUNTS)
         self.assert_refused([14, 1], wage_file, DAY, b"")
         self.assert_refused([1, 5], wage_file, DAY, file[:-1])
         self.assert_refused([10, 1], wage_file, DAY, file[LINE:])
@@ -304,10 +308,11 @@ class Wages(Case):
             self.assertEqual(judge.record().lines, read)
             self.assert_refused([14, read + 1], judge.end)
             judge.step(line)
-        self.assertEqual(judge.end(), Counts(5, 1, 2))
+        self.assertEqual(judge.end(), COUNTS)
         record = judge.record()
         self.assertEqual((record.condition, record.day, record.kind), (3, DAY, 4))
         self.assertEqual((record.promised.total(), record.total.total()), (10**15 + 12354, 10**15 + 12354))
+        self.assertEqual(record.file_total.total(), 10**15 + 12354)
 
     def test_parts_and_stored_record(self) -> None:
         file = file_of_two()
@@ -315,7 +320,7 @@ class Wages(Case):
         judge.lines(file[:2 * LINE])
         judge = Judge.from_record(Record.from_buffer_copy(bytes(judge.record())))
         judge.lines(file[2 * LINE:])
-        self.assertEqual(judge.end(), Counts(5, 1, 2))
+        self.assertEqual(judge.end(), COUNTS)
 
     def test_changed_files(self) -> None:
         for line, byte, value, told in (
@@ -353,10 +358,11 @@ class Wages(Case):
             setattr(record, name, value)
             self.assert_refused([17, 1_000_001], Judge.from_record(record).end)
             self.assert_refused([17, 1_000_001], Judge.from_record(record).step, b"")
-        for name in ("promised", "total"):
+        for name, high in (("promised", 100), ("total", 100), ("file_total", 1000)):
             record = Judge(DAY).record()
-            getattr(record, name).high = 100
+            getattr(record, name).high = high
             self.assert_refused([17, 1_000_001], Judge.from_record(record).end)
+            self.assert_refused([17, 1_000_001], Judge.from_record(record).step, b"")
 
     def test_made_up_refusals(self) -> None:
         for number in list(range(33)) + [(1 << 64) - 1]:
@@ -437,7 +443,7 @@ class Lent(Case):
             iban(kind(b"HR1210010051863000160"))
             self.assertEqual(slip_write(12355, [kind(field) for field in SLIP_FIELDS]), slip_of(SLIP_FIELDS))
             self.assertEqual(slip_field(kind(slip_of(SLIP_FIELDS)), 13), b"COST")
-            self.assertEqual(wage_file(DAY, kind(file_of_two())), Counts(5, 1, 2))
+            self.assertEqual(wage_file(DAY, kind(file_of_two())), COUNTS)
 
     def test_text_is_not_bytes(self) -> None:
         with self.assertRaisesRegex(TypeError, "encode"):
@@ -455,7 +461,7 @@ class Days(Case):
     def test_each_call(self) -> None:
         date, order = datetime.date(2024, 2, 28), write_order(DAY, 4, order_fields())
         self.assertEqual(bytes(Judge(date).record()), bytes(Judge(DAY).record()))
-        self.assertEqual(wage_file(date, file_of_two()), Counts(5, 1, 2))
+        self.assertEqual(wage_file(date, file_of_two()), COUNTS)
         self.assertEqual(write_label(date, LABEL_FIELDS), write_label(DAY, LABEL_FIELDS))
         self.assertEqual(write_order(date, 4, order_fields()), order)
         self.assertEqual(write_group(date, 4, GROUP_FIELDS, order), write_group(DAY, 4, GROUP_FIELDS, order))
@@ -538,10 +544,10 @@ class Sentences(Case):
             self.assertEqual(len(sentences), 2 * len(KINDS))
 
     def test_names(self) -> None:
-        self.assertEqual(list(KINDS), [*range(1, 18), 20, 28])
+        self.assertEqual(list(KINDS), [*range(1, 18), 20, 28, 29])
         self.assertEqual((Refusal(1).name, Refusal(6).name, Refusal(17).name), ("size", "check", "beyond"))
-        self.assertEqual((Refusal(20).name, Refusal(28).name), ("sheet", "field"))
-        self.assertEqual(len({Refusal(number).name for number in KINDS}), 19)
+        self.assertEqual((Refusal(20).name, Refusal(28).name, Refusal(29).name), ("sheet", "field", "overfull"))
+        self.assertEqual(len({Refusal(number).name for number in KINDS}), 20)
 
     def test_pickled(self) -> None:
         refused = pickle.loads(pickle.dumps(Refusal(15, needed=1002)))

@@ -451,6 +451,18 @@ class Wages(Case):
         judging.feed(file)
         self.assertEqual(answer["refusal"], judging.end().as_dict())  # type: ignore[union-attr]
         self.assertEqual(answer["refusal"]["line"], 2900)
+        self.assertEqual(answer["read"], {"lines": 2899, "groups": 2, "orders": 2896, "cents": 2896 * 12355})
+
+    def test_read_before_a_refusal(self) -> None:
+        """In JSON a refused file tells what was read before the refused line, none of a day that is no date."""
+        file = file_of([2, 1])
+        for changed, day, read in (
+            (with_bytes(file, 4, 350, b" "), DAY, (3, 1, 1, 12355)), (with_bytes(file, 2, 72, b"9"), DAY, (4, 1, 2, 24710)),
+            (file[:-LINE], DAY, (6, 2, 3, 37065)), (b"", DAY, (0, 0, 0, 0)), (file, 20230229, (0, 0, 0, 0)),
+        ):
+            facts = self.answer("wage", self.file(changed), "--day", str(day), status=1)
+            self.assertEqual(tuple(facts["read"].values()), read)
+            self.assertEqual(list(facts), ["accepted", "refusal", "read"])
 
     def test_first_line_in_short_parts(self) -> None:
         file = self.file(b"\xEF\xBB\xBF" + file_of_two())

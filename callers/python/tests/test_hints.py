@@ -7,8 +7,8 @@ import unittest
 from typing import Any, Callable, Dict, List, Optional, Pattern, Set, Tuple
 
 from lanecockle import (
-    FIELDS, LINE, STANDING, Refusal, Rule, Sheet, check_digits, iban, ledger_read, list_iban, list_reference, oib, reference,
-    sheet_text, slip_read, standing_text, wage_file,
+    FIELDS, KINDS, LINE, STANDING, Judge, Refusal, Rule, Sheet, Tally, check_digits, iban, ledger_read, list_iban,
+    list_reference, oib, reference, sheet_text, slip_read, standing_text, wage_file,
 )
 from lanecockle.hints import CODES, HINTS, MODELS, MOST, _KINDS, of_ledger, of_sheet, of_slip, of_text, of_wage, slip_layout
 from lanecockle.refusal import LANGUAGES
@@ -87,6 +87,13 @@ def of_a_file(lent: Any, language: str) -> Optional[List[str]]:
         return None
     line = file[(refusal.line - 1) * LINE:refusal.line * LINE] if refusal.line else b""
     return of_wage(file[:2 * LINE], line, refusal, day, language)
+
+
+def of_a_full_tally(file: bytes, language: str) -> Optional[List[str]]:
+    """The hints of the library's refusal of a file's first line, with a tally that is full already."""
+    line = file[:LINE]
+    refusal = refused(Judge(DAY).step_tally, line, Tally(groups=1_000_001))
+    return of_wage(file[:2 * LINE], line, refusal, DAY, language) if refusal else None
 
 
 def of_a_text(lent: Tuple[str, bytes], language: str) -> Optional[List[str]]:
@@ -338,6 +345,10 @@ class Wages(Case):
         self.file(b"\xFF\xFE" + text.encode("utf-16-le"), [("utf16", {"mark": "FF FE", "due": "WIN-1250"})])
         self.file(b"\xFE\xFF" + text.encode("utf-16-be"), [("utf16", {"mark": "FE FF", "due": "WIN-1250"})])
         self.file(b'<?xml version="1.0"?>\n<Document/>\n', [("xml", {})], b"Document\n")
+
+    def test_overfull(self) -> None:
+        """A running total that has no room for a right line; of a line that is refused, nothing of it is said."""
+        self.check(of_a_full_tally, file_of_two(), [("overfull", {})], file_of_two()[LINE:], MARK + file_of_two())
 
     def test_utf8(self) -> None:
         file = file_of_two()
@@ -704,7 +715,7 @@ class Anything(unittest.TestCase):
             data = b"".join(chance.choice(self.PIECES) for _ in range(chance.randint(0, 6)))
             at = chance.randrange(len(file))
             line = chance.choice([data, data[:LINE], file[at:at + LINE], lines_of(file)[at % 5]])
-            number, field, byte = chance.choice([*range(1, 18), 20, 28]), chance.randint(0, 26), chance.randint(0, 1100)
+            number, field, byte = chance.choice(list(KINDS)), chance.randint(0, 26), chance.randint(0, 1100)
             refusal = Refusal(number, chance.randint(0, 3), field, byte)
             what = chance.choice(["iban", "oib", "reference", "model", "digits"])
             day = chance.choice([DAY, 0, 20240231, 1 << 60])

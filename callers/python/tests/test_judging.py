@@ -61,8 +61,17 @@ class Accepting(unittest.TestCase):
             judging.feed(line[:500])
             seen.append((judging.lines, judging.groups, judging.orders, judging.cents))
             judging.feed(line[500:])
-        self.assertEqual(seen, [(0, 0, 0, 0), (1, 0, 0, 0), (2, 1, 0, 12355), (3, 1, 1, 12355), (4, 2, 1, 37065),
-                                (5, 2, 2, 37065), (6, 2, 3, 37065)])
+        self.assertEqual(seen, [(0, 0, 0, 0), (1, 0, 0, 0), (2, 1, 0, 0), (3, 1, 1, 12355), (4, 2, 1, 12355),
+                                (5, 2, 2, 24710), (6, 2, 3, 37065)])
+
+    def test_so_far_of_one_record(self) -> None:
+        judging = Judging(DAY)
+        for line in lines_of(file_of([1, 2])):
+            judging.feed(line)
+            self.assertEqual(list(judging.so_far().items()), [
+                ("lines", judging.lines), ("groups", judging.groups), ("orders", judging.orders), ("cents", judging.cents)])
+        self.assertEqual(judging.so_far(), {"lines": 7, "groups": 2, "orders": 3, "cents": 37065})
+        self.assertEqual(judging.end(), Accepted(**judging.so_far()))
 
     def test_parts_of_any_size(self) -> None:
         small = file_of([2, 1])
@@ -71,7 +80,7 @@ class Accepting(unittest.TestCase):
         large = file_of([700, 1, 1300, 999])
         for size in (997, 1001, 1002, 1003, 4099, 65_536, 1 << 20, len(large)):
             self.assertEqual(judged(large, size).end(), Accepted(3006, 4, 3000, 3000 * 12355), size)
-        self.assertEqual(wage_file(DAY, large), (3006, 4, 3000))
+        self.assertEqual(wage_file(DAY, large), (3006, 4, 3000, 3000 * 12355))
 
     def test_kinds_of_bytes_and_days(self) -> None:
         for kind in (bytes, bytearray, memoryview):
@@ -132,13 +141,13 @@ class Refusing(unittest.TestCase):
             self.assert_same(with_bytes(file, line, byte, value), [1 << 20, 1002, 4099, len(file)])
 
     def test_read_so_far(self) -> None:
-        """Up to the refused line lines, groups, orders and sums count, and nothing behind it."""
+        """Up to the refused line lines, groups, orders and cents count, and nothing of it or behind it."""
         file = with_bytes(file_of([2, 3, 4]), 8, 350, b" ")
         for size in (1, LINE, len(file)):
             judging = judged(file, size)
             self.assertTrue(judging.refused)
             self.assertEqual(told(judging.end()), (3, 8, 10, 350))
-            self.assertEqual((judging.lines, judging.groups, judging.orders, judging.cents), (7, 2, 4, 5 * 12355))
+            self.assertEqual(judging.so_far(), {"lines": 7, "groups": 2, "orders": 4, "cents": 4 * 12355})
 
     def test_refused_at_once(self) -> None:
         judging = Judging(DAY)

@@ -273,6 +273,10 @@ class Wages(Served):
                 told = self.progress(name)
             self.assertEqual((told["running"], told["refused"], told["groups"]), (True, False, 1))
             self.assertEqual(told["orders"], told["lines"] - 2)
+            # orders of one cent
+            self.assertEqual((told["cents"], told["sum"]), (told["orders"], f"{told['orders'] / 100:.2f} EUR"))
+            self.assertEqual(self.progress(name, "&lang=hr")["sum"], told["sum"].replace(".", ","))
+            self.assert_status(400, self.ask("GET", f"/api/progress?id={name}&lang=de"))
             self.assert_status(409, self.ask("POST", f"{WAGE}&id={name}", file))
             connection.sendall(file[300_000:])
             with connection.makefile("rb") as answer:
@@ -281,8 +285,8 @@ class Wages(Served):
         self.assertEqual(self.progress("of nobody"), {"running": False})
         self.assert_answers()
 
-    def progress(self, name: str) -> Dict[str, Any]:
-        status, _, content = self.ask("GET", "/api/progress?id=" + name.replace(" ", "+"))
+    def progress(self, name: str, more: str = "") -> Dict[str, Any]:
+        status, _, content = self.ask("GET", "/api/progress?id=" + name.replace(" ", "+") + more)
         self.assertEqual(status, 200)
         told: Dict[str, Any] = json.loads(content)
         return told

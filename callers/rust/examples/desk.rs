@@ -19,7 +19,8 @@ fn tell_slip(bytes: &[u8]) -> Result<(), Refusal> {
 fn tell_wages(day: &str, bytes: &[u8]) -> Result<(), Refusal> {
     // what is no number is no date either
     let counts = wage::file(day.parse().unwrap_or(0), bytes)?;
-    println!("{} lines, {} groups, {} orders", counts.lines, counts.groups, counts.orders);
+    let total = counts.total.total();
+    println!("{} lines, {} groups, {} orders, {total} cents", counts.lines, counts.groups, counts.orders);
     Ok(())
 }
 

@@ -1,11 +1,13 @@
 //! The C functions of include/lanecockle.h and a thin safe function over each: all the `unsafe` of the crate.
 //!
-//! What the header asks of a caller, a slice gives by its type: memory for its length, and a `&mut` that overlaps nothing.
+//! What the header asks of a caller, a slice or a reference gives by its type: memory for its length, and a `&mut` that
+//! overlaps nothing.
 
 // cents come back in a `size_t`
 const _: () = assert!(usize::BITS == 64);
 
-/// An answer by its numbers, as a [`Record`] keeps its refusal: number 0 is acceptance, 1 to 17, 20 and 28 are refusals.
+/// An answer by its numbers, as a [`Record`] keeps its refusal: number 0 is acceptance, 1 to 17, 20, 28 and 29 are
+/// refusals.
 ///
 /// ```
 /// use lanecockle::wage::{Judge, Told};
@@ -44,6 +46,7 @@ pub struct Ended {
     pub lines: usize,
     pub groups: usize,
     pub orders: usize,
+    pub total: Cents,
 }
 
 /// A standing text, or a refusal, with whose sheet it is.
@@ -92,7 +95,7 @@ pub struct Part {
 /// assert_eq!(Cents { high: 2, low: 7 }.total(), 2_000_000_000_000_000_007);
 /// ```
 #[repr(C)]
-#[derive(Clone, Copy, Debug, Default, PartialEq, Eq)]
+#[derive(Clone, Copy, Debug, Default, PartialEq, Eq, Hash)]
 pub struct Cents {
     /// How many times 10^18.
     pub high: u64,
@@ -110,7 +113,8 @@ impl Cents {
 /// The judge's record, plain data: keep it, copy it, store it.
 ///
 /// A record that the judge did not make gets an answer as well: 17 for another condition, for a count above 1,000,000, for a
-/// sum of 10^20 or more, and for a refusal of another number than 1 to 17, 20 and 28.
+/// sum of the group of 10^20 or more, for a total of the file of 10^21 or more, and for a refusal of another number than 1 to
+/// 17, 20, 28 and 29.
 ///
 /// ```
 /// use lanecockle::wage::{Judge, Record};
@@ -135,6 +139,8 @@ pub struct Record {
     pub groups: usize,
     /// The orders read so far.
     pub orders: usize,
+    /// What all of them come to.
+    pub file_total: Cents,
     /// The number of orders that the group declares.
     pub declared: u64,
     /// The sum that the group declares.
@@ -142,6 +148,24 @@ pub struct Record {
     /// The orders of the group read so far.
     pub counted: u64,
     /// What they come to.
+    pub total: Cents,
+}
+
+/// A tally of what was read, plain data: groups, orders, and what these orders come to. It begins with zeros.
+///
+/// ```
+/// use lanecockle::wage::{Cents, Tally};
+///
+/// assert_eq!(Tally::default(), Tally { groups: 0, orders: 0, total: Cents { high: 0, low: 0 } });
+/// ```
+#[repr(C)]
+#[derive(Clone, Copy, Debug, Default, PartialEq, Eq, Hash)]
+pub struct Tally {
+    /// The groups.
+    pub groups: usize,
+    /// The orders.
+    pub orders: usize,
+    /// What all of them come to.
     pub total: Cents,
 }
 
@@ -172,6 +196,7 @@ extern "C" {
     fn lanecockle_lipa_in_cents(lipa: u64) -> u64;
     fn lanecockle_judge_begin(day: u64) -> Record;
     fn lanecockle_judge_step(record: Record, line: *const u8, length: usize) -> Record;
+    fn lanecockle_judge_step_tally(record: Record, line: *const u8, length: usize, tally: *mut Tally) -> Record;
     fn lanecockle_judge_lines(record: Record, bytes: *const u8, length: usize) -> Record;
     fn lanecockle_judge_end(record: Record) -> Ended;
     fn lanecockle_wage_file(day: u64, bytes: *const u8, length: usize) -> Ended;
@@ -310,6 +335,12 @@ pub fn judge_begin(day: u64) -> Record {
 pub fn judge_step(record: Record, line: &[u8]) -> Record {
     // SAFETY: the slice may be read for its length; any record of numbers has an answer.
     unsafe { lanecockle_judge_step(record, line.as_ptr(), line.len()) }
+}
+
+pub fn judge_step_tally(record: Record, line: &[u8], tally: &mut Tally) -> Record {
+    // SAFETY: the slice may be read for its length, and the tally, a `&mut`, read and written, which overlaps nothing; any
+    // record and any tally of numbers have an answer.
+    unsafe { lanecockle_judge_step_tally(record, line.as_ptr(), line.len(), tally) }
 }
 
 pub fn judge_lines(record: Record, bytes: &[u8]) -> Record {

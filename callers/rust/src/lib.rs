@@ -26,9 +26,9 @@
 //! # Ok::<(), lanecockle::Refusal>(())
 //! ```
 //!
-//! Slips are read and written by [`slip`], wage files by [`wage`]; [`standing`] has the text that slips take from a farm's
-//! sheet or the association's; [`ledger`] reads the slips of the ledgers, in euro or in kuna. [`FIELDS`] has the names, places
-//! and rules of all fields.
+//! Slips are read and written by [`slip`], wage files by [`wage`], whose [`RunningTotal`](wage::RunningTotal) is what a screen
+//! is redrawn from while a file is read; [`standing`] has the text that slips take from a farm's sheet or the association's;
+//! [`ledger`] reads the slips of the ledgers, in euro or in kuna. [`FIELDS`] has the names, places and rules of all fields.
 #![deny(missing_docs, unsafe_code, unsafe_op_in_unsafe_fn)]
 
 #[allow(unsafe_code)]
@@ -36,6 +36,7 @@ mod ffi;
 mod fields;
 pub mod ledger;
 mod refusal;
+mod running;
 pub mod slip;
 pub mod standing;
 #[rustfmt::skip]

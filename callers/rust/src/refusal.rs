@@ -59,7 +59,7 @@ pub(crate) enum When {
 const TYPE_BYTE: usize = 997;
 
 impl Kind {
-    /// The number: 1 to 17, 20 or 28.
+    /// The number: 1 to 17, 20, 28 or 29.
     ///
     /// ```
     /// assert_eq!(lanecockle::Kind::Beyond.number(), 17);

@@ -4,9 +4,9 @@ use crate::fields::{Field, Layout};
 use crate::refusal::{Sentence, When, Words};
 
 /// The version of the crate, which is that of the library it was made with.
-pub const VERSION: &str = "1.3.0";
+pub const VERSION: &str = "2.0.0";
 
-/// What is wrong: one of the 19 numbers of the documents.
+/// What is wrong: one of the 20 numbers of the documents.
 ///
 /// ```
 /// use lanecockle::{oib, Kind};
@@ -56,15 +56,17 @@ pub enum Kind {
     Sheet = 20,
     /// 28: a field number other than 4 to 9, 13 and 14.
     Field = 28,
+    /// 29: the line would leave the lent tally beyond 1,000,000 groups or orders, or at 10^21 cents or more.
+    Overfull = 29,
 }
 
 impl Kind {
     /// All kinds, by their numbers.
     ///
     /// ```
-    /// assert_eq!(lanecockle::Kind::ALL.len(), 19);
+    /// assert_eq!(lanecockle::Kind::ALL.len(), 20);
     /// ```
-    pub const ALL: [Kind; 19] = [
+    pub const ALL: [Kind; 20] = [
         Kind::Size,
         Kind::Ends,
         Kind::Byte,
@@ -84,6 +86,7 @@ impl Kind {
         Kind::Beyond,
         Kind::Sheet,
         Kind::Field,
+        Kind::Overfull,
     ];
 }
 
@@ -115,6 +118,7 @@ pub(crate) const SENTENCES: &[Sentence] = &[
     Sentence { number: 20, when: When::Line, told: ["the line is not `number=text` as its field asks for, or is out of order.", "redak nije `broj=tekst` kako polje traži ili nije po redu."] },
     Sentence { number: 20, when: When::Any, told: ["a line of a sheet is malformed.", "redak predloška nije ispravan."] },
     Sentence { number: 28, when: When::Any, told: ["only the fields 4 to 9, 13 and 14 have standing text.", "stalni tekst imaju samo polja 4 do 9, 13 i 14."] },
+    Sentence { number: 29, when: When::Any, told: ["the running total would pass 1,000,000 groups or orders, or reach 10^21 cents.", "tekući zbroj prešao bi 1.000.000 grupa ili naloga ili dosegnuo 10^21 centi."] },
 ];
 
 /// The words of a place, in English and Croatian.

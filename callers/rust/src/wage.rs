@@ -28,14 +28,16 @@
 //! ], label)?;
 //! wage::write_closing(day, closing)?;
 //!
-//! assert_eq!(wage::file(day, &file)?, wage::Counts { lines: 4, groups: 1, orders: 1 });
+//! let counts = wage::file(day, &file)?;
+//! assert_eq!((counts.lines, counts.groups, counts.orders, counts.total.total()), (4, 1, 1, 12355));
 //! assert_eq!(wage::place(&file[wage::LINE..2 * wage::LINE], 6), b"00000000000000012355");
 //! # Ok::<(), lanecockle::Refusal>(())
 //! ```
 
 use crate::{ffi, part, Refusal};
 
-pub use crate::ffi::{Cents, Record, Told};
+pub use crate::ffi::{Cents, Record, Tally, Told};
+pub use crate::running::RunningTotal;
 
 /// The bytes of a line, CR LF the last two.
 ///
@@ -55,10 +57,11 @@ const REFUSED: usize = 4;
 /// What an accepted file comes to.
 ///
 /// ```
-/// use lanecockle::wage::{Counts, Judge, Record};
+/// use lanecockle::wage::{Cents, Counts, Judge, Record};
 ///
-/// let closed = Record { condition: 3, lines: 5, groups: 1, orders: 2, ..Judge::begin(20240228).record() };
-/// assert_eq!(Judge::from_record(closed).end(), Ok(Counts { lines: 5, groups: 1, orders: 2 }));
+/// let total = Cents { high: 0, low: 12355 };
+/// let closed = Record { condition: 3, lines: 4, groups: 1, orders: 1, file_total: total, ..Judge::begin(20240228).record() };
+/// assert_eq!(Judge::from_record(closed).end(), Ok(Counts { lines: 4, groups: 1, orders: 1, total }));
 /// ```
 #[derive(Clone, Copy, Debug, Default, PartialEq, Eq, Hash)]
 pub struct Counts {
@@ -68,6 +71,8 @@ pub struct Counts {
     pub groups: usize,
     /// The orders.
     pub orders: usize,
+    /// What all of them come to.
+    pub total: Cents,
 }
 
 /// The judge of a wage file, one line at a step. Its first refusal stays: each step and the end give it again.
@@ -139,6 +144,30 @@ impl Judge {
         self.standing()
     }
 
+    /// Judges one line as [`step`](Judge::step) does, and brings a tally up to date with it: a group more for a 301, an order
+    /// and its amount more for a 309. Where the line is refused the tally stays as it was.
+    ///
+    /// Refusals: those of [`step`](Judge::step); then 29, with the line's number, where the tally would come to more than
+    /// 1,000,000 groups or orders, or to 10^21 cents or more. One tally may go through several files, a fresh judge for each;
+    /// [`RunningTotal`] is a judge and a tally in one.
+    ///
+    /// ```
+    /// use lanecockle::{wage::{Judge, Tally}, Kind};
+    ///
+    /// # let mut label = [0; lanecockle::wage::LINE];
+    /// # lanecockle::wage::write_label(20240228, &[
+    /// #     b"20240228", b"4", b"000", b"1", b"12345678903", b"00000000042", b"00000000000", b"12345678903",
+    /// # ], &mut label)?;
+    /// let mut full = Tally { groups: 1_000_001, ..Tally::default() };
+    /// let refusal = Judge::begin(20240228).step_tally(&label, &mut full).unwrap_err();
+    /// assert_eq!((refusal.kind, refusal.line), (Kind::Overfull, 1));
+    /// # Ok::<(), lanecockle::Refusal>(())
+    /// ```
+    pub fn step_tally(&mut self, line: &[u8], tally: &mut Tally) -> Result<(), Refusal> {
+        self.record = ffi::judge_step_tally(self.record, line, tally);
+        self.standing()
+    }
+
     /// Judges the lines of a part of a file: pieces of 1,002 bytes, of which the last may be short (1).
     ///
     /// ```
@@ -153,7 +182,7 @@ impl Judge {
         self.standing()
     }
 
-    /// What the file comes to: its counts, its first refusal, or 14 at the next line where the 399 was not read.
+    /// What the file comes to: its counts and total, its first refusal, or 14 at the next line where the 399 was not read.
     ///
     /// ```
     /// use lanecockle::{wage::Judge, Kind};
@@ -166,7 +195,7 @@ impl Judge {
     }
 
     /// The refusal that the record holds, if it does.
-    fn standing(&self) -> Result<(), Refusal> {
+    pub(crate) fn standing(&self) -> Result<(), Refusal> {
         if self.record.condition == REFUSED {
             return Err(self.record.told.refusal());
         }
@@ -175,10 +204,11 @@ impl Judge {
 }
 
 fn counts(ended: ffi::Ended) -> Result<Counts, Refusal> {
-    ended.told.result().map(|()| Counts { lines: ended.lines, groups: ended.groups, orders: ended.orders })
+    let ffi::Ended { told, lines, groups, orders, total } = ended;
+    told.result().map(|()| Counts { lines, groups, orders, total })
 }
 
-/// A whole file: its counts or its first refusal.
+/// A whole file: its counts and total, or its first refusal.
 ///
 /// ```
 /// use lanecockle::{wage, Kind};

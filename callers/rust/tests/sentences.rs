@@ -110,7 +110,7 @@ fn a_sentence_is_its_place_and_what_is_wrong() {
 
 #[test]
 fn numbers_are_those_of_the_documents() {
-    let numbers: Vec<usize> = (1..=17).chain([20, 28]).collect();
+    let numbers: Vec<usize> = (1..=17).chain([20, 28, 29]).collect();
     assert_eq!(Kind::ALL.map(Kind::number)[..], numbers);
     for (number, kind) in numbers.into_iter().zip(Kind::ALL) {
         assert_eq!(Kind::from_number(number), Some(kind));

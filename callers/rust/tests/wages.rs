@@ -1,100 +1,20 @@
 //! Wage files written, judged whole and line by line, queried and written again; refusals and the lent memory after them.
 
+mod lines;
+
 use lanecockle::wage::{self, Cents, Counts, Judge, Record, Told};
 use lanecockle::{Kind, Refusal};
+use lines::{
+    closing, file, group_fields, label, label_fields, lent, order, order_fields, refused, wide, DAY, FILE_CENTS,
+};
 
-const DAY: u64 = 20240228;
-const COUNTS: Counts = Counts { lines: 6, groups: 2, orders: 2 };
+const COUNTS: Counts = Counts { lines: 6, groups: 2, orders: 2, total: Cents { high: 0, low: FILE_CENTS } };
 const LABEL_FIELDS: [usize; 8] = [1, 2, 3, 4, 5, 6, 7, 8];
 const GROUP_FIELDS: [usize; 5] = [1, 2, 3, 4, 7];
 const ORDER_FIELDS: [usize; 16] = [1, 2, 5, 6, 7, 8, 9, 10, 11, 12, 18, 19, 20, 21, 22, 23];
 
-type Line = [u8; wage::LINE];
-
-fn refused(kind: Kind, line: usize, field: usize, byte: usize) -> Refusal {
-    Refusal { kind, line, field, byte, needed: 0 }
-}
-
 fn no_room() -> Refusal {
     Refusal { needed: wage::LINE, ..refused(Kind::Room, 0, 0, 0) }
-}
-
-/// A field with blanks behind it.
-fn wide(text: &[u8], width: usize) -> Vec<u8> {
-    let mut field = text.to_vec();
-    field.resize(width, b' ');
-    field
-}
-
-fn lent<const N: usize>(fields: &[Vec<u8>; N]) -> [&[u8]; N] {
-    std::array::from_fn(|i| &fields[i][..])
-}
-
-fn label_fields() -> [Vec<u8>; 8] {
-    let texts = ["20240228", "4", "000", "1", "12345678903", "00000000042", "00000000000", "12345678903"];
-    texts.map(|text| text.as_bytes().to_vec())
-}
-
-fn group_fields() -> [Vec<u8>; 5] {
-    [
-        b"HR1210010051863000160".to_vec(),
-        b"EUR".to_vec(),
-        wide(b"HR7023400091510946338", 21),
-        wide(b"", 3),
-        b"20240301".to_vec(),
-    ]
-}
-
-fn order_fields(cents: &[u8]) -> [Vec<u8>; 16] {
-    [
-        wide(b"HR7023400091510946338", 34),
-        wide(b"IVANA HORVAT", 140),
-        b"191".to_vec(),
-        b"HR69".to_vec(),
-        wide(b"40002-12345678903-100", 22),
-        b"SALA".to_vec(),
-        // WIN-1250
-        wide(b"Pla\xE6a 1/2024", 140),
-        cents.to_vec(),
-        b"HR01".to_vec(),
-        b"7269-68499637766-00011".to_vec(),
-        b"0".to_vec(),
-        b"EUR".to_vec(),
-        b"3".to_vec(),
-        b"0".to_vec(),
-        b"100".to_vec(),
-        b"12345678903".to_vec(),
-    ]
-}
-
-fn label() -> Line {
-    let mut line = [0; wage::LINE];
-    wage::write_label(DAY, &lent(&label_fields()), &mut line).unwrap();
-    line
-}
-
-fn group(orders: &[u8]) -> Line {
-    let mut line = [0; wage::LINE];
-    wage::write_group(DAY, 4, &lent(&group_fields()), orders, &mut line).unwrap();
-    line
-}
-
-fn order(cents: &[u8]) -> Line {
-    let mut line = [0; wage::LINE];
-    wage::write_order(DAY, 4, &lent(&order_fields(cents)), &mut line).unwrap();
-    line
-}
-
-fn closing() -> Line {
-    let mut line = [0; wage::LINE];
-    wage::write_closing(DAY, &mut line).unwrap();
-    line
-}
-
-/// A file of two groups of one order each.
-fn file() -> Vec<u8> {
-    let (first, second) = (order(b"000000000012355"), order(b"999999999999999"));
-    [label(), group(&first), first, group(&second), second, closing()].concat()
 }
 
 fn line(file: &[u8], number: usize) -> &[u8] {
@@ -124,10 +44,11 @@ fn a_file_is_accepted_in_parts_and_from_a_stored_record() {
     assert_eq!((record.condition, record.told, record.day, record.kind), (2, Told::default(), DAY, 4));
     assert_eq!((record.lines, record.groups, record.orders), (2, 1, 0));
     assert_eq!((record.declared, record.promised.total()), (1, 12355));
-    assert_eq!((record.counted, record.total.total()), (0, 0));
+    assert_eq!((record.counted, record.total.total(), record.file_total.total()), (0, 0, 0));
     let mut judge = Judge::from_record(record);
     assert_eq!(judge.lines(second), Ok(()));
     assert_eq!(judge.record().total, Cents { high: 0, low: 999_999_999_999_999 });
+    assert_eq!(judge.record().file_total, Cents { high: 0, low: FILE_CENTS });
     assert_eq!(judge.end(), Ok(COUNTS));
 }
 
@@ -239,6 +160,8 @@ fn a_made_up_record_is_answered() {
         Record { counted: 1_000_001, ..record },
         Record { promised: Cents { high: 100, low: 0 }, ..record },
         Record { total: Cents { high: 99, low: 1_000_000_000_000_000_000 }, ..record },
+        Record { file_total: Cents { high: 1000, low: 0 }, ..record },
+        Record { file_total: Cents { high: 999, low: 1_000_000_000_000_000_000 }, ..record },
     ];
     for record in made_up {
         let mut judge = Judge::from_record(record);
@@ -252,7 +175,7 @@ fn a_made_up_record_is_answered() {
 
 #[test]
 fn a_made_up_refusal_is_answered() {
-    for number in (0..20).chain([usize::MAX]) {
+    for number in (0..33).chain([usize::MAX]) {
         let told = Told { number, line: 3, field: 4, byte: 5, needed: 6 };
         let mut judge = Judge::from_record(Record { condition: 4, told, ..Record::default() });
         let kind = Kind::from_number(number).unwrap_or(Kind::Beyond);

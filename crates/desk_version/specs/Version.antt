@@ -2,4 +2,4 @@
 use Rattle.refusal.specs.Basics.{ℕ}
 
 abbrev pub version : ℕ
-version = 10300
+version = 20000

@@ -7,5 +7,5 @@ ghost use Rattle.desk_version.specs.Version.{version};
 pub extern "C" fn lanecockle_version() -> u32
     ensures { λ r. ⌜ r ≡ version ⌝ }
 {
-    10300
+    20000
 }
