@@ -2,6 +2,8 @@
 //
 // Document 01, "Check digits". What an IBAN's check is stands in `iban_passes`: W3 made it quick behind that name, W7 changes what it
 // asks, and whoever judges an IBAN goes by it.
+#![tactic(auto)]
+
 ghost use Rattle.std.specs.Prelude.{◌≡◌, true, ◌*◌, ◌%◌, ◌<◌, ◌≤◌, length};
 ghost use Rattle.text.specs.Bytes.{all_of};
 ghost use Rattle.text.specs.Digits.{digits_of, value_of};

@@ -2,6 +2,8 @@
 //
 // Document 02, W1, with source 001: "an IBAN or seven digits, a hyphen and ten digits (an account starts with a digit)".
 // Request W7 adds its two checks to `judge`.
+#![tactic(auto)]
+
 ghost use Rattle.std.specs.Prelude.{◌≡◌};
 ghost use Rattle.account_form.specs.AccountForm.{account_formed, account_form_verdict, account_or_iban_verdict};
 

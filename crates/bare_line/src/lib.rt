@@ -1,6 +1,8 @@
 // A wage line without its fields: its type, its CR LF, and what the writer puts in places not read.
 //
 // Document 01, "The wage file", the writer: "It puts blanks in places not read (zeros in 540–542)".
+#![tactic(auto)]
+
 ghost use Rattle.std.specs.Prelude.{◌≡◌};
 ghost use Rattle.bare_line.specs.Bare.{bank_zeros, dressed};
 ghost use Rattle.wage_line.specs.Line.{type_text};

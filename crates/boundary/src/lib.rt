@@ -2,6 +2,8 @@
 //
 // Number 0 is acceptance, the others are the refusals of documents 01 and 02. Nothing is lost: `numbers_tell_all` of the
 // crate refusal.
+#![tactic(auto)]
+
 ghost use Rattle.std.specs.Prelude.{◌≡◌};
 ghost use Rattle.boundary.specs.Told.{accepted, refusal, told_of, verdict_told, valued};
 
@@ -9,7 +11,7 @@ use refusal::{Answer, Refusal};
 
 // An answer: number 0 is acceptance, another one of the refusals; its line, field and byte, and for 15 the needed number.
 #[repr(C)]
-#[derive(Drop)]
+#[derive(Clone, Copy)]
 pub struct Told {
     pub number: usize,
     pub line: usize,
@@ -20,7 +22,7 @@ pub struct Told {
 
 // An answer with a value: a digit, a count, cents, or how many bytes were written; 0 where it is a refusal.
 #[repr(C)]
-#[derive(Drop)]
+#[derive(Clone, Copy)]
 pub struct Valued {
     pub told: Told,
     pub value: usize,

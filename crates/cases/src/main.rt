@@ -4,6 +4,8 @@
 //
 // A question is a verb and its fields, divided by bars; second/README.md lists the verbs. Those of the wage file are
 // answered by the program `wage_cases`.
+#![tactic(auto)]
+
 use boundary::{Told, Valued};
 use desk_ledger::Ledger;
 use desk_standing::StandingTold;

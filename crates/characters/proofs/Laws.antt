@@ -1,6 +1,6 @@
 -- A text's characters, one after another, from a place of the text on.
 -- Assumes nothing.
-use Rattle.refusal.proofs.Basics.{◌≡◌, refl, sym, ap, ◌∙◌, arith, ℕ, suc, ◌+◌, ◌≤◌, ◌<◌, length, drop, get_or, ne_eqb, lt-leb, le-leb, ltb-true, ltb-false, List, [], ◌∷◌, Bool, true, false, cond, ◌&&◌, ◌||◌, ltb, drop-cons, drop-length, zero-add, add-zero, add_one, taken, left, both_true}
+use Rattle.refusal.proofs.Basics.{◌≡◌, refl, sym, ap, ◌∙◌, arith, ℕ, suc, ◌+◌, ◌≤◌, ◌<◌, length, drop, get_or, ne_eqb, lt-leb, le-leb, ltb-true, ltb-false, List, [], ◌∷◌, Bool, true, false, cond, ◌&&◌, ◌||◌, ltb, drop-cons, drop-length, zero-add, add-zero, add-one, taken, left, both_true}
 use Rattle.text.specs.Bytes.{later}
 use Rattle.text.specs.declared.Found.TheVariants.{At, Nothing}
 use Rattle.text.proofs.Laws.{shifted, shifted_zero, shifted_later, Below, below_later}
@@ -68,7 +68,7 @@ module _ (s : List ℕ) (i n : ℕ) (p : Passed s i n) where
   -- a character of one byte stands next
   pub passed_single : i < length s → is_single (get_or s i 0) ≡ true → Passed s (i + 1) (n + 1)
   passed_single h e =
-      let d : drop i s ≡ get_or s i 0 ∷ drop (i + 1) s = rw (add_one i) (drop-cons s i 0 h) in
+      let d : drop i s ≡ get_or s i 0 ∷ drop (i + 1) s = rw (add-one i) (drop-cons s i 0 h) in
       record {
         within = omega arith;
         fewer = omega arith;

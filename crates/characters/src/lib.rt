@@ -1,6 +1,8 @@
 // The text fields of a slip: the characters that they permit, of one byte or of two, and their number.
 //
 // Document 01, "The slip's fourteen fields", last paragraph.
+#![tactic(auto)]
+
 ghost use Rattle.std.specs.Prelude.{◌≡◌};
 ghost use Rattle.characters.specs.Characters.{is_small_letter, is_sign, is_single, after_c4, after_c5, is_pair, is_completed};
 ghost use Rattle.characters.specs.Answers.{characters_verdict};

@@ -3,6 +3,8 @@
 // The definitions are in specs/CheckDigit.antt, as document 01 says them. The code goes once from left to right,
 // in one loop for both rules, over a small record (`Run`): a rule of a later request is one more arm of `step`,
 // `started` and `digit_for`. No sum grows with the number of digits, so no call asks for a length.
+#![tactic(auto)]
+
 ghost use Rattle.std.specs.Prelude.{◌≡◌, ◌<◌, ◌+◌, ◌%◌};
 ghost use Rattle.text.specs.Digits.{digits_of};
 ghost use Rattle.check_digits.specs.CheckDigit.{carry, digit_for, check_digit, passes};
@@ -13,14 +15,14 @@ use classes::Class;
 use refusal::{Answer, Refusal};
 
 // The rules by which one digit checks the digits before it.
-#[derive(Drop)]
+#[derive(Clone, Copy)]
 pub enum Rule {
     Ini,
     Mod1110,
 }
 
 // What making a check digit answers.
-#[derive(Drop)]
+#[derive(Clone, Copy)]
 pub enum Made {
     Digit(u8),
     Refused(Refusal),
@@ -28,7 +30,7 @@ pub enum Made {
 
 // What has been read of the digits so far: for INI the sum of the digits and the sum of those sums, both over 11;
 // for MOD 11,10 the number p.
-#[derive(Drop)]
+#[derive(Clone, Copy)]
 pub struct Run {
     pub sum: u64,
     pub sums: u64,

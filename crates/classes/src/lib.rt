@@ -1,11 +1,13 @@
 // The classes of bytes that document 01 names, and which bytes each permits.
 //
 // specs/Classes.antt says the classes once; `text` looks through a text by them.
+#![tactic(auto)]
+
 ghost use Rattle.std.specs.Prelude.{◌≡◌};
 ghost use Rattle.classes.specs.Classes.{permits, is_digit, is_letter};
 
 // The classes of bytes that document 01 names.
-#[derive(Drop)]
+#[derive(Clone, Copy)]
 pub enum Class {
     // Digits: an OIB, and the digits that a check digit is made for.
     Digits,

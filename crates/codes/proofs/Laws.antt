@@ -1,6 +1,6 @@
 -- Where a number stands in a list, from place i on.
 -- Assumes nothing.
-use Rattle.refusal.proofs.Basics.{◌≡◌, refl, sym, ap, ◌∙◌, arith, ℕ, suc, ◌+◌, ◌≤◌, ◌<◌, length, drop, get_or, eq-eqb, ne_eqb, eqb-true, List, [], ◌∷◌, Bool, true, false, cond, eqb, drop-cons, drop-length, add-zero, add_one}
+use Rattle.refusal.proofs.Basics.{◌≡◌, refl, sym, ap, ◌∙◌, arith, ℕ, suc, ◌+◌, ◌≤◌, ◌<◌, length, drop, get_or, eq-eqb, ne_eqb, eqb-true, List, [], ◌∷◌, Bool, true, false, cond, eqb, drop-cons, drop-length, add-zero, add-one}
 use Rattle.text.specs.Bytes.{later}
 use Rattle.text.specs.declared.Found.{Found}
 use Rattle.text.specs.declared.Found.TheVariants.{At, Nothing}
@@ -14,7 +14,7 @@ module _ (n : ℕ) (s : List ℕ) (i : ℕ) where
   -- another number stands here
   pub search_on : i < length s → (n ≡ get_or s i 0 → ⊥) → shifted i (first_in n (drop i s)) ≡ shifted (i + 1) (first_in n (drop (i + 1) s))
   unfolding first_in
-  search_on h e = rw (drop-cons s i 0 h, ne_eqb n (get_or s i 0) e, add_one) (shifted_later i (first_in n (drop (suc i) s)) ∙ rw add_one)
+  search_on h e = rw (drop-cons s i 0 h, ne_eqb n (get_or s i 0) e, add-one) (shifted_later i (first_in n (drop (suc i) s)) ∙ rw add-one)
 
   -- the number stands here
   pub search_stops : i < length s → n ≡ get_or s i 0 → At i ≡ shifted i (first_in n (drop i s))

@@ -2,6 +2,8 @@
 //
 // Source 004's list, "ŠIFARNIK VRSTA OSOBNIH PRIMANJA": 55 codes, ascending. A wage order's code and the third part of a wage
 // reference (document 02, W4) are of it; requests W6 and W14 go by it too.
+#![tactic(auto)]
+
 ghost use Rattle.std.specs.Prelude.{◌≡◌};
 ghost use Rattle.codes.specs.Codes.{first_in, code_place, is_code};
 

@@ -3,6 +3,8 @@
 // Document 01, "The wage file": "The judge stands in one condition: fresh, after the label, inside a group, closed, or
 // refused with its first refusal inside". Document 02, W5: acceptance tells the file's own total too, "kept in the judge's
 // record".
+#![tactic(auto)]
+
 ghost use Rattle.std.specs.Prelude.{◌≡◌};
 ghost use Rattle.condition.specs.Record.{stage_of, is_refused, refusal_in, refused_with, at_line, is_sound, begun, ended};
 
@@ -11,7 +13,7 @@ use sums::Sum;
 use tally::Tally;
 
 // Where the judge stands.
-#[derive(Drop)]
+#[derive(Clone, Copy)]
 pub enum Condition {
     Fresh,
     // After the label.
@@ -24,14 +26,14 @@ pub enum Condition {
 }
 
 // What was read so far, and what acceptance tells: lines, and the file's own tally.
-#[derive(Drop)]
+#[derive(Clone, Copy)]
 pub struct Counts {
     pub lines: usize,
     pub tally: Tally,
 }
 
 // The group that is open: what its first line declares, and what its orders come to so far.
-#[derive(Drop)]
+#[derive(Clone, Copy)]
 pub struct Open {
     pub declared: u64,
     pub promised: Sum,
@@ -40,7 +42,7 @@ pub struct Open {
 }
 
 // The judge's record: plain data. The day of submission is YYYYMMDD, the kind is the one that the label told, 4 or 5.
-#[derive(Drop)]
+#[derive(Clone, Copy)]
 pub struct Judge {
     pub condition: Condition,
     pub day: u64,
@@ -50,7 +52,7 @@ pub struct Judge {
 }
 
 // What the end answers.
-#[derive(Drop)]
+#[derive(Clone, Copy)]
 pub enum Ending {
     Accepted(Counts),
     Refused(Refusal),

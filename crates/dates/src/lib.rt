@@ -1,6 +1,8 @@
 // Dates: YYYYMMDD as one number, in the Gregorian calendar of the years 2023 to 9999.
 //
 // Document 01, "The wage file". Two dates stand in the order of their numbers.
+#![tactic(auto)]
+
 ghost use Rattle.std.specs.Prelude.{◌≡◌};
 ghost use Rattle.dates.specs.Dates.{is_leap, days_of, is_date};
 

@@ -2,6 +2,8 @@
 //
 // Each call is thin: it calls the proved one and tells its answer by the crate boundary. include/lanecockle.h declares it
 // for C. No call has a `requires`: whatever numbers and bytes arrive get an answer.
+#![tactic(auto)]
+
 ghost use Rattle.std.specs.Prelude.{◌≡◌};
 ghost use Rattle.condition.specs.Record.{begun, ended};
 ghost use Rattle.judge.specs.Judge.{stepped, steps};
@@ -19,7 +21,7 @@ use wage_line::Typed;
 
 // What the end of a wage file tells.
 #[repr(C)]
-#[derive(Drop)]
+#[derive(Clone, Copy)]
 pub struct Ended {
     pub told: Told,
     pub lines: usize,

@@ -2,6 +2,8 @@
 //
 // Each call is thin: it calls the proved one and tells its answer by the crate boundary. include/lanecockle.h declares it
 // for C. No call has a `requires`: whatever numbers and bytes arrive get an answer.
+#![tactic(auto)]
+
 ghost use Rattle.std.specs.Prelude.{◌≡◌};
 ghost use Rattle.ledger_slip.specs.Ledger.{ledger_of, ledger_part};
 ghost use Rattle.units.specs.Units.{lipa_in_cents};
@@ -15,7 +17,7 @@ use units::Lipa;
 // An answer with the currency of a slip, 1 euro or 2 kuna, and its amount: the cents of a euro slip, or the lipa of a kuna
 // slip and these in cents. Where it is a refusal all are 0.
 #[repr(C)]
-#[derive(Drop)]
+#[derive(Clone, Copy)]
 pub struct Ledger {
     pub told: Told,
     pub currency: usize,

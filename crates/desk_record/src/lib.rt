@@ -1,6 +1,8 @@
 // The judge's record as plain numbers, for callers in other languages.
 //
 // A record of any numbers stands for a judge: one that the judge did not make gets an answer too.
+#![tactic(auto)]
+
 ghost use Rattle.std.specs.Prelude.{◌≡◌};
 ghost use Rattle.refusal.specs.Refusal.{refusal_of};
 ghost use Rattle.desk_record.specs.Record.{condition_of, judge_of, record_of, condition_told};
@@ -14,7 +16,7 @@ use tally::Tally;
 // The judge's record: condition 0 fresh, 1 after the label, 2 inside a group, 3 closed, 4 refused, with the refusal in
 // `told`. `file_total` is what all orders came to so far, `total` what those of the open group did.
 #[repr(C)]
-#[derive(Drop)]
+#[derive(Clone, Copy)]
 pub struct Record {
     pub condition: usize,
     pub told: Told,

@@ -2,6 +2,8 @@
 //
 // Each call is thin: it calls the proved one and tells its answer by the crate boundary. include/lanecockle.h declares it
 // for C. No call has a `requires`: whatever numbers and bytes arrive get an answer.
+#![tactic(auto)]
+
 ghost use Rattle.std.specs.Prelude.{◌≡◌};
 ghost use Rattle.standing_text.specs.Standing.{standing_of};
 ghost use Rattle.desk_standing.specs.Standings.{sheet_number, standing_told, written_told, WritesStandingTold};
@@ -13,7 +15,7 @@ use standing_text::{Sheet, Standing};
 // An answer with the sheet that supplied the text, or whose line it tells, and where the text stands there. 1 is the farm's
 // sheet, 2 the association's, 0 neither.
 #[repr(C)]
-#[derive(Drop)]
+#[derive(Clone, Copy)]
 pub struct StandingTold {
     pub told: Told,
     pub sheet: usize,
@@ -23,7 +25,7 @@ pub struct StandingTold {
 
 // An answer with how many bytes were written and, for 20, the sheet whose line it tells.
 #[repr(C)]
-#[derive(Drop)]
+#[derive(Clone, Copy)]
 pub struct StandingWritten {
     pub told: Told,
     pub value: usize,

@@ -4,6 +4,8 @@
 // function over a covered adder". That function is `lanecockle_judge_step_tally`; what it does is `by_value`'s. A
 // caller in this language goes by `lent`, whose contract speaks of no reference. include/lanecockle.h declares the call for C.
 // No call has a `requires`: whatever numbers and bytes arrive get an answer.
+#![tactic(auto)]
+
 ghost use Rattle.std.specs.Prelude.{◌≡◌};
 ghost use Rattle.desk_tally.specs.Tallied.{tallied_of};
 
@@ -11,7 +13,7 @@ use desk_record::Record;
 use tally::Tally;
 
 // The record and the tally after a line.
-#[derive(Drop)]
+#[derive(Clone, Copy)]
 pub struct Tallied {
     pub record: Record,
     pub tally: Tally,

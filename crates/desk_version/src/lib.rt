@@ -1,4 +1,6 @@
 // The library's version, for callers in other languages. tools/tables holds it to the file VERSION.
+#![tactic(auto)]
+
 ghost use Rattle.std.specs.Prelude.{◌≡◌};
 ghost use Rattle.desk_version.specs.Version.{version};
 

@@ -2,6 +2,8 @@
 //
 // Each call is thin: it calls the proved one and tells its answer by the crate boundary. include/lanecockle.h declares it
 // for C. No call has a `requires`: whatever numbers and bytes arrive get an answer.
+#![tactic(auto)]
+
 ghost use Rattle.std.specs.Prelude.{◌≡◌, length};
 ghost use Rattle.account.specs.Answers.{is_iban};
 ghost use Rattle.fillings.specs.Fillings.{fillings};

@@ -2,6 +2,8 @@
 //
 // Each call is thin: it calls the proved one and tells its answer by the crate boundary. include/lanecockle.h declares it
 // for C. No call has a `requires`: whatever numbers and bytes arrive get an answer.
+#![tactic(auto)]
+
 ghost use Rattle.std.specs.Prelude.{length};
 ghost use Rattle.wage_writer.specs.Writer.{label_answer, label_draft, order_answer, order_draft};
 ghost use Rattle.group_writer.specs.GroupWriter.{group_answer, group_draft};

@@ -1,4 +1,6 @@
 // A wet text filled by a number (document 01, "Wet slips"): a digit of the number at each mark, from left to right.
+#![tactic(auto)]
+
 ghost use Rattle.std.specs.Prelude.{◌≡◌, length};
 ghost use Rattle.filling.specs.Filling.{filled_answer, filled_by};
 

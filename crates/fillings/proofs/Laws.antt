@@ -1,6 +1,6 @@
 -- Laws of the listing, over any rule: of ranges of numbers, of the first mark, of the ten digits at it, and of runs of stores.
 -- Assumes nothing.
-use Rattle.refusal.proofs.Basics.{◌≡◌, refl, sym, ap, ◌∙◌, arith, ℕ, zero, suc, ◌+◌, ◌-◌, ◌*◌, ◌/◌, ◌%◌, ◌^◌, ◌≤◌, ◌<◌, length, get_or, take, drop, set, length-take, eqb-true, ne_eqb, lt-ltb, le-ltb, le-leb, List, [], ◌∷◌, ◌++◌, Bool, true, false, cond, not, eqb, take-suc, take-suc-set, take-set-lt, zero-add, add-zero, suc-add, mul-one, suc-mul, add-mul, mul_assoc, one-mul, zero-mul, pow-succ', one-le-pow, mul-le-mul_right, le-mul_of_pos_right, pow-le-pow_right, div-eq_of_lt-le, add_one, left}
+use Rattle.refusal.proofs.Basics.{◌≡◌, refl, sym, ap, ◌∙◌, arith, ℕ, zero, suc, ◌+◌, ◌-◌, ◌*◌, ◌/◌, ◌%◌, ◌^◌, ◌≤◌, ◌<◌, length, get_or, take, drop, set, length-take, eqb-true, ne_eqb, lt-ltb, le-ltb, le-leb, List, [], ◌∷◌, ◌++◌, Bool, true, false, cond, not, eqb, take-suc, take-suc-set, take-set-lt, zero-add, add-zero, suc-add, mul-one, suc-mul, add-mul, mul_assoc, one-mul, zero-mul, pow-succ', one-le-pow, mul-le-mul_right, le-mul_of_pos_right, pow-le-pow_right, div-eq_of_lt-le, add-one, left}
 use Rattle.refusal.specs.declared.Place.{Place}
 use Rattle.refusal.specs.declared.Refusal.TheVariants.{Room}
 use Rattle.refusal.specs.Refusal.{none}
@@ -168,7 +168,7 @@ place_small at number left e u = rw (e, mul-one) at u
 
 -- one byte more of a text is copied
 pub copied_more : (s t : List ℕ) (i : ℕ) → i < length s → i < length t → take i t ≡ take i s → take (i + 1) (set t i (get_or s i 0)) ≡ take (i + 1) s
-copied_more s t i h g e = rw (add_one i, take-suc-set t i (get_or s i 0) g, take-suc s i 0 h, e)
+copied_more s t i h g e = rw (add-one i, take-suc-set t i (get_or s i 0) g, take-suc s i 0 h, e)
 
 -- a number that is not accepted is not written
 pub written_rejected : (t : Bool) (b : List ℕ) (at x : ℕ) → t ≡ false → Stands b at (cond t (x ∷ []) []) at b
@@ -215,7 +215,7 @@ module _ {t : List ℕ} {n i left : ℕ} (o : Open t n i left) where
         → Stands after next (block p (take n (set t i (48 + d))) (number * 10 + d)) next' after'
         → Stands b at (digits_below p (take n t) left number (d + 1)) next' after'
     digits_more h v w =
-        rw (add_one d, block-digit p (left - 1) number d o.first some_left h) (stands_append v (rw (take-set-lt n t i (48 + d) first_before) at w))
+        rw (add-one d, block-digit p (left - 1) number d o.first some_left h) (stands_append v (rw (take-set-lt n t i (48 + d) first_before) at w))
 
     -- after the last digit
     pub digits_all :

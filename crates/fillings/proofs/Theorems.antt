@@ -1,7 +1,7 @@
 -- What holds of every listing, over any rule p and any text s: it has every accepted filling and no other, ascending, each once, and as many
 -- as there are; a rule that agrees on the fillings of s lists the same. (That the fillings of s are the texts that fill it: filling/proofs/Theorems.antt.)
 -- Assumes nothing.
-use Rattle.refusal.proofs.Basics.{◌≡◌, refl, sym, ap, ◌∙◌, arith, ℕ, zero, suc, ◌+◌, ◌^◌, ◌≤◌, ◌<◌, length, get_or, length-append, eqb-true, eqb-false, ltb-true, ltb-false, List, [], ◌∷◌, ◌++◌, Bool, true, false, cond, eqb, ltb, zero-add, zero-mul, inl, inr, ⊎_elim, add_one}
+use Rattle.refusal.proofs.Basics.{◌≡◌, refl, sym, ap, ◌∙◌, arith, ℕ, zero, suc, ◌+◌, ◌^◌, ◌≤◌, ◌<◌, length, get_or, length-append, eqb-true, eqb-false, ltb-true, ltb-false, List, [], ◌∷◌, ◌++◌, Bool, true, false, cond, eqb, ltb, zero-add, zero-mul, inl, inr, ⊎_elim, add-one}
 use Rattle.text.specs.Bytes.{marks}
 use Rattle.filling.specs.Filling.{fill}
 use Rattle.fillings.specs.Mirror.{between}
@@ -66,7 +66,7 @@ among_ascending q a (suc n) i h = go (q a) i (among_ascending q (suc a) n) h
 -- the last number of a range
 among_last : (q : ℕ → Bool) (a n : ℕ) → among q a (suc n) ≡ among q a n ++ cond (q (a + n)) ((a + n) ∷ []) []
 unfolding among
-among_last q a n = ap (among q a) (sym (add_one n)) ∙ among_append q a n 1
+among_last q a n = ap (among q a) (sym (add-one n)) ∙ among_append q a n 1
 
 -- a list, and one number more or none
 length_last : (b : Bool) (x : ℕ) (xs : List ℕ) → length (xs ++ cond b (x ∷ []) []) ≡ cond b (suc (length xs)) (length xs)

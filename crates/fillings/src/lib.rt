@@ -2,6 +2,8 @@
 //
 // The listing is stated once, over any rule (specs/Fillings.antt): a changed rule moves `accepted` and nothing else
 // here. As document 01 asks, the listing calls itself for each digit at the first open mark.
+#![tactic(auto)]
+
 ghost use Rattle.std.specs.Prelude.{◌≡◌, cond, [], ◌∷◌, suc, ◌*◌, ◌^◌, ◌≤◌, ◌<◌, length, take};
 ghost use Rattle.text.specs.Bytes.{marks};
 ghost use Rattle.fillings.specs.Fillings.{fillings};
@@ -15,7 +17,7 @@ use refusal::Refusal;
 use text::Found;
 
 // What is listed: IBANs, or references under a model, whose parts end so in every filling; nothing where no filling mends the form.
-#[derive(Drop)]
+#[derive(Clone, Copy)]
 pub struct Aim {
     pub iban: bool,
     pub mendable: bool,
@@ -24,7 +26,7 @@ pub struct Aim {
 }
 
 // What a listing answers: how many fillings were written at the front of the lent slice, or a refusal.
-#[derive(Drop)]
+#[derive(Clone, Copy)]
 pub enum Listed {
     Count(usize),
     Refused(Refusal),

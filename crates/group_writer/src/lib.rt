@@ -1,6 +1,8 @@
 // The writer of a 301, from its fields and its group's lent orders, into lent room.
 //
 // Document 01, "The wage file". Refusals in their order: the sizes of the fields, the day, the kind, the lent orders, the fields, the room.
+#![tactic(auto)]
+
 ghost use Rattle.std.specs.Prelude.{◌<◌, ◌/◌, length, take, drop, replicate, ◌≡◌, [], ◌∷◌, ◌++◌};
 ghost use Rattle.refusal.specs.Refusal.{first_of};
 ghost use Rattle.wage_line.specs.Pieces.{pieces};

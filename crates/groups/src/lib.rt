@@ -2,6 +2,8 @@
 // of a formed text.
 //
 // Document 01, "Reference models". Whoever asks has read the parts and knows where they end (crate `parts`).
+#![tactic(auto)]
+
 ghost use Rattle.std.specs.Prelude.{◌≡◌};
 ghost use Rattle.groups.specs.Mirror.{group_at, groups_at, obeys_at};
 

@@ -2,6 +2,8 @@
 //
 // Document 01, "The wage file". A refusal stays in the record. A record that the judge did not make gets an answer too: no
 // public call has a `requires`.
+#![tactic(auto)]
+
 ghost use Rattle.std.specs.Prelude.{◌≡◌, true};
 ghost use Rattle.condition.specs.Record.{is_sound};
 ghost use Rattle.judge.specs.Judge.{type_step, stepped};

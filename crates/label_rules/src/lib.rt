@@ -2,6 +2,8 @@
 //
 // Document 01, "The wage file", its list for 300. A rule answers a verdict, one number.
 // It goes by a place's order, and each arm names its places, so that in a line of 1,002 bytes the compiler knows their bounds.
+#![tactic(auto)]
+
 ghost use Rattle.std.specs.Prelude.{◌≡◌, get_or};
 ghost use Rattle.wage_places.specs.declared.LineType.TheVariants.{Label};
 ghost use Rattle.wage_places.specs.Places.{spots, no_spot, part_at};

@@ -1,6 +1,8 @@
 // A slip of either currency, for the ledgers: which it was, its amount in its own unit, and its fields.
 //
 // Document 02, W1: "Read both kinds and say which it was." Field 2 says which; all else is `slip::read_in`'s.
+#![tactic(auto)]
+
 ghost use Rattle.std.specs.Prelude.{◌≡◌};
 ghost use Rattle.ledger_slip.specs.Ledger.{currency_of, amount_in, ledger_of, ledger_part, ledger_field};
 
@@ -10,7 +12,7 @@ use text::Part;
 use units::{Cents, Lipa};
 
 // A slip that is accepted, with its amount, or its refusal.
-#[derive(Drop)]
+#[derive(Clone, Copy)]
 pub enum LedgerSlip {
     Euro(Cents),
     Kuna(Lipa),

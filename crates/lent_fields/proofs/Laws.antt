@@ -1,5 +1,5 @@
 -- Laws of the fields that are lent, one behind the other. Assumes nothing.
-use Rattle.refusal.proofs.Basics.{◌≡◌, refl, sym, ◌∙◌, arith, ℕ, zero, suc, ◌+◌, ◌-◌, ◌≤◌, ◌<◌, length, take, drop, get_or, length-drop, drop_of_length-le, length-append, eq-eqb, ne_eqb, eqb-true, eqb-false, le-ltb, ltb-true, ltb-false, List, [], ◌∷◌, map, Bool, true, false, cond, eqb, ltb, drop-cons, drop-drop, drop-length, take_all, take-nil, take-append_seam, drop-append_seam, get_or-drop, add-zero, add_one}
+use Rattle.refusal.proofs.Basics.{◌≡◌, refl, sym, ◌∙◌, arith, ℕ, zero, suc, ◌+◌, ◌-◌, ◌≤◌, ◌<◌, length, take, drop, get_or, length-drop, drop_of_length-le, length-append, eq-eqb, ne_eqb, eqb-true, eqb-false, le-ltb, ltb-true, ltb-false, List, [], ◌∷◌, map, Bool, true, false, cond, eqb, ltb, drop-cons, drop-drop, drop-length, take_all, take-nil, take-append_seam, drop-append_seam, get_or-drop, add-zero, add-one}
 use Rattle.text.specs.Split.{joined}
 use Rattle.lent_fields.specs.Fields.{fields_of, given_of, behind, field_end, together, lent_whole, FieldEnd}
 
@@ -91,7 +91,7 @@ pub behind-on :
 unfolding behind
 behind-on sizes fields i text at end ended more known =
     let e : fields - i ≡ suc (fields - (i + 1)) = omega arith in
-    rw (drop-cons sizes i 0 known, e, ended.rest, ← (add_one i))
+    rw (drop-cons sizes i 0 known, e, ended.rest, ← (add-one i))
 
 -- ---------------------------------------------------------------------------
 -- Equal numbers
@@ -136,7 +136,7 @@ module _ (sizes : List ℕ) (fields i left : ℕ) where
     unfolding together
     next_size =
         let e : fields - i ≡ suc (fields - (i + 1)) = omega arith in
-        rw (drop-cons sizes i 0 known, e, ← (add_one i))
+        rw (drop-cons sizes i 0 known, e, ← (add-one i))
 
     -- less is left than the next field
     pub sized_short : left < get_or sizes i 0 → false ≡ SizedFrom

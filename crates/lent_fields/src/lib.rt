@@ -1,6 +1,8 @@
 // The fields of a line, as they are lent to a writer: one behind the other in one text, with the size of each.
 //
 // Document 01, "The wage file", the writer: "Each field is the bytes of its positions".
+#![tactic(auto)]
+
 ghost use Rattle.std.specs.Prelude.{◌≡◌, get_or, take, drop};
 ghost use Rattle.lent_fields.specs.Fields.{given_of, behind, field_end, lent_whole};
 

@@ -2,6 +2,8 @@
 //
 // Document 01, "The wage file", the writer of a 301: "the first refusal in them, 10 for another type, with its line in the
 // group".
+#![tactic(auto)]
+
 ghost use Rattle.std.specs.Prelude.{◌≡◌};
 ghost use Rattle.wage_fields.specs.Rules.{places_answer};
 ghost use Rattle.lent_order.specs.Order.{answer_of_line, no_order, lent_order_answer};

@@ -1,5 +1,5 @@
 -- A side of a line as it fills, and what each byte does to the two of them: what the theorem on the kept line is proved by. Assumes nothing.
-use Rattle.refusal.proofs.Basics.{◌≡◌, refl, sym, ap, subst, ◌∙◌, arith, ℕ, ◌+◌, ◌≤◌, ◌<◌, length, take, set, length-append, length-take, length-set, ltb-true, ltb-false, List, [], ◌∷◌, ◌++◌, append-nil, append_assoc, Bool, true, false, eqb, ltb, take_all, take-suc-set, take-append-le, take-nil, add_one, taken, left}
+use Rattle.refusal.proofs.Basics.{◌≡◌, refl, sym, ap, subst, ◌∙◌, arith, ℕ, ◌+◌, ◌≤◌, ◌<◌, length, take, set, length-append, length-take, length-set, ltb-true, ltb-false, List, [], ◌∷◌, ◌++◌, append-nil, append_assoc, Bool, true, false, eqb, ltb, take_all, take-suc-set, take-append-le, take-nil, add-one, taken, left}
 use Rattle.line.specs.Mirror.{Kept, took, feed}
 use Rattle.line.specs.Line.{before, following, has, line_of, head_of, tail_of}
 use Rattle.line.proofs.Laws.{took_feed, took_behind, took_space, took_ahead, feed_ended}
@@ -29,7 +29,7 @@ module _ (n j : ℕ) (a xs : List ℕ) (b : ℕ) (h : Holds n j a xs) where
       record {
         size = length-set a j b ∙ h.size;
         within = omega arith;
-        kept = rw (add_one j) (take-suc-set a j b g ∙ ap (λ (l : List ℕ). l ++ (b ∷ [])) (h.kept ∙ take_all n xs (omega arith)) ∙ sym (take_all n (xs ++ (b ∷ [])) (rw length-append (omega arith))));
+        kept = rw (add-one j) (take-suc-set a j b g ∙ ap (λ (l : List ℕ). l ++ (b ∷ [])) (h.kept ∙ take_all n xs (omega arith)) ∙ sym (take_all n (xs ++ (b ∷ [])) (rw length-append (omega arith))));
       }
 
   -- where there is none, the first n bytes are what they were

@@ -1,5 +1,5 @@
 -- Laws that the proofs here cite: of one byte, and of the bytes that the loop feeds. Assumes nothing.
-use Rattle.refusal.proofs.Basics.{◌≡◌, refl, ap, arith, ℕ, ◌+◌, ◌≤◌, ◌<◌, length, drop, get_or, List, [], ◌∷◌, true, false, eqb, drop-cons, drop-length, add_one, taken, left, entered}
+use Rattle.refusal.proofs.Basics.{◌≡◌, refl, ap, arith, ℕ, ◌+◌, ◌≤◌, ◌<◌, length, drop, get_or, List, [], ◌∷◌, true, false, eqb, drop-cons, drop-length, add-one, taken, left, entered}
 use Rattle.line.specs.Mirror.{Kept, kept_of, took, feed, took_tail, took_head}
 
 -- ---------------------------------------------------------------------------
@@ -44,7 +44,7 @@ module _ (k : Kept) (s : List ℕ) (i : ℕ) where
   -- what the rest from place i leads to is what the byte there leads to, with the rest after it
   pub feed_on : (j : Kept) → i < length s → j ≡ took k (get_or s i 0) → feed k (drop i s) ≡ feed j (drop (i + 1) s)
   unfolding feed
-  feed_on j h e = rw (drop-cons s i 0 h, e, add_one)
+  feed_on j h e = rw (drop-cons s i 0 h, e, add-one)
 
   -- past the last byte nothing is fed
   pub feed_ends : length s ≤ i → i ≤ length s → k ≡ feed k (drop i s)

@@ -2,11 +2,13 @@
 //
 // The listing program reads its line through this: it keeps the first 22 bytes before the space and the first 23 after
 // it, which is one byte more than any text that a listing takes (a longer one is refused for its size all the same).
+#![tactic(auto)]
+
 ghost use Rattle.std.specs.Prelude.{◌≡◌, List, ℕ};
 ghost use Rattle.line.specs.Mirror.{starting, took, feed, kept_of, took_tail, took_head};
 
 // What was seen so far: how many bytes are kept of each side, whether the space came, and whether the line ended.
-#[derive(Drop)]
+#[derive(Clone, Copy)]
 pub struct Seen {
     pub head: usize,
     pub tail: usize,

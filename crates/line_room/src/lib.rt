@@ -1,6 +1,8 @@
 // A whole wage line put into lent room, and the 399, which has no fields.
 //
 // Document 01, "The wage file", the writer: "15 exactly when the room is under 1,002"; it "changes nothing after the line".
+#![tactic(auto)]
+
 ghost use Rattle.std.specs.Prelude.{◌≡◌, ◌||◌, eqb, length};
 ghost use Rattle.bare_line.specs.Bare.{bare_line};
 ghost use Rattle.line_room.specs.LineRoom.{for_room, closing_answer, Writes};

@@ -3,13 +3,15 @@
 //
 // A line of any length is kept by `line` as far as a listing can tell it from another. `listing_printed` puts what is written
 // of it into lent room, line by line; its theorems say that this is `listingPrinted` of the whole input.
+#![tactic(auto)]
+
 use fillings::Listed;
 use libc::STDIN_FILENO;
 use line::Seen;
 use text::front;
 
 // A line as far as it was read: whether there may be more of it, and whether a read failed.
-#[derive(Drop)]
+#[derive(Clone, Copy)]
 struct Progress {
     seen: Seen,
     more: bool,

@@ -1,5 +1,7 @@
 // What the listing program prints (document 01, "Wet slips"), put into lent room: the first line of its answer, and each
 // filled text. The program reads a line and writes these, one at a time, so that its memory does not grow with the listing.
+#![tactic(auto)]
+
 ghost use Rattle.std.specs.Prelude.{◌≡◌, length};
 ghost use Rattle.fillings.specs.Answers.{left_by_listing};
 ghost use Rattle.printed.specs.Printed.{Puts};

@@ -1,6 +1,8 @@
 // A model's text: `HR` and two digits, its number, and what judging it answers.
 //
 // Document 01, "Reference models". The rules of a model's number are the crate `models`.
+#![tactic(auto)]
+
 ghost use Rattle.std.specs.Prelude.{◌≡◌};
 ghost use Rattle.model_text.specs.Texts.{model_number, model_verdict};
 

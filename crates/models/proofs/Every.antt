@@ -1,6 +1,6 @@
 -- Laws of a test that holds of each entry of a list.
 -- Assumes nothing.
-use Rattle.refusal.proofs.Basics.{◌≡◌, refl, sym, ap, ◌∙◌, arith, ℕ, ◌+◌, ◌≤◌, ◌<◌, length, drop, get_or, drop_of_length-le, List, [], ◌∷◌, Memᴰ, mem_head, mem_tail, mem_not_nil, mem_cases_cons, map, length-map, Bool, true, false, ◌&&◌, and-true, ⊎_elim, both_true, and_second, drop-cons, add_one}
+use Rattle.refusal.proofs.Basics.{◌≡◌, refl, sym, ap, ◌∙◌, arith, ℕ, ◌+◌, ◌≤◌, ◌<◌, length, drop, get_or, drop_of_length-le, List, [], ◌∷◌, Memᴰ, mem_head, mem_tail, mem_not_nil, mem_cases_cons, map, length-map, Bool, true, false, ◌&&◌, and-true, ⊎_elim, both_true, and_second, drop-cons, add-one}
 use Rattle.models.specs.Every.{every}
 
 -- ---------------------------------------------------------------------------
@@ -48,7 +48,7 @@ module _ {A : Type 0} (f : A → Bool) (xs : List A) (i : ℕ) where
   module _ (d : A) (h : i < length xs) where
     pub every_on : f (get_or xs i d) ≡ true → every f (drop i xs) ≡ every f (drop (i + 1) xs)
     unfolding every
-    every_on e = rw (drop-cons xs i d h, e, add_one i)
+    every_on e = rw (drop-cons xs i d h, e, add-one i)
 
     pub every_stops : f (get_or xs i d) ≡ false → false ≡ every f (drop i xs)
     unfolding every

@@ -2,13 +2,15 @@
 //
 // Document 01, "Reference models", with source 003, and document 02, W4. A model's choices stand in one decision, `rules` and
 // `special`; whoever judges a reference goes by the value that it gives.
+#![tactic(auto)]
+
 ghost use Rattle.std.specs.Prelude.{◌≡◌, ◌≤◌, ◌<◌, ◌+◌};
 ghost use Rattle.models.specs.Models.{asks, holding, model, plain, over, model_of, special_of};
 
 use check_digits::Rule;
 
 // A check group: how many parts stand before it, how many it joins, and the rule that its last digit obeys.
-#[derive(Drop)]
+#[derive(Clone, Copy)]
 pub struct Group {
     pub skipped: u8,
     pub joins: u8,
@@ -16,14 +18,14 @@ pub struct Group {
 }
 
 // What a part may be asked to hold: a given number, or a code of kinds of personal income (crate `codes`).
-#[derive(Drop)]
+#[derive(Clone, Copy)]
 pub enum Content {
     Number(u32),
     Code,
 }
 
 // What is asked of one part: how many parts stand before it, and what it holds.
-#[derive(Drop)]
+#[derive(Clone, Copy)]
 pub struct Asked {
     pub skipped: u8,
     pub content: Content,
@@ -31,7 +33,7 @@ pub struct Asked {
 
 // A model's rules: how many parts, the least and most digits of each of four, from how many parts on it asks what two of them
 // hold (from none is never), and its check groups.
-#[derive(Drop)]
+#[derive(Clone, Copy)]
 pub struct Model {
     pub handled: bool,
     pub fewest: u8,

@@ -2,6 +2,8 @@
 //
 // Document 01, "The wage file". Each rule answers a verdict, as those of `wage_contents` do: 0, or within a field 3 with its
 // byte counted within the place, 5, 7, 8, 5 of a reference's contents, 9.
+#![tactic(auto)]
+
 ghost use Rattle.std.specs.Prelude.{◌≡◌, get_or};
 ghost use Rattle.order_contents.specs.Contents.{purpose_place_verdict, sign_verdict, held_in, held_blank, held_verdict, reference_held, description_verdict, code_verdict};
 
@@ -9,7 +11,7 @@ use classes::Class;
 use text::Found;
 
 // What a model's place holds: nothing, a text that is no model, or a model's number.
-#[derive(Drop)]
+#[derive(Clone, Copy)]
 pub enum Held {
     Blank,
     NoModel,

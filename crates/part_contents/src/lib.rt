@@ -1,6 +1,8 @@
 // What a model asks its parts to hold: a given number, or a code of kinds of personal income.
 //
 // Document 02, W4, with source 003 (HR69). Whoever asks has read the parts and knows where they end (crate `parts`).
+#![tactic(auto)]
+
 ghost use Rattle.std.specs.Prelude.{◌≡◌};
 ghost use Rattle.part_contents.specs.Contents.{holds};
 ghost use Rattle.part_contents.specs.Mirror.{asked_at, contents_at};

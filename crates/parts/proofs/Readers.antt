@@ -1,7 +1,7 @@
 -- How the readers go through a reference (specs/Mirror.antt): their turns, the room for the ends of the parts, and that what they read is where
 -- the parts of a formed text end.
 -- Assumes nothing.
-use Rattle.refusal.proofs.Basics.{◌≡◌, sym, ◌∙◌, arith, ℕ, zero, suc, ◌+◌, ◌*◌, ◌-◌, ◌%◌, ◌^◌, ◌≤◌, ◌<◌, length, take, drop, get_or, drop_of_length-le, eq-eqb, ne_eqb, lt-ltb, le-ltb, List, [], ◌∷◌, Bool, true, false, cond, ◌&&◌, and-true, and-false, eqb, leb, ltb, drop-cons, one-le-pow, add-zero, add_one}
+use Rattle.refusal.proofs.Basics.{◌≡◌, sym, ◌∙◌, arith, ℕ, zero, suc, ◌+◌, ◌*◌, ◌-◌, ◌%◌, ◌^◌, ◌≤◌, ◌<◌, length, take, drop, get_or, drop_of_length-le, eq-eqb, ne_eqb, lt-ltb, le-ltb, List, [], ◌∷◌, Bool, true, false, cond, ◌&&◌, and-true, and-false, eqb, leb, ltb, drop-cons, one-le-pow, add-zero, add-one}
 use Rattle.classes.specs.Classes.{is_digit}
 use Rattle.text.specs.Bytes.{all_of}
 use Rattle.classes.specs.declared.Class.TheVariants.{Digits}
@@ -34,7 +34,7 @@ module _ (ls : List ℕ) (at n : ℕ) (s : List ℕ) where
         let d = digit_bounds (get_or s n 0) e in
         let w = first_part (drop (suc n) s) in
         let m : at + n + suc (length w.0) ≡ at + suc n + length w.0 = omega arith in
-        rw (drop-cons s n 0 h, ne_eqb (get_or s n 0) 45 (λ (z : get_or s n 0 ≡ 45). omega arith), add_one n, w.2, e, m)
+        rw (drop-cons s n 0 h, ne_eqb (get_or s n 0) 45 (λ (z : get_or s n 0 ≡ 45). omega arith), add-one n, w.2, e, m)
 
     -- a byte that is no digit and no hyphen breaks off
     pub digits_break : (get_or s n 0 ≡ 45 → ⊥) → is_digit (get_or s n 0) ≡ false → 0 ≡ digit_read ls (at + n) (split 45 (drop n s))
@@ -48,7 +48,7 @@ module _ (ls : List ℕ) (at n : ℕ) (s : List ℕ) where
       handed =
           let w = first_part (drop (suc n) s) in
           rw (drop-cons s n 0 h, g, add-zero (at + n))
-          (rest_read (parts_fit ls (split 45 (drop (suc n) s))) (at + n) r _ (rw w.2 (omega arith)) (rw (to_the_end (n + 1) s, add_one) at f))
+          (rest_read (parts_fit ls (split 45 (drop (suc n) s))) (at + n) r _ (rw w.2 (omega arith)) (rw (to_the_end (n + 1) s, add-one) at f))
 
       pub handed_none : r ≡ 0 → 0 ≡ digit_read ls (at + n) (split 45 (drop n s))
       handed_none e = sym (sym handed ∙ rw (eq-eqb r 0 e))

@@ -3,6 +3,8 @@
 // Document 01, "Reference models". The digit reader and the part reader call each other, as 01 asks. Where the parts end
 // is one number, a digit of base 1024 for each end, which a listing of fillings carries: all its fillings have their parts
 // at the same places.
+#![tactic(auto)]
+
 ghost use Rattle.std.specs.Prelude.{◌≡◌, ◌≤◌, ◌<◌, ◌+◌, length};
 ghost use Rattle.text.specs.Split.{split};
 ghost use Rattle.parts.specs.Mirror.{part_read, digit_read, end_of, count_fits, parts_found};

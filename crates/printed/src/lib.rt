@@ -1,6 +1,8 @@
 // What the programs print, put into lent room: words, numbers in decimal digits, and a refusal with its place.
 //
 // Each is put behind the one before, as far as there is room, and answers the place behind it.
+#![tactic(auto)]
+
 ghost use Rattle.std.specs.Prelude.{◌≡◌};
 ghost use Rattle.printed.specs.Printed.{width_in, decimal, counted, place_text, refused_text, Puts};
 

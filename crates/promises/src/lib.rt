@@ -2,3 +2,4 @@
 //
 // There is no code here: specs/Calls.antt says what a theorem about a call is, and proofs/ has one file for each demand. A theorem
 // takes whatever the call's contract allows, and so whatever the proved call answers and leaves.
+#![tactic(auto)]

@@ -1,6 +1,6 @@
 -- Laws of the loops that read a question, and of those that lay out its fields.
 -- Assumes nothing.
-use Rattle.refusal.proofs.Basics.{◌≡◌, refl, sym, ap, ◌∙◌, arith, ℕ, zero, suc, ◌+◌, ◌-◌, ◌≤◌, ◌<◌, length, take, drop, get_or, set, length-drop, drop_of_length-le, eq-eqb, ne_eqb, lt-ltb, le-ltb, ltb-true, ltb-false, List, [], ◌∷◌, Bool, true, false, cond, eqb, ltb, sets, drop-cons, drop-drop, take_all, add-zero, add_one, taken, left}
+use Rattle.refusal.proofs.Basics.{◌≡◌, refl, sym, ap, ◌∙◌, arith, ℕ, zero, suc, ◌+◌, ◌-◌, ◌≤◌, ◌<◌, length, take, drop, get_or, set, length-drop, drop_of_length-le, eq-eqb, ne_eqb, lt-ltb, le-ltb, ltb-true, ltb-false, List, [], ◌∷◌, Bool, true, false, cond, eqb, ltb, sets, drop-cons, drop-drop, take_all, add-zero, add-one, taken, left}
 use Rattle.text.specs.Bytes.{same, count_of}
 use Rattle.text.specs.Digits.{value_from}
 use Rattle.text.specs.Split.{longer, split, joined}
@@ -23,7 +23,7 @@ module _ (c : ℕ) where
   apart_longer : (b : ℕ) (s : List ℕ) (ps : List (List ℕ)) → Apart s ps → Apart (b ∷ s) (longer b ps)
   apart_longer b s [] h = absurd h
   apart_longer b s (p ∷ []) h = ap (λ (l : List ℕ). b ∷ l) h
-  apart_longer b s (p ∷ (q ∷ ps)) (l, (f, r)) = (omega arith, (ap (λ (t : List ℕ). b ∷ t) f, rw (add_one (suc (length p))) (rw (add_one (length p)) at r)))
+  apart_longer b s (p ∷ (q ∷ ps)) (l, (f, r)) = (omega arith, (ap (λ (t : List ℕ). b ∷ t) f, rw (add-one (suc (length p))) (rw (add-one (length p)) at r)))
 
   -- c itself in front
   apart_none : (b : ℕ) (s : List ℕ) (ps : List (List ℕ)) → Apart s ps → ps ≡ split c s → Apart (b ∷ s) ([] ∷ ps)
@@ -80,7 +80,7 @@ module _ (c : ℕ) (s : List ℕ) (i : ℕ) where
   pub find_on : i < length s → (get_or s i 0 ≡ c → ⊥) → i + length (piece_at c 0 (drop i s)) ≡ i + 1 + length (piece_at c 0 (drop (i + 1) s))
   unfolding split
   find_on h e =
-      rw (drop-cons s i 0 h, ne_eqb (get_or s i 0) c e, add_one i, first_longer (get_or s i 0) (split c (drop (suc i) s)))
+      rw (drop-cons s i 0 h, ne_eqb (get_or s i 0) c e, add-one i, first_longer (get_or s i 0) (split c (drop (suc i) s)))
       (omega arith)
 
   pub find_ends : length s ≤ i → i ≡ i + length (piece_at c 0 (drop i s))
@@ -108,10 +108,10 @@ module _ (s : List ℕ) (left i : ℕ) where
   behind_here e = rw e (to_the_end i s)
 
   pub behind_bar : i < length s → (left ≡ 0 → ⊥) → get_or s i 0 ≡ 124 → behind_bars left (drop i s) ≡ behind_bars (left - 1) (drop (i + 1) s)
-  behind_bar h z e = rw (drop-cons s i 0 h, behind_first left (get_or s i 0) (drop (suc i) s) z, eq-eqb (get_or s i 0) 124 e, add_one i)
+  behind_bar h z e = rw (drop-cons s i 0 h, behind_first left (get_or s i 0) (drop (suc i) s) z, eq-eqb (get_or s i 0) 124 e, add-one i)
 
   pub behind_other : i < length s → (left ≡ 0 → ⊥) → (get_or s i 0 ≡ 124 → ⊥) → behind_bars left (drop i s) ≡ behind_bars left (drop (i + 1) s)
-  behind_other h z e = rw (drop-cons s i 0 h, behind_first left (get_or s i 0) (drop (suc i) s) z, ne_eqb (get_or s i 0) 124 e, add_one i)
+  behind_other h z e = rw (drop-cons s i 0 h, behind_first left (get_or s i 0) (drop (suc i) s) z, ne_eqb (get_or s i 0) 124 e, add-one i)
 
   pub behind_end : length s ≤ i → [] ≡ behind_bars left (drop i s)
   behind_end h = rw (drop_of_length-le s h) (sym (behind_nothing left))
@@ -148,7 +148,7 @@ module _ (w : List ℕ) (ps : List (List ℕ)) (k : ℕ) where
 
   pub place_on : k < length ps → same w (get_or ps k []) ≡ false → k + place_among w (drop k ps) ≡ k + 1 + place_among w (drop (k + 1) ps)
   unfolding place_among
-  place_on h e = rw (drop-cons ps k [] h, e, add_one k) (omega arith)
+  place_on h e = rw (drop-cons ps k [] h, e, add-one k) (omega arith)
 
   pub place_none : length ps ≤ k → k ≡ k + place_among w (drop k ps)
   unfolding place_among
@@ -196,12 +196,12 @@ written_full out whole at xs h e = sym (sets_past out at xs h) ∙ e
 
 -- one number more
 written_more : (out whole : List ℕ) (at x : ℕ) (xs ys : List ℕ) → ys ≡ x ∷ xs → sets out at ys ≡ whole → sets (set out at x) (at + 1) xs ≡ whole
-written_more out whole at x xs ys f e = rw (add_one at) (rw f at e)
+written_more out whole at x xs ys f e = rw (add-one at) (rw f at e)
 
 -- a text with its bytes c as line feeds, from place i on
 module _ (c : ℕ) (s : List ℕ) (i : ℕ) (out whole : List ℕ) where
   pub line_more : i < length s → sets out i (lined c (drop i s)) ≡ whole → sets (set out i (line_byte c (get_or s i 0))) (i + 1) (lined c (drop (i + 1) s)) ≡ whole
-  line_more h e = written_more out whole i (line_byte c (get_or s i 0)) (lined c (drop (i + 1) s)) (lined c (drop i s)) (rw (drop-cons s i 0 h, add_one i)) e
+  line_more h e = written_more out whole i (line_byte c (get_or s i 0)) (lined c (drop (i + 1) s)) (lined c (drop i s)) (rw (drop-cons s i 0 h, add-one i)) e
 
   pub line_last : length s ≤ i → sets out i (lined c (drop i s)) ≡ whole → out ≡ whole
   line_last h e = rw (drop_of_length-le s h) at e
@@ -227,11 +227,11 @@ joined_counted (b ∷ s) = go (eqb b 124) (joined_counted s)
 module _ (s : List ℕ) (i : ℕ) where
   pub joined_bar : i < length s → get_or s i 0 ≡ 124 → joined (split 124 (drop i s)) ≡ joined (split 124 (drop (i + 1) s))
   unfolding joined split
-  joined_bar h e = rw (drop-cons s i 0 h, eq-eqb (get_or s i 0) 124 e, add_one i)
+  joined_bar h e = rw (drop-cons s i 0 h, eq-eqb (get_or s i 0) 124 e, add-one i)
 
   joined_on : i < length s → (get_or s i 0 ≡ 124 → ⊥) → joined (split 124 (drop i s)) ≡ get_or s i 0 ∷ joined (split 124 (drop (i + 1) s))
   unfolding split
-  joined_on h e = rw (drop-cons s i 0 h, ne_eqb (get_or s i 0) 124 e, add_one i) (joined_longer (get_or s i 0) (split 124 (drop (suc i) s)))
+  joined_on h e = rw (drop-cons s i 0 h, ne_eqb (get_or s i 0) 124 e, add-one i) (joined_longer (get_or s i 0) (split 124 (drop (suc i) s)))
 
   module _ (out whole : List ℕ) (at : ℕ) where
     pub byte_more :

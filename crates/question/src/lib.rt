@@ -3,6 +3,8 @@
 //
 // second/README.md says what a question is. What is written cannot be said in a contract (docs/DECISIONS.md): `tell`,
 // `count` and `tell_value` are safe and end.
+#![tactic(auto)]
+
 ghost use Rattle.std.specs.Prelude.{◌≡◌, [], ◌∷◌, length};
 ghost use Rattle.std.proofs.lemmas.List.Edits.{sets};
 ghost use Rattle.text.specs.Digits.{digits_of, value_from};

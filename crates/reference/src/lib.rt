@@ -2,6 +2,8 @@
 //
 // Document 01, "Reference models", and document 02, W4. A model is the value that `models` gives; `parts` reads the text,
 // `part_contents` and `groups` check it.
+#![tactic(auto)]
+
 ghost use Rattle.std.specs.Prelude.{◌≡◌};
 ghost use Rattle.models.specs.Models.{model_of};
 ghost use Rattle.reference.specs.Answers.{obeys, modelled_verdict, reference_verdict};

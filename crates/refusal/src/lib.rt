@@ -2,11 +2,13 @@
 //
 // What the paper's number, place and needed count of a refusal are is said once, in specs/Refusal.antt,
 // and every promise above speaks of refusals through it. A request of document 02 adds a case here.
+#![tactic(auto)]
+
 ghost use Rattle.std.specs.Prelude.{◌≡◌};
 ghost use Rattle.refusal.specs.Refusal.{none, refusal_number, refusal_place, needed_of, refusal_of, moved, in_line, is_accepted};
 
 // Where a refusal stands. Lines and fields count from 1, bytes from 0; 0 stands for "none".
-#[derive(Drop)]
+#[derive(Clone, Copy)]
 pub struct Place {
     pub line: usize,
     pub field: usize,
@@ -14,7 +16,7 @@ pub struct Place {
 }
 
 // The refusals, in the order of their numbers: 1 to 17 of document 01, then those of document 02.
-#[derive(Drop)]
+#[derive(Clone, Copy)]
 pub enum Refusal {
     Size(Place),
     Ends(Place),
@@ -42,7 +44,7 @@ pub enum Refusal {
 }
 
 // What a judging call answers.
-#[derive(Drop)]
+#[derive(Clone, Copy)]
 pub enum Answer {
     Accepted,
     Refused(Refusal),

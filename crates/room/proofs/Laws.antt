@@ -1,5 +1,5 @@
 -- Laws of loops that write into lent room: what is left to be written makes up the whole. Assumes nothing.
-use Rattle.refusal.proofs.Basics.{◌≡◌, refl, sym, ◌∙◌, arith, ℕ, zero, suc, ◌+◌, ◌-◌, ◌/◌, ◌%◌, ◌≤◌, ◌<◌, length, get_or, drop, set, drop_of_length-le, List, [], ◌∷◌, ◌++◌, sets, drop-cons, set_out, set_comm, add-zero, add_one}
+use Rattle.refusal.proofs.Basics.{◌≡◌, refl, sym, ◌∙◌, arith, ℕ, zero, suc, ◌+◌, ◌-◌, ◌/◌, ◌%◌, ◌≤◌, ◌<◌, length, get_or, drop, set, drop_of_length-le, List, [], ◌∷◌, ◌++◌, sets, drop-cons, set_out, set_comm, add-zero, add-one}
 use Rattle.text.specs.Digits.{digits_text}
 use Rattle.room.proofs.Digits.{digits_length, digits_last}
 
@@ -25,7 +25,7 @@ sets_last s at (a ∷ f) b =
 pub copied_more :
     (s out whole : List ℕ) (next i : ℕ) → i < length s → sets out next (drop i s) ≡ whole
     → sets (set out next (get_or s i 0)) (next + 1) (drop (i + 1) s) ≡ whole
-copied_more s out whole next i h e = rw (add_one next, add_one i) (rw (drop-cons s i 0 h) at e)
+copied_more s out whole next i h e = rw (add-one next, add-one i) (rw (drop-cons s i 0 h) at e)
 
 -- nothing is left
 pub copied_all : (s out whole : List ℕ) (next i : ℕ) → length s ≤ i → sets out next (drop i s) ≡ whole → out ≡ whole

@@ -2,6 +2,8 @@
 //
 // Nothing outside the place changes; what does not fit is not written. Whoever must not write in part asks for the room
 // first.
+#![tactic(auto)]
+
 ghost use Rattle.std.specs.Prelude.{◌≡◌};
 ghost use Rattle.std.proofs.lemmas.List.Edits.{sets};
 ghost use Rattle.text.specs.Digits.{digits_text};

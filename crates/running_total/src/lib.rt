@@ -2,6 +2,8 @@
 //
 // Document 02, W5: a tally "lent to each step and brought up to date there", and 29. Here the tally comes and goes by value;
 // `desk_tally` has the one function that is lent it.
+#![tactic(auto)]
+
 ghost use Rattle.std.specs.Prelude.{◌≡◌};
 ghost use Rattle.running_total.specs.RunningTotal.{growth_in, tallied};
 
@@ -10,7 +12,7 @@ use tally::{Growth, Tally};
 use wage_line::Typed;
 
 // The judge's record and the tally after a line.
-#[derive(Drop)]
+#[derive(Clone, Copy)]
 pub struct Tallied {
     pub judge: Judge,
     pub tally: Tally,

@@ -2,6 +2,8 @@
 //
 // Document 02, W2. A sheet is read once, line by line: it is right, and then it is known where the text of each field
 // stands, or its first malformed line is told. Each text is judged by the slip's own rule, `slip_fields::judge_field`.
+#![tactic(auto)]
+
 ghost use Rattle.std.specs.Prelude.{◌≡◌};
 ghost use Rattle.sheet.specs.Sheet.{is_standing, text_start, one_digit, two_digit, line_number};
 ghost use Rattle.sheet.specs.Mirror.{right_number, malformed_at, lines_of, held_in};
@@ -12,7 +14,7 @@ use text::{Found, Part};
 
 // What reading a sheet finds: its first malformed line, or 0; and by the number of a field where its text begins, 0 where
 // the sheet has no such line, and how many bytes it has.
-#[derive(Drop)]
+#[derive(Clone, Copy)]
 pub struct Lines {
     pub bad: usize,
     pub starts: [usize; 15],
@@ -20,7 +22,7 @@ pub struct Lines {
 }
 
 // Where the text of a field stands in a sheet, if it has that line.
-#[derive(Drop)]
+#[derive(Clone, Copy)]
 pub enum Held {
     At(Part),
     Nothing,

@@ -3,6 +3,8 @@
 // Document 01, "The slip's fourteen fields", with source 000; document 02, W1, with source 001: a slip in a currency. Every
 // field is judged by one name, `slip_fields::judge_field`; reading goes from line feed to line feed and stops at the first
 // refusal.
+#![tactic(auto)]
+
 ghost use Rattle.std.specs.Prelude.{◌≡◌, [], ◌+◌, ◌<◌, ◌^◌, length};
 ghost use Rattle.verdict.specs.Verdict.{answer_at};
 ghost use Rattle.text.specs.Split.{split};

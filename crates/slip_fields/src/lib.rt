@@ -3,13 +3,15 @@
 // Document 01, "The slip's fourteen fields"; document 02, W1: a kuna slip differs from a euro slip in fields 2 and 10 alone.
 // Within a field 3 with its byte, 4, 5, then 6 to 9; the byte is counted within the field, and whoever knows where the field
 // stands says so.
+#![tactic(auto)]
+
 ghost use Rattle.std.specs.Prelude.{◌≡◌};
 ghost use Rattle.slip_fields.specs.Fields.{word_verdict, sized_verdict, most_of, currency_text, payee_verdict, field_verdict};
 
 use classes::Class;
 
 // The currency of a slip: euro, or kuna before 2023.
-#[derive(Drop)]
+#[derive(Clone, Copy)]
 pub enum Currency {
     Euro,
     Kuna,

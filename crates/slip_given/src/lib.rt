@@ -2,6 +2,8 @@
 //
 // Document 01, "The slip's fourteen fields": the writer refuses as the reader does, so each field is judged by the same
 // name, `slip_fields::judge_field`; a refusal is told of the field, the byte of a 3 counted within it.
+#![tactic(auto)]
+
 ghost use Rattle.std.specs.Prelude.{◌≡◌, [], ◌∷◌, ◌≤◌};
 ghost use Rattle.slip_given.specs.Given.{given_answer, three, four, eleven};
 

@@ -2,6 +2,8 @@
 //
 // Document 01, "The slip's fourteen fields"; document 02, W1, for a slip in either currency. A refused slip, and an unknown
 // number, give an empty part.
+#![tactic(auto)]
+
 ghost use Rattle.std.specs.Prelude.{◌≡◌, ◌+◌, ◌≤◌, length, take, drop};
 ghost use Rattle.refusal.specs.Refusal.{is_accepted};
 ghost use Rattle.text.specs.Split.{split};
@@ -122,7 +124,7 @@ pub fn field(s: &[u8], n: usize) -> &[u8]
 // Its amount
 
 // The amount of an accepted euro slip, or the slip's refusal.
-#[derive(Drop)]
+#[derive(Clone, Copy)]
 pub enum Amount {
     Cents(u64),
     Refused(Refusal),

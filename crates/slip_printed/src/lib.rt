@@ -1,5 +1,7 @@
 // What the programs `slipfile` and `ledger` print of a slip, put into lent room: `accepted` and its fields 3 to 14, a line each,
 // or its refusal with its place. `ledger` says which currency it was, and a kuna slip's amount in cents too.
+#![tactic(auto)]
+
 ghost use Rattle.std.specs.Prelude.{◌++◌, ◌≤◌, length};
 ghost use Rattle.printed.specs.Printed.{Puts};
 ghost use Rattle.slip_printed.specs.SlipPrinted.{cents_line, field_line, field_lines, slip_printed, ledger_printed};

@@ -1,6 +1,6 @@
 -- What is promised of slips written and read: what the writer writes the reader accepts, field by field; what the reader accepts is
 -- written again byte for byte. Assumes nothing.
-use Rattle.refusal.proofs.Basics.{◌≡◌, refl, sym, ap, ◌∙◌, arith, ℕ, zero, suc, ◌+◌, ◌-◌, ◌^◌, ◌≤◌, ◌<◌, length, get_or, drop, get_or-append, drop_of_length-le, le-leb, eqb-true, ltb-true, ltb-false, lt-ltb, le-ltb, List, [], ◌∷◌, ◌++◌, Bool, true, false, cond, eqb, leb, ltb, drop-cons, zero-add, add-zero, add_one, both_true}
+use Rattle.refusal.proofs.Basics.{◌≡◌, refl, sym, ap, ◌∙◌, arith, ℕ, zero, suc, ◌+◌, ◌-◌, ◌^◌, ◌≤◌, ◌<◌, length, get_or, drop, get_or-append, drop_of_length-le, le-leb, eqb-true, ltb-true, ltb-false, lt-ltb, le-ltb, List, [], ◌∷◌, ◌++◌, Bool, true, false, cond, eqb, leb, ltb, drop-cons, zero-add, add-zero, add-one, both_true}
 use Rattle.refusal.specs.declared.Answer.{Answer}
 use Rattle.refusal.specs.declared.Answer.TheVariants.{Accepted, Refused}
 use Rattle.refusal.specs.Refusal.{none}
@@ -183,7 +183,7 @@ listed_drop : (ps : List (List ℕ)) (n k : ℕ) → length ps ≡ n + k → lis
 listed_drop ps n zero e = sym (drop_of_length-le ps {i = n} (omega arith))
 listed_drop ps n (suc k) e =
     let h : n < length ps = omega arith in
-    rw (drop-cons ps n [] h) (ap (λ (l : List (List ℕ)). get_or ps n [] ∷ l) (listed_drop ps (n + 1) k (omega arith) ∙ rw add_one))
+    rw (drop-cons ps n [] h) (ap (λ (l : List (List ℕ)). get_or ps n [] ∷ l) (listed_drop ps (n + 1) k (omega arith) ∙ rw add-one))
 
 -- equal values, equal lists
 listed_ext : (f g : ℕ → List ℕ) (n m k : ℕ) → ((i : ℕ) → i < k → f (n + i) ≡ g (m + i)) → listed f n k ≡ listed g m k

@@ -1,6 +1,8 @@
 // Slips written: from an amount in cents and the fields 4 to 14.
 //
 // Document 01, "The slip's fourteen fields". What the writer writes, the reader accepts (proofs/Theorems.antt).
+#![tactic(auto)]
+
 ghost use Rattle.std.specs.Prelude.{◌≡◌, [], ◌∷◌, ◌+◌, ◌≤◌, length};
 ghost use Rattle.slip_fields.specs.Fields.{hrvhub30};
 ghost use Rattle.text.specs.Bytes.{eur};
@@ -14,7 +16,7 @@ ghost use Rattle.slip_writer.specs.Steps.{WritesSlip, WritesAccepted};
 use refusal::{Answer, Place, Refusal};
 
 // What writing a slip answers: how many bytes it has, or a refusal.
-#[derive(Drop)]
+#[derive(Clone, Copy)]
 pub enum Written {
     Bytes(usize),
     Refused(Refusal),

@@ -3,6 +3,8 @@
 //
 // What is written is `slipPrinted` of what was read (slip_printed/specs/SlipPrinted.antt); where a read fails it is nothing,
 // and standard error has a line.
+#![tactic(auto)]
+
 use text::front;
 
 fn main() {

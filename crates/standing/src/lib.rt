@@ -2,6 +2,8 @@
 //
 // Document 01, "The wage file": the refusals 10, 12 and 13; "A 301 or 399 straight after a 301 is 10". Document 02, W5: what
 // a line adds to a tally, that of the judge's record and one that a caller lends.
+#![tactic(auto)]
+
 ghost use Rattle.std.specs.Prelude.{◌≡◌, true, cond, ◌≤◌};
 ghost use Rattle.sums.specs.Sums.{number_in};
 ghost use Rattle.wage_places.specs.Places.{part_of};

@@ -2,6 +2,8 @@
 //
 // Document 02, W2. It is `standing_text` and `slip_writer::write` put together: both sheets are judged, then the fields are
 // filled, then the slip is written. With two empty sheets it is the slip's writer with its fields as a caller lends them.
+#![tactic(auto)]
+
 ghost use Rattle.std.specs.Prelude.{◌≡◌, ◌≤◌, ◌-◌};
 ghost use Rattle.lent_fields.specs.Fields.{given_of};
 ghost use Rattle.slip_writer.specs.Steps.{WritesSlip};
@@ -14,7 +16,7 @@ use slip_writer::Written;
 use standing_text::Sheet;
 
 // What writing a slip answers, and for 20 the sheet whose line it tells.
-#[derive(Drop)]
+#[derive(Clone, Copy)]
 pub struct StandingSlip {
     pub sheet: Sheet,
     pub written: Written,

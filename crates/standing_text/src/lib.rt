@@ -2,6 +2,8 @@
 //
 // Document 02, W2. Both sheets are judged whole, the farm's first, whatever is asked for; the answer is the part of that
 // sheet where the text stands.
+#![tactic(auto)]
+
 ghost use Rattle.std.specs.Prelude.{◌≡◌};
 ghost use Rattle.sheet.specs.Mirror.{held_in};
 ghost use Rattle.standing_text.specs.Standing.{sheets_judged, supplied_by, standing_of, bytes_of, standing_bytes, standing_text};
@@ -11,7 +13,7 @@ use sheet::{Held, Lines};
 use text::Part;
 
 // One of the two sheets, or neither.
-#[derive(Drop)]
+#[derive(Clone, Copy)]
 pub enum Sheet {
     Neither,
     Farm,
@@ -19,7 +21,7 @@ pub enum Sheet {
 }
 
 // Both sheets judged: acceptance, or a refusal and the sheet whose line it tells.
-#[derive(Drop)]
+#[derive(Clone, Copy)]
 pub struct Judged {
     pub sheet: Sheet,
     pub answer: Answer,
@@ -27,7 +29,7 @@ pub struct Judged {
 
 // The standing text of a field: the sheet that supplied it and where it stands there; or a refusal, and for 20 the sheet
 // whose line it tells.
-#[derive(Drop)]
+#[derive(Clone, Copy)]
 pub struct Standing {
     pub sheet: Sheet,
     pub answer: Answer,

@@ -1,6 +1,8 @@
 // The parts of a reference as stretches of its text, hyphens and all.
 //
 // Document 01, "Reference models". Whoever asks has read the parts and knows where they end (crate `parts`).
+#![tactic(auto)]
+
 ghost use Rattle.std.specs.Prelude.{◌≡◌};
 ghost use Rattle.stretches.specs.Mirror.{part_start, bytes_between, stretch};
 

@@ -3,13 +3,15 @@
 // Document 01: "sums exact to twenty digits"; a sum kept in 64 bits is one of its "errors a clerk would ship". A sum is
 // two numbers, base 10^18, and its limit is `most` times 10^18: 100 for twenty digits. The limit stands for itself and
 // all above, so that a sum of more is told from every one that fits.
+#![tactic(auto)]
+
 ghost use Rattle.std.specs.Prelude.{◌≡◌, ◌∷◌, [], ◌+◌, ◌*◌, ◌<◌, eqb};
 ghost use Rattle.text.specs.Digits.{digits_of, value_from};
 ghost use Rattle.sums.specs.Sums.{limb, cents_of, no_cents, sum_of, fits, added, same_sum, number_of, number_in};
 
 // `high` times 10^18 and `low`, in cents.
 #[repr(C)]
-#[derive(Drop)]
+#[derive(Clone, Copy)]
 pub struct Sum {
     pub high: u64,
     pub low: u64,

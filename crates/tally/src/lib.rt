@@ -2,6 +2,8 @@
 //
 // Document 02, W5: "Keep a small tally of groups, orders and exact total". The judge's record keeps one of its file, and a
 // caller may lend one to each step; what a line adds and where a tally ends is the same for both.
+#![tactic(auto)]
+
 ghost use Rattle.std.specs.Prelude.{◌≡◌, cond};
 ghost use Rattle.tally.specs.Tally.{no_orders, is_within, grown};
 
@@ -9,7 +11,7 @@ use sums::Sum;
 
 // Groups, orders, and what the orders come to, in cents.
 #[repr(C)]
-#[derive(Drop)]
+#[derive(Clone, Copy)]
 pub struct Tally {
     pub groups: usize,
     pub orders: usize,
@@ -17,7 +19,7 @@ pub struct Tally {
 }
 
 // What a line adds to a tally.
-#[derive(Drop)]
+#[derive(Clone, Copy)]
 pub enum Growth {
     Nothing,
     Group,

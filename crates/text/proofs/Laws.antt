@@ -1,6 +1,6 @@
 -- Laws that every crate's proofs cite: of choices on a test, of tests, and of the texts that loops walk through.
 -- Assumes nothing.
-use Rattle.refusal.proofs.Basics.{◌≡◌, refl, sym, ap, subst, ◌∙◌, arith, ℕ, suc, ◌+◌, ◌-◌, ◌*◌, ◌≤◌, ◌<◌, length, take, drop, get_or, length-drop, take-append-drop, ne_eqb, eq-eqb, leb-true, leb-false, List, [], ◌∷◌, ◌++◌, Bool, true, false, cond, ◌&&◌, and-true, and_assoc, false≢true, eqb, leb, drop-cons, drop-length, take_all, zero-add, add-zero, add_one, and_first, and_second, both_true}
+use Rattle.refusal.proofs.Basics.{◌≡◌, refl, sym, ap, subst, ◌∙◌, arith, ℕ, suc, ◌+◌, ◌-◌, ◌*◌, ◌≤◌, ◌<◌, length, take, drop, get_or, length-drop, take-append-drop, ne_eqb, eq-eqb, leb-true, leb-false, List, [], ◌∷◌, ◌++◌, Bool, true, false, cond, ◌&&◌, and-true, and_assoc, false≢true, eqb, leb, drop-cons, drop-length, take_all, zero-add, add-zero, add-one, and_first, and_second, both_true}
 use Rattle.classes.specs.declared.Class.{Class}
 use Rattle.text.specs.declared.Found.{Found}
 use Rattle.text.specs.declared.Found.TheVariants.{At, Nothing}
@@ -48,7 +48,7 @@ shifted_later i Nothing = refl
 module _ (k : Class) (s : List ℕ) (i : ℕ) where
   pub scan_on : i < length s → permits k (get_or s i 0) ≡ true → shifted i (first_bad k (drop i s)) ≡ shifted (i + 1) (first_bad k (drop (i + 1) s))
   unfolding first_bad
-  scan_on h e = rw (drop-cons s i 0 h, e, add_one) (shifted_later i (first_bad k (drop (suc i) s)) ∙ rw add_one)
+  scan_on h e = rw (drop-cons s i 0 h, e, add-one) (shifted_later i (first_bad k (drop (suc i) s)) ∙ rw add-one)
 
   pub scan_stops : i < length s → permits k (get_or s i 0) ≡ false → At i ≡ shifted i (first_bad k (drop i s))
   unfolding first_bad shifted
@@ -183,7 +183,7 @@ module _ (k : Class) (s : List ℕ) (i : ℕ) where
   -- one byte more is tested
   pub tested_on : i < length s → (before now : Bool) → now ≡ permits k (get_or s i 0) → (before && all_of k (drop i s)) ≡ (before && now && all_of k (drop (i + 1) s))
   unfolding all_of
-  tested_on h before now e = rw (drop-cons s i 0 h, e, add_one i) (sym (and_assoc before (permits k (get_or s i 0)) (all_of k (drop (suc i) s))))
+  tested_on h before now e = rw (drop-cons s i 0 h, e, add-one i) (sym (and_assoc before (permits k (get_or s i 0)) (all_of k (drop (suc i) s))))
 
   -- none is left
   pub tested_all : length s ≤ i → i ≤ length s → (before : Bool) → before ≡ (before && all_of k (drop i s))
@@ -196,11 +196,11 @@ module _ (k : Class) (s : List ℕ) (i : ℕ) where
 module _ (c : ℕ) (s : List ℕ) (i n : ℕ) where
   pub count_more : i < length s → get_or s i 0 ≡ c → n + count_of c (drop i s) ≡ n + 1 + count_of c (drop (i + 1) s)
   unfolding count_of
-  count_more h e = rw (drop-cons s i 0 h, add_one i, eq-eqb (get_or s i 0) c e) (omega arith)
+  count_more h e = rw (drop-cons s i 0 h, add-one i, eq-eqb (get_or s i 0) c e) (omega arith)
 
   pub count_same : i < length s → (get_or s i 0 ≡ c → ⊥) → n + count_of c (drop i s) ≡ n + count_of c (drop (i + 1) s)
   unfolding count_of
-  count_same h e = rw (drop-cons s i 0 h, add_one i, ne_eqb (get_or s i 0) c e)
+  count_same h e = rw (drop-cons s i 0 h, add-one i, ne_eqb (get_or s i 0) c e)
 
   pub count_end : length s ≤ i → i ≤ length s → n ≡ n + count_of c (drop i s)
   unfolding count_of

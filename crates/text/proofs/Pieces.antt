@@ -1,5 +1,5 @@
 -- The pieces of a text between the bytes c that divide it. Assumes nothing.
-use Rattle.refusal.proofs.Basics.{◌≡◌, refl, ap, ◌∙◌, arith, ℕ, suc, ◌+◌, ◌-◌, ◌≤◌, ◌<◌, length, take, drop, length-drop, List, [], ◌∷◌, Bool, true, false, cond, not, eqb, drop-drop, add_one}
+use Rattle.refusal.proofs.Basics.{◌≡◌, refl, ap, ◌∙◌, arith, ℕ, suc, ◌+◌, ◌-◌, ◌≤◌, ◌<◌, length, take, drop, length-drop, List, [], ◌∷◌, Bool, true, false, cond, not, eqb, drop-drop, add-one}
 use Rattle.classes.specs.Classes.{permits}
 use Rattle.classes.specs.declared.Class.{Class}
 use Rattle.classes.specs.declared.Class.TheVariants.{Line}
@@ -42,7 +42,7 @@ module _ (c : ℕ) where
   -- a byte more in front, other than c
   divided_later : (b : ℕ) (s : List ℕ) (f : Found) → eqb b c ≡ false → Divided s f → Divided (b ∷ s) (later f)
   unfolding split
-  divided_later b s (At i) e (h, g) = (omega arith, rw (e, g, add_one (suc i), add_one i))
+  divided_later b s (At i) e (h, g) = (omega arith, rw (e, g, add-one (suc i), add-one i))
   divided_later b s Nothing e g = rw (e, g)
 
   -- what a scan that stops at c alone finds divides the text

@@ -1,6 +1,6 @@
 -- Laws of two texts that are the same bytes, as a loop over both finds it.
 -- Assumes nothing.
-use Rattle.refusal.proofs.Basics.{◌≡◌, refl, sym, ap, arith, ℕ, ◌+◌, ◌≤◌, ◌<◌, length, drop, get_or, ne_eqb, eq-eqb, eqb-true, List, [], ◌∷◌, Bool, true, false, eqb, drop-cons, drop-length, add_one, both_true}
+use Rattle.refusal.proofs.Basics.{◌≡◌, refl, sym, ap, arith, ℕ, ◌+◌, ◌≤◌, ◌<◌, length, drop, get_or, ne_eqb, eq-eqb, eqb-true, List, [], ◌∷◌, Bool, true, false, eqb, drop-cons, drop-length, add-one, both_true}
 use Rattle.text.specs.Bytes.{same}
 
 -- texts that are the same bytes are one text
@@ -27,7 +27,7 @@ module _ (a b : List ℕ) (i : ℕ) where
   -- where the bytes at i are equal, what comes after decides
   pub same_on : i < length a → i < length b → get_or a i 0 ≡ get_or b i 0 → same (drop i a) (drop i b) ≡ same (drop (i + 1) a) (drop (i + 1) b)
   unfolding same
-  same_on h g e = rw (drop-cons a i 0 h, drop-cons b i 0 g, eq-eqb (get_or a i 0) (get_or b i 0) e, add_one)
+  same_on h g e = rw (drop-cons a i 0 h, drop-cons b i 0 g, eq-eqb (get_or a i 0) (get_or b i 0) e, add-one)
 
   -- where they are not, the texts are not the same
   pub same_stops : i < length a → i < length b → (get_or a i 0 ≡ get_or b i 0 → ⊥) → false ≡ same (drop i a) (drop i b)

@@ -1,6 +1,6 @@
 -- The number that digits write, digit by digit.
 -- Assumes nothing.
-use Rattle.refusal.proofs.Basics.{◌≡◌, refl, ap, ◌∙◌, arith, ℕ, suc, ◌+◌, ◌-◌, ◌*◌, ◌^◌, ◌≤◌, ◌<◌, length, take, drop, get_or, List, [], ◌∷◌, Bool, true, false, cond, drop-cons, drop-length, take-suc, pow-suc, pow-le-pow_right, add-zero, add_one}
+use Rattle.refusal.proofs.Basics.{◌≡◌, refl, ap, ◌∙◌, arith, ℕ, suc, ◌+◌, ◌-◌, ◌*◌, ◌^◌, ◌≤◌, ◌<◌, length, take, drop, get_or, List, [], ◌∷◌, Bool, true, false, cond, drop-cons, drop-length, take-suc, pow-suc, pow-le-pow_right, add-zero, add-one}
 use Rattle.classes.specs.Classes.{is_digit}
 use Rattle.text.specs.Digits.{digits_of, value_from}
 use Rattle.text.proofs.Laws.{digits_append, value_append}
@@ -22,7 +22,7 @@ value_takes v b e = rw e
 -- the number stays below the next power of ten
 pub value_grows : (v b i : ℕ) → v < 10 ^ i → value_from v (digits_of (b ∷ [])) < 10 ^ (i + 1)
 unfolding value_from digits_of
-value_grows v b i h = rw (add_one i, pow-suc 10 i) (go (is_digit b) refl)
+value_grows v b i h = rw (add-one i, pow-suc 10 i) (go (is_digit b) refl)
   where
     go : (t : Bool) → is_digit b ≡ t → value_from v (cond t ((b - 48) ∷ []) []) < 10 ^ i * 10
     go true e = let d = digit_bounds b e in omega arith
@@ -39,7 +39,7 @@ module _ (v : ℕ) (s : List ℕ) (i : ℕ) where
   -- from place i on
   pub value_on : i < length s → value_from v (digits_of (drop i s)) ≡ value_from (value_from v (digits_of (get_or s i 0 ∷ []))) (digits_of (drop (i + 1) s))
   value_on h =
-      rw (drop-cons s i 0 h, add_one)
+      rw (drop-cons s i 0 h, add-one)
       (ap (value_from v) (digits_append (get_or s i 0 ∷ []) (drop (suc i) s))
       ∙ value_append v (digits_of (get_or s i 0 ∷ [])) (digits_of (drop (suc i) s)))
 
@@ -51,7 +51,7 @@ module _ (v : ℕ) (s : List ℕ) (i : ℕ) where
   -- up to place i
   pub value_to : i < length s → value_from v (digits_of (take (i + 1) s)) ≡ value_from (value_from v (digits_of (take i s))) (digits_of (get_or s i 0 ∷ []))
   value_to h =
-      rw (add_one, take-suc s i 0 h)
+      rw (add-one, take-suc s i 0 h)
       (ap (value_from v) (digits_append (take i s) (get_or s i 0 ∷ []))
       ∙ value_append v (digits_of (take i s)) (digits_of (get_or s i 0 ∷ [])))
 

@@ -2,6 +2,8 @@
 //
 // One scan serves every field: it finds the first byte that a class does not permit. A description, the longest place
 // of a wage line, is first tested as a whole by `all_described`.
+#![tactic(auto)]
+
 ghost use Rattle.std.specs.Prelude.{◌≡◌, ◌&&◌, ℕ, leb, take};
 ghost use Rattle.text.specs.Digits.{two_digits};
 ghost use Rattle.text.specs.Bytes.{first_bad, bytes_verdict, all_of, trimmed, count_of, same};
@@ -10,7 +12,7 @@ ghost use Rattle.classes.specs.Classes.{permits};
 use classes::Class;
 
 // Where a scan stopped.
-#[derive(Drop)]
+#[derive(Clone, Copy)]
 pub enum Found {
     At(usize),
     Nothing,
@@ -18,7 +20,7 @@ pub enum Found {
 
 // A part of lent bytes: where it begins, and how many bytes it has.
 #[repr(C)]
-#[derive(Drop)]
+#[derive(Clone, Copy)]
 pub struct Part {
     pub start: usize,
     pub length: usize,

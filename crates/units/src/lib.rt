@@ -1,16 +1,18 @@
 // Cents and lipa, two units that no function adds, and lipa in cents at the fixed 7.53450 kuna for a euro.
 //
 // Document 02, W1: "Lipa and cents are two units and are never added."
+#![tactic(auto)]
+
 ghost use Rattle.units.specs.Units.{Nearest};
 
 // An amount in cents: hundredths of a euro.
-#[derive(Drop)]
+#[derive(Clone, Copy)]
 pub struct Cents {
     pub number: u64,
 }
 
 // An amount in lipa: hundredths of a kuna.
-#[derive(Drop)]
+#[derive(Clone, Copy)]
 pub struct Lipa {
     pub number: u64,
 }

@@ -2,6 +2,8 @@
 //
 // 0 refuses nothing, a number below 32 is that refusal, told of the text's first byte, and 32 + i is a 3 at byte i of the text
 // (specs/Verdict.antt). Whoever knows the place makes an answer of it, once.
+#![tactic(auto)]
+
 ghost use Rattle.std.specs.Prelude.{◌≡◌};
 ghost use Rattle.verdict.specs.Verdict.{verdict_byte, verdict_number, answer_of, answer_in};
 

@@ -5,6 +5,8 @@
 // A question is a verb and its fields, divided by bars; second/README.md lists the verbs. From question to question stay a
 // memory, at whose front stands what was written last, the lines kept for a group, the judge's record and a tally. Other
 // verbs are answered by the program `cases`.
+#![tactic(auto)]
+
 use boundary::Told;
 use desk_judge::Ended;
 use desk_record::Record;

@@ -3,6 +3,8 @@
 // Document 01, "The wage file". Each rule answers a verdict, one number, since it does not know where its place stands: 0, or
 // within a field 3 with its byte counted within the place, 5, 6, 11. An IBAN goes by `account::iban_passes` and
 // `account::check_iban`: W7 changes what is behind those names. What only a 309 holds is the crate `order_contents`.
+#![tactic(auto)]
+
 ghost use Rattle.std.specs.Prelude.{◌≡◌, drop};
 ghost use Rattle.verdict.specs.Verdict.{only_if};
 ghost use Rattle.wage_contents.specs.Contents.{tested, among_verdict, oib_place_verdict, employer_verdict, date_verdict, iban_place_verdict, currency_verdict};

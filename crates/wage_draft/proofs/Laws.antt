@@ -1,6 +1,6 @@
 -- Laws of a line being drafted: the fields put at their places; what a rule looks at besides its own field; and what a draft changes and leaves.
 -- Assumes nothing.
-use Rattle.refusal.proofs.Basics.{◌≡◌, refl, sym, ap, ◌∙◌, arith, ℕ, zero, suc, ◌+◌, ◌-◌, ◌≤◌, ◌<◌, length, length-replicate, replicate, take, drop, get_or, drop_of_length-le, eq-eqb, ne_eqb, eqb-true, eqb-false, leb-true, ltb-true, ltb-false, List, [], ◌∷◌, ◌++◌, map, append-nil, Bool, true, false, ◌&&◌, eqb, leb, ltb, sets, drop-cons, drop-length, take-nil, take-take, inr, add_one, both_true}
+use Rattle.refusal.proofs.Basics.{◌≡◌, refl, sym, ap, ◌∙◌, arith, ℕ, zero, suc, ◌+◌, ◌-◌, ◌≤◌, ◌<◌, length, length-replicate, replicate, take, drop, get_or, drop_of_length-le, eq-eqb, ne_eqb, eqb-true, eqb-false, leb-true, ltb-true, ltb-false, List, [], ◌∷◌, ◌++◌, map, append-nil, Bool, true, false, ◌&&◌, eqb, leb, ltb, sets, drop-cons, drop-length, take-nil, take-take, inr, add-one, both_true}
 use Rattle.refusal.specs.Refusal.{none}
 use Rattle.refusal.specs.declared.Place.{Place}
 use Rattle.refusal.specs.declared.Answer.{Answer}
@@ -69,7 +69,7 @@ module _ (day kind : ℕ) (t : LineType) (ps : List Spot) (last k : ℕ) (sizes 
         Left ≡ going_on (placed day kind t (get_or ps k no_spot) (take (end - at) (drop at text)) line).answer (placed day kind t (get_or ps k no_spot) (take (end - at) (drop at text)) line) (drafted day kind t (take (last - (k + 1)) (drop (k + 1) ps)) (fields_of (drop (i + 1) sizes) (drop end text)) (placed day kind t (get_or ps k no_spot) (take (end - at) (drop at text)) line).line)
     left-next =
         let e : last - k ≡ suc (last - (k + 1)) = omega arith in
-        rw (drop-cons ps k no_spot known, e, ended.field, ended.rest, ← (field_from sizes i (drop at text)), ← (fields_on sizes i (drop at text)), ← (add_one k))
+        rw (drop-cons ps k no_spot known, e, ended.field, ended.rest, ← (field_from sizes i (drop at text)), ← (fields_on sizes i (drop at text)), ← (add-one k))
         (drafted-first day kind t (get_or ps k no_spot) (take (last - (k + 1)) (drop (k + 1) ps)) (fields_of (drop i sizes) (drop at text)) line)
 
     -- it was refused: that is the draft

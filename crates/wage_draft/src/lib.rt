@@ -2,6 +2,8 @@
 //
 // Document 01, "The wage file", the writer: "the judge's for the fields, 4 (another length) first in each". A line is
 // drafted in scratch room of 1,002 bytes, so that no refusal touches the caller's.
+#![tactic(auto)]
+
 ghost use Rattle.std.specs.Prelude.{◌≡◌, ◌-◌, get_or, length, take, drop};
 ghost use Rattle.wage_places.specs.Places.{spots, no_spot};
 ghost use Rattle.lent_fields.specs.Fields.{fields_of};

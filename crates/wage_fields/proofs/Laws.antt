@@ -1,6 +1,6 @@
 -- Laws of a line's places: the byte that a verdict tells, answers joined, the places from one up to another, and the first that is refused.
 -- Assumes nothing.
-use Rattle.refusal.proofs.Basics.{◌≡◌, refl, sym, ap, ◌∙◌, arith, ℕ, zero, suc, ◌+◌, ◌-◌, ◌≤◌, ◌<◌, ◌^◌, length, drop, get_or, length-take, get_or-eq_default, leb-true, ltb-true, ltb-false, eqb-true, ne_eqb, List, [], ◌∷◌, Bool, true, false, cond, eqb, leb, ltb, add_one}
+use Rattle.refusal.proofs.Basics.{◌≡◌, refl, sym, ap, ◌∙◌, arith, ℕ, zero, suc, ◌+◌, ◌-◌, ◌≤◌, ◌<◌, ◌^◌, length, drop, get_or, length-take, get_or-eq_default, leb-true, ltb-true, ltb-false, eqb-true, ne_eqb, List, [], ◌∷◌, Bool, true, false, cond, eqb, leb, ltb, add-one}
 use Rattle.refusal.specs.Refusal.{none, refusal_number, refusal_place, answer_number, first_of}
 use Rattle.verdict.specs.Verdict.{verdict_byte, answer_at, Within}
 use Rattle.refusal.specs.declared.Answer.{Answer}
@@ -100,7 +100,7 @@ module _ (day kind : ℕ) (t : LineType) (s : List ℕ) (k last : ℕ) where
   -- the place at k, and those behind it
   range_next : k < last → Rest ≡ first_of (place_answer day kind t (place_at t k) s) (places_from day kind t (spots_from t (k + 1) (last - (k + 1))) s)
   unfolding places_from spots_from
-  range_next h = let e : last - k ≡ suc (last - (k + 1)) = omega arith in rw (e, add_one k)
+  range_next h = let e : last - k ≡ suc (last - (k + 1)) = omega arith in rw (e, add-one k)
 
   -- the line has another size: refused
   pub range_size : k < last → (length s ≡ 1002 → ⊥) → Refused (Size none) ≡ Rest

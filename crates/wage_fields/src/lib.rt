@@ -2,6 +2,8 @@
 //
 // Document 01, "The wage file". The rules are the crates `label_rules`, `group_rules` and `order_rules`; where the places
 // stand is the crate `wage_places`. A rule answers a verdict, one number; only the place that is refused makes an answer of it.
+#![tactic(auto)]
+
 ghost use Rattle.std.specs.Prelude.{◌≡◌, get_or, ◌+◌, ◌-◌, ◌<◌, ◌^◌};
 ghost use Rattle.verdict.specs.Verdict.{verdict_byte, answer_at};
 ghost use Rattle.wage_places.specs.Places.{spots, no_spot};

@@ -2,6 +2,8 @@
 //
 // Document 01, "The wage file": a file gives the answer of its 1,002-byte pieces, one by one. The scan over its lines is
 // left at the first refusal, which the record holds with its place.
+#![tactic(auto)]
+
 ghost use Rattle.std.specs.Prelude.{◌≡◌};
 ghost use Rattle.wage_line.specs.Pieces.{pieces};
 ghost use Rattle.judge.specs.Judge.{steps};

@@ -1,6 +1,8 @@
 // One line of the wage file: its size, ends and type, a place of it by field number, and the lines of a file.
 //
 // Document 01, "The wage file". Where the places stand is the crate `wage_places`.
+#![tactic(auto)]
+
 ghost use Rattle.std.specs.Prelude.{◌≡◌, length, take, drop};
 ghost use Rattle.wage_line.specs.Pieces.{next_piece};
 ghost use Rattle.wage_line.specs.Line.{ends_right, wrong_type, type_from, typed_of, place_of};
@@ -9,7 +11,7 @@ use refusal::{Place, Refusal};
 use wage_places::{LineType, Spot};
 
 // A line's type, or why it has none.
-#[derive(Drop)]
+#[derive(Clone, Copy)]
 pub enum Typed {
     Line(LineType),
     Refused(Refusal),

@@ -2,6 +2,8 @@
 //
 // Document 01, "The wage file", the writer of a 301: "1 if the lent lines are not whole, 10 if there are none, 12 above
 // 99,999, then the first refusal in them". The scan over the lines is left at the first refusal.
+#![tactic(auto)]
+
 ghost use Rattle.std.specs.Prelude.{◌≡◌, ◌/◌};
 ghost use Rattle.wage_line.specs.Pieces.{pieces};
 ghost use Rattle.wage_orders.specs.Orders.{orders_from, group_orders};

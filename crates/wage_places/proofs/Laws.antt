@@ -1,6 +1,6 @@
 -- Laws of places: of tables, of the search by field number, and of the bytes of a place.
 -- Assumes nothing.
-use Rattle.refusal.proofs.Basics.{◌≡◌, sym, ap, ◌∙◌, arith, ℕ, zero, suc, ◌+◌, ◌-◌, ◌≤◌, ◌<◌, length, take, drop, get_or, length-drop, drop_of_length-le, get_or-eq_default, eq-eqb, ne_eqb, List, [], ◌∷◌, Bool, true, false, cond, ◌&&◌, eqb, drop-cons, take_all, take-nil, length-take-le, add_one, both_true}
+use Rattle.refusal.proofs.Basics.{◌≡◌, sym, ap, ◌∙◌, arith, ℕ, zero, suc, ◌+◌, ◌-◌, ◌≤◌, ◌<◌, length, take, drop, get_or, length-drop, drop_of_length-le, get_or-eq_default, eq-eqb, ne_eqb, List, [], ◌∷◌, Bool, true, false, cond, ◌&&◌, eqb, drop-cons, take_all, take-nil, length-take-le, add-one, both_true}
 use Rattle.text.proofs.Laws.{to_the_end}
 use Rattle.wage_places.specs.declared.Spot.{Spot}
 use Rattle.wage_places.specs.Places.{no_spot, spot_in, part_at}
@@ -36,7 +36,7 @@ module _ (n : ℕ) (ps : List Spot) (k : ℕ) where
   -- the place k is of another field
   pub find_on : (p : Spot) → k < length ps → p ≡ get_or ps k no_spot → (p.field ≡ n → ⊥) → spot_in n (drop k ps) ≡ spot_in n (drop (k + 1) ps)
   unfolding spot_in
-  find_on p h e g = rw (drop-cons ps k no_spot h, add_one k, ← e, ne_eqb n p.field (λ (f : n ≡ p.field). g (sym f)))
+  find_on p h e g = rw (drop-cons ps k no_spot h, add-one k, ← e, ne_eqb n p.field (λ (f : n ≡ p.field). g (sym f)))
 
   -- the place k is of field n
   pub find_stops : (p : Spot) → k < length ps → p ≡ get_or ps k no_spot → p.field ≡ n → p ≡ spot_in n (drop k ps)
@@ -105,4 +105,4 @@ module _ (f : Spot → Spot → Bool) where
   pair_at [] e k h = absurd (omega arith)
   pair_at (p ∷ []) e k h = absurd (omega arith)
   pair_at (p ∷ (q ∷ ps)) e zero h = (both_true (f p q) (each_pair (q ∷ ps)) e).0
-  pair_at (p ∷ (q ∷ ps)) e (suc k) h = rw (add_one (suc k)) (rw (add_one k) at (pair_at (q ∷ ps) (both_true (f p q) (each_pair (q ∷ ps)) e).1 k (omega arith)))
+  pair_at (p ∷ (q ∷ ps)) e (suc k) h = rw (add-one (suc k)) (rw (add-one k) at (pair_at (q ∷ ps) (both_true (f p q) (each_pair (q ∷ ps)) e).1 k (omega arith)))

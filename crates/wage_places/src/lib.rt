@@ -1,11 +1,13 @@
 // The places of a wage line: where each stands, by its order or its field's number, and its bytes.
 //
 // Document 01, "The wage file", with source 004's layout tables. What a place must hold is the crate `wage_contents`.
+#![tactic(auto)]
+
 ghost use Rattle.std.specs.Prelude.{◌≡◌, get_or, length};
 ghost use Rattle.wage_places.specs.Places.{no_spot, label_spots, group_spots, order_spots, spots, spot_of, part_at};
 
 // The types of line: 300, 301, 309, 399.
-#[derive(Drop)]
+#[derive(Clone, Copy)]
 pub enum LineType {
     Label,
     Group,
@@ -14,7 +16,7 @@ pub enum LineType {
 }
 
 // A place of a line: its field's number, its first byte, and how many bytes it has.
-#[derive(Drop)]
+#[derive(Clone, Copy)]
 pub struct Spot {
     pub field: usize,
     pub start: usize,

@@ -1,6 +1,8 @@
 // What the program `wagefile` prints, put into lent room: one line, and the day that its input's first line tells.
 //
 // Document 01, "Wet slips".
+#![tactic(auto)]
+
 ghost use Rattle.std.specs.Prelude.{◌≡◌};
 ghost use Rattle.printed.specs.Printed.{Puts};
 ghost use Rattle.condition.specs.declared.Ending.TheVariants.{Accepted};

@@ -3,6 +3,8 @@
 // Document 01, "The wage file". The fields are lent one behind the other in one text, with the size of each: sizes
 // that are together not the text's are refused with 1. A line is drafted in scratch room and judged there by the judge's own
 // rules; only a right one reaches the lent room.
+#![tactic(auto)]
+
 ghost use Rattle.std.specs.Prelude.{◌≡◌, length, replicate};
 ghost use Rattle.refusal.specs.Refusal.{first_of};
 ghost use Rattle.wage_places.specs.Places.{spots};

@@ -4,11 +4,13 @@
 // What is written is `filePrinted` of what was read (wage_printed/specs/FilePrinted.antt); where a read fails it is nothing,
 // and standard error has a line. A file of any size is read 64 lines at a time into one buffer; `printed-in-parts`
 // (wage_printed/proofs/Theorems.antt) says that this prints the line of the whole file.
+#![tactic(auto)]
+
 use condition::{Ending, Judge};
 use text::front;
 
 // The record after a read, whether there may be more, and whether the read failed.
-#[derive(Drop)]
+#[derive(Clone, Copy)]
 struct Progress {
     judge: Judge,
     more: bool,

@@ -1,6 +1,8 @@
 // Wet slips: the fillings of an IBAN and of a reference that the rules accept (document 01, "Wet slips").
 //
 // The listing itself is that of `fillings`, over any rule; here stand the two rules, and the refusals before it.
+#![tactic(auto)]
+
 ghost use Rattle.std.specs.Prelude.{◌≡◌, ◌≤◌, length};
 ghost use Rattle.text.specs.Bytes.{marks};
 ghost use Rattle.account.specs.Answers.{is_iban};

@@ -1,13 +1,15 @@
 // What the programs share: standard input read, bytes and numbers written.
 //
 // What is read and written cannot be said in a contract (docs/DECISIONS.md): all are safe and end.
+#![tactic(auto)]
+
 use libc::{STDERR_FILENO, STDIN_FILENO, STDOUT_FILENO};
 
 // ---------------------------------------------------------------------------
 // Reading
 
 // What was read: how many bytes stand at the front of the buffer, and whether a read failed.
-#[derive(Drop)]
+#[derive(Clone, Copy)]
 pub struct Got {
     pub size: usize,
     pub failed: bool,

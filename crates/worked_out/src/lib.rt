@@ -2,6 +2,8 @@
 //
 // Document 01, "The wage file", the writer: "a 301 from its fields and its group's lent 309 lines, whose number and sum it
 // works out".
+#![tactic(auto)]
+
 ghost use Rattle.std.specs.Prelude.{◌≡◌, ◌/◌, ◌<◌, length};
 ghost use Rattle.sums.specs.Sums.{sum_of};
 ghost use Rattle.wage_line.specs.Pieces.{pieces};

@@ -1,5 +1,5 @@
 -- `account::check_iban` meets its contract: each return is the chain's answer by the tests that led there. Assumes nothing.
-use Rattle.refusal.proofs.Basics.{refl, sym, ◌∙◌, needs, left, and_second}
+use Rattle.refusal.proofs.Basics.{refl, sym, ◌∙◌, rules, left, and_second}
 use Rattle.verdict.proofs.Verdicts.{failed, met}
 use Rattle.account.proofs.Theorems.{iban_accepted_exactly}
 use Rattle.account.proofs.check_iban.Statement.{statement}
@@ -17,4 +17,4 @@ returns-3 : tie.Need-returns-3
 returns-3 c = failed _ 5 _ (sym c.before.is-iban-formed.ensures ∙ c.if2.false) refl
 
 pub check-iban-spec : {M : Type 1} → statement M
-check-iban-spec = tie.close (tie.spec (λ c κs. search needs) returns (λ c κs. search needs) returns-2 returns-3)
+check-iban-spec = tie.close (tie.spec (λ c κs. search rules) returns (λ c κs. search rules) returns-2 returns-3)

@@ -1,6 +1,6 @@
 -- `account::iban` meets its contract: of an IBAN nothing is refused; else each return is the chain's answer by the tests that led there.
 -- Assumes nothing.
-use Rattle.refusal.proofs.Basics.{refl, sym, ◌∙◌, needs, ne_eqb, eq-eqb}
+use Rattle.refusal.proofs.Basics.{refl, sym, ◌∙◌, rules, ne_eqb, eq-eqb}
 use Rattle.verdict.proofs.Verdicts.{refused, passed, failed, met}
 use Rattle.account.proofs.Theorems.{iban_accepted_exactly, iban_field_exactly}
 use Rattle.account.proofs.iban.Statement.{statement}
@@ -19,4 +19,4 @@ returns-4 : tie.Need-returns-4
 returns-4 c = passed _ _ _ (sym c.before.before.judge.ensures ∙ c.before.if2.false) (met _ 4 _ _ (eq-eqb _ 21 c.if3.false) c.before.before.before.before.check-iban.ensures)
 
 pub iban-spec : {M : Type 1} → statement M
-iban-spec = tie.close (tie.spec (λ c κs. search needs) returns (λ c κs. search needs) returns-2 returns-3 returns-4)
+iban-spec = tie.close (tie.spec (λ c κs. search rules) returns (λ c κs. search rules) returns-2 returns-3 returns-4)

@@ -1,5 +1,5 @@
 -- `account::iban_passes` meets its contract: the form decides first, then the check digits, then the number, taken in runs. Assumes nothing.
-use Rattle.refusal.proofs.Basics.{◌≡◌, sym, ◌∙◌, needs, arith, length, take, drop, length-take, not-true, not-false, true, and_first, and_second}
+use Rattle.refusal.proofs.Basics.{◌≡◌, sym, ◌∙◌, rules, arith, length, take, drop, length-take, not-true, not-false, true, and_first, and_second}
 use Rattle.text.specs.Digits.{value_of}
 use Rattle.sums.proofs.Theorems.{number_of_all}
 use Rattle.account.specs.Account.{check_digits, iban_formed}
@@ -33,13 +33,13 @@ run-over-requires : tie.Need-run-over-requires
 run-over-requires c κs =
     let s = c.before.before.before.before.before.before.before.before.args.s.now in
     let f = formed c.before.before.before.before.before in
-    search (needs, run_digits_lem s f, run_few s f)
+    search (rules, run_digits_lem s f, run_few s f)
 
 run-over-requires-2 : tie.Need-run-over-requires-2
 run-over-requires-2 c κs =
     let s = c.before.before.before.before.before.before.before.before.before.before.args.s.now in
     let f = formed c.before.before.before.before.before.before.before in
-    search (needs, run_digits_lem s f, run_few s f)
+    search (rules, run_digits_lem s f, run_few s f)
 
 returns-4 : tie.Need-returns-4
 returns-4 c =
@@ -51,18 +51,18 @@ returns-4 c =
 pub iban-passes-spec : {M : Type 1} → statement M
 iban-passes-spec =
     tie.close (tie.spec
-    (λ c κs. search needs)
+    (λ c κs. search rules)
     returns
-    (λ c. search needs) (λ c. search needs)
+    (λ c. search rules) (λ c. search rules)
     (λ c. omega (arith, long c))
-    (λ c κs. search needs)
+    (λ c κs. search rules)
     returns-2
     returns-3
-    (λ c. search needs) (λ c. search needs)
+    (λ c. search rules) (λ c. search rules)
     (λ c. omega (arith, long c.before.before.before.before))
     run-over-requires
-    (λ c. search needs) (λ c. search needs)
+    (λ c. search rules) (λ c. search rules)
     (λ c. omega (arith, long c.before.before.before.before.before.before))
     run-over-requires-2
-    (λ c. search needs) (λ c. search needs) (λ c. search needs) (λ c. search needs)
+    (λ c. search rules) (λ c. search rules) (λ c. search rules) (λ c. search rules)
     returns-4)

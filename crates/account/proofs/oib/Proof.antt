@@ -1,5 +1,5 @@
 -- `account::oib` meets its contract: each return is the chain's answer by the tests that led there. Assumes nothing.
-use Rattle.refusal.proofs.Basics.{◌≡◌, refl, sym, ◌∙◌, needs, ℕ, ne_eqb, eq-eqb, taken, left}
+use Rattle.refusal.proofs.Basics.{◌≡◌, refl, sym, ◌∙◌, rules, ℕ, ne_eqb, eq-eqb, taken, left}
 use Rattle.verdict.specs.Verdict.{only_if}
 use Rattle.verdict.proofs.Verdicts.{refused, passed, failed, met}
 use Rattle.account.specs.Account.{oib_passes}
@@ -26,4 +26,4 @@ returns-4 c = checked c.before 6 (left _ _ _ _ (sym c.before.oib-passes.ensures 
 
 pub oib-spec : {M : Type 1} → statement M
 oib-spec =
-    tie.close (tie.spec (λ c κs. search needs) returns returns-2 (λ c κs. search needs) returns-3 returns-4)
+    tie.close (tie.spec (λ c κs. search rules) returns returns-2 (λ c κs. search rules) returns-3 returns-4)

@@ -1,6 +1,6 @@
 -- `account::run_over` meets its contract. The loop's invariant: the sum leaves what the number of the digits from here on does, and the
 -- place before them is known. Assumes nothing.
-use Rattle.refusal.proofs.Basics.{◌≡◌, needs, arith, ◌≤◌, ◌<◌, ◌+◌, ◌-◌, ◌*◌, ◌^◌, ◌%◌, length, drop, get_or, mul-le-mul_right, mod-lt}
+use Rattle.refusal.proofs.Basics.{◌≡◌, rules, arith, ◌≤◌, ◌<◌, ◌+◌, ◌-◌, ◌*◌, ◌^◌, ◌%◌, length, drop, get_or, mul-le-mul_right, mod-lt}
 use Rattle.classes.proofs.Laws.{digit_bounds}
 use Rattle.text.specs.Digits.{digits_of, value_of}
 use Rattle.account.proofs.Runs.{digit_at, run_starts, run_on, place_on}
@@ -60,13 +60,13 @@ run-over-spec =
     invariant-loop
     decreases-loop
     loop-holds
-    (λ c. search needs) (λ c. search needs)
+    (λ c. search rules) (λ c. search rules)
     (λ c. omega (arith, c.shared-slice-known.given (c.before.before.loop.i - 1)))
     (λ c. (small c).0)
     (λ c. omega (arith, small c))
     (λ c. omega (arith, small c))
     (λ c. omega (arith, small c))
     (λ c. omega (arith, c.before.before.before.requires))
-    (λ c. search needs)
+    (λ c. search rules)
     loop-again
     returns)

@@ -1,5 +1,5 @@
 -- `account_form::account_or_iban` meets its contract: a text of no byte does not begin with a digit. Assumes nothing.
-use Rattle.refusal.proofs.Basics.{◌≡◌, refl, sym, ◌∙◌, needs, arith, ℕ, length, get_or, List, [], ◌∷◌, false, left, entered}
+use Rattle.refusal.proofs.Basics.{◌≡◌, refl, sym, ◌∙◌, rules, arith, ℕ, length, get_or, List, [], ◌∷◌, false, left, entered}
 use Rattle.classes.specs.Classes.{is_digit}
 use Rattle.account_form.proofs.account_or_iban.Statement.{statement}
 use Rattle.account_form.proofs.account_or_iban.Tie as tie
@@ -20,9 +20,9 @@ returns-3 c = left _ _ _ _ (sym c.before.before.is_digit.ensures ∙ c.before.if
 pub account-or-iban-spec : {M : Type 1} → statement M
 account-or-iban-spec =
     tie.close (tie.spec
-    (λ c κs. search needs)
+    (λ c κs. search rules)
     returns
-    (λ c. search needs) (λ c κs. search needs) (λ c κs. search needs)
+    (λ c. search rules) (λ c κs. search rules) (λ c κs. search rules)
     returns-2
-    (λ c κs. search needs)
+    (λ c κs. search rules)
     returns-3)

@@ -1,5 +1,5 @@
 -- `account_form::is_formed` meets its contract: each return is the definition's choice on the tests that led there. Assumes nothing.
-use Rattle.refusal.proofs.Basics.{sym, ap, ◌∙◌, needs, ne_eqb, eq-eqb, not-true, not-false, and_first, and_second}
+use Rattle.refusal.proofs.Basics.{sym, ap, ◌∙◌, rules, ne_eqb, eq-eqb, not-true, not-false, and_first, and_second}
 use Rattle.text.specs.Bytes.{all_of}
 use Rattle.classes.specs.declared.Class.TheVariants.{Digits}
 use Rattle.text.proofs.Laws.{to_the_end}
@@ -27,9 +27,9 @@ pub is-formed-spec : {M : Type 1} → statement M
 is-formed-spec =
     tie.close (tie.spec
     returns
-    (λ c. search needs)
+    (λ c. search rules)
     returns-2
-    (λ c. search needs) (λ c. search needs) (λ c. search needs) (λ c κs. search needs)
+    (λ c. search rules) (λ c. search rules) (λ c. search rules) (λ c κs. search rules)
     returns-3
-    (λ c. search needs) (λ c. search needs) (λ c. search needs) (λ c κs. search needs)
+    (λ c. search rules) (λ c. search rules) (λ c. search rules) (λ c κs. search rules)
     returns-4)

@@ -1,5 +1,5 @@
 -- `account_form::judge` meets its contract: each return is the chain's answer by the tests that led there. Assumes nothing.
-use Rattle.refusal.proofs.Basics.{refl, sym, ◌∙◌, needs, ne_eqb, eq-eqb}
+use Rattle.refusal.proofs.Basics.{refl, sym, ◌∙◌, rules, ne_eqb, eq-eqb}
 use Rattle.verdict.proofs.Verdicts.{refused, passed, failed, met}
 use Rattle.account_form.proofs.judge.Statement.{statement}
 use Rattle.account_form.proofs.judge.Tie as tie
@@ -21,4 +21,4 @@ returns-4 c =
     (met _ 4 _ _ (eq-eqb _ 18 c.before.before.if2.false) (rw (sym c.before.is-formed.ensures ∙ c.if3.false)))
 
 pub judge-spec : {M : Type 1} → statement M
-judge-spec = tie.close (tie.spec (λ c κs. search needs) returns returns-2 (λ c κs. search needs) returns-3 returns-4)
+judge-spec = tie.close (tie.spec (λ c κs. search rules) returns returns-2 (λ c κs. search rules) returns-3 returns-4)

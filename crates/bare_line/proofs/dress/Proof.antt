@@ -1,5 +1,5 @@
 -- `wage_draft::dress` meets its contract. Assumes nothing.
-use Rattle.refusal.proofs.Basics.{needs}
+use Rattle.refusal.proofs.Basics.{rules}
 use Rattle.bare_line.proofs.dress.Statement.{statement}
 use Rattle.bare_line.proofs.dress.Tie as tie
 
@@ -9,5 +9,5 @@ returns c = rw (← c.before.before.before.before.before.before.before.before.be
 pub dress-spec : {M : Type 1} → statement M
 dress-spec =
     tie.close (tie.spec
-    (λ c κs. search needs) (λ c κs. search needs) (λ c. search needs) (λ c κs. search needs) (λ c. search needs)
+    (λ c κs. search rules) (λ c κs. search rules) (λ c. search rules) (λ c κs. search rules) (λ c. search rules)
     returns)

@@ -1,5 +1,5 @@
 -- `wage_draft::put_type` meets its contract. Assumes nothing.
-use Rattle.refusal.proofs.Basics.{needs}
+use Rattle.refusal.proofs.Basics.{rules}
 use Rattle.wage_line.specs.Line.{type_text}
 use Rattle.bare_line.proofs.put_type.Statement.{statement}
 use Rattle.bare_line.proofs.put_type.Tie as tie
@@ -23,13 +23,13 @@ returns-4 c = rw c.before.before.before.before.before.enum-told4.given.1 c.befor
 pub put-type-spec : {M : Type 1} → statement M
 put-type-spec =
     tie.close (tie.spec
-    (λ c. search needs) (λ c. search needs) (λ c κs. search needs) (λ c. search needs) (λ c. search needs) (λ c κs. search needs)
-    (λ c. search needs) (λ c. search needs) (λ c κs. search needs) (λ c. search needs) (λ c. search needs) (λ c κs. search needs)
-    (λ c. search needs)
+    (λ c. search rules) (λ c. search rules) (λ c κs. search rules) (λ c. search rules) (λ c. search rules) (λ c κs. search rules)
+    (λ c. search rules) (λ c. search rules) (λ c κs. search rules) (λ c. search rules) (λ c. search rules) (λ c κs. search rules)
+    (λ c. search rules)
     returns
-    (λ c. search needs)
+    (λ c. search rules)
     returns-2
-    (λ c. search needs)
+    (λ c. search rules)
     returns-3
-    (λ c. search needs)
+    (λ c. search rules)
     returns-4)

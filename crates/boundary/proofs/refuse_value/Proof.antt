@@ -1,5 +1,5 @@
 -- `boundary::refuse_value` meets its contract. Assumes nothing.
-use Rattle.refusal.proofs.Basics.{needs}
+use Rattle.refusal.proofs.Basics.{rules}
 use Rattle.boundary.proofs.refuse_value.Statement.{statement}
 use Rattle.boundary.proofs.refuse_value.Tie as tie
 
@@ -7,4 +7,4 @@ returns : tie.Need-returns
 returns c = rw c.refuse.ensures
 
 pub refuse-value-spec : {M : Type 1} → statement M
-refuse-value-spec = tie.close (tie.spec (λ c κs. search needs) returns)
+refuse-value-spec = tie.close (tie.spec (λ c κs. search rules) returns)

@@ -1,5 +1,5 @@
 -- `boundary::tell` meets its contract. Assumes nothing.
-use Rattle.refusal.proofs.Basics.{needs}
+use Rattle.refusal.proofs.Basics.{rules}
 use Rattle.boundary.specs.Told.{told_of}
 use Rattle.boundary.proofs.tell.Statement.{statement}
 use Rattle.boundary.proofs.tell.Tie as tie
@@ -14,4 +14,4 @@ returns-2 c = rw c.before.before.a.given.1 c.refuse.ensures
 
 pub tell-spec : {M : Type 1} → statement M
 tell-spec =
-    tie.close (tie.spec (λ c. search needs) (λ c κs. search needs) (λ c. search needs) (λ c κs. search needs) returns returns-2)
+    tie.close (tie.spec (λ c. search rules) (λ c κs. search rules) (λ c. search rules) (λ c κs. search rules) returns returns-2)

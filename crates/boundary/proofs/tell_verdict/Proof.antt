@@ -1,5 +1,5 @@
 -- `boundary::tell_verdict` meets its contract. Assumes nothing.
-use Rattle.refusal.proofs.Basics.{needs}
+use Rattle.refusal.proofs.Basics.{rules}
 use Rattle.boundary.proofs.tell_verdict.Statement.{statement}
 use Rattle.boundary.proofs.tell_verdict.Tie as tie
 
@@ -7,4 +7,4 @@ returns : tie.Need-returns
 returns c = rw (c.tell.ensures, c.before.answer-in.ensures)
 
 pub tell-verdict-spec : {M : Type 1} → statement M
-tell-verdict-spec = tie.close (tie.spec (λ c κs. search needs) (λ c κs. search needs) returns)
+tell-verdict-spec = tie.close (tie.spec (λ c κs. search rules) (λ c κs. search rules) returns)

@@ -1,6 +1,6 @@
 -- `characters::is_pair` meets its contract: each return follows from the tests that led there. Assumes nothing.
 use Rattle.characters.proofs.Laws.{pair_c4, pair_c5, no_pair}
-use Rattle.refusal.proofs.Basics.{needs}
+use Rattle.refusal.proofs.Basics.{rules}
 use Rattle.characters.proofs.is_pair.Statement.{statement}
 use Rattle.characters.proofs.is_pair.Tie as tie
 
@@ -15,4 +15,4 @@ returns-3 c = no_pair c.before.before.args.b c.before.before.args.c c.before.if1
 
 pub is-pair-spec : {M : Type 1} → statement M
 is-pair-spec =
-    tie.close (tie.spec (λ c κs. search needs) returns (λ c κs. search needs) returns-2 returns-3)
+    tie.close (tie.spec (λ c κs. search rules) returns (λ c κs. search rules) returns-2 returns-3)

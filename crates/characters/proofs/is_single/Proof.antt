@@ -1,5 +1,5 @@
 -- `characters::is_single` meets its contract: each return follows from the tests that led there. Assumes nothing.
-use Rattle.refusal.proofs.Basics.{sym, ◌∙◌, needs, or_first, or_second}
+use Rattle.refusal.proofs.Basics.{sym, ◌∙◌, rules, or_first, or_second}
 use Rattle.characters.proofs.is_single.Statement.{statement}
 use Rattle.characters.proofs.is_single.Tie as tie
 
@@ -26,11 +26,11 @@ returns-4 c =
 pub is-single-spec : {M : Type 1} → statement M
 is-single-spec =
     tie.close (tie.spec
-    (λ c κs. search needs)
+    (λ c κs. search rules)
     returns
-    (λ c κs. search needs)
+    (λ c κs. search rules)
     returns-2
-    (λ c κs. search needs)
+    (λ c κs. search rules)
     returns-3
-    (λ c κs. search needs)
+    (λ c κs. search rules)
     returns-4)

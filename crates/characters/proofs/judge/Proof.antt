@@ -1,5 +1,5 @@
 -- `characters::judge` meets its contract. The loop's invariant: the bytes before `i` are `n` permitted characters. Assumes nothing.
-use Rattle.refusal.proofs.Basics.{sym, ◌∙◌, needs, arith, ◌-◌, length, not-true, not-false}
+use Rattle.refusal.proofs.Basics.{sym, ◌∙◌, rules, arith, ◌-◌, length, not-true, not-false}
 use Rattle.characters.proofs.Laws.{Passed, passed_none, passed_single, passed_pair, passed_wrong, passed_all, wrong_told, long_told, short_accepted}
 use Rattle.characters.proofs.judge.Statement.{statement}
 use Rattle.characters.proofs.judge.Tie as tie
@@ -50,9 +50,9 @@ judge-spec =
     invariant-loop
     decreases-loop
     loop-holds
-    (λ c. omega arith) (λ c κs. search needs) (λ c. omega arith) (λ c. omega arith) (λ c. omega arith)
+    (λ c. omega arith) (λ c κs. search rules) (λ c. omega arith) (λ c. omega arith) (λ c. omega arith)
     loop-again
-    (λ c. omega arith) (λ c. omega arith) (λ c κs. search needs) (λ c. omega arith)
+    (λ c. omega arith) (λ c. omega arith) (λ c κs. search rules) (λ c. omega arith)
     returns
     (λ c. omega arith) (λ c. omega arith) (λ c. omega arith)
     loop-again-2

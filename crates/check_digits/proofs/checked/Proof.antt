@@ -1,5 +1,5 @@
 -- `check_digits::checked` meets its contract: each return is the definition's choice on the tests that led there. Assumes nothing.
-use Rattle.refusal.proofs.Basics.{refl, sym, ◌∙◌, needs, not-true, not-false, taken, left, entered}
+use Rattle.refusal.proofs.Basics.{refl, sym, ◌∙◌, rules, not-true, not-false, taken, left, entered}
 use Rattle.check_digits.proofs.checked.Statement.{statement}
 use Rattle.check_digits.proofs.checked.Tie as tie
 
@@ -28,11 +28,11 @@ returns-4 c =
 pub checked-spec : {M : Type 1} → statement M
 checked-spec =
     tie.close (tie.spec
-    (λ c κs. search needs) (λ c κs. search needs)
+    (λ c κs. search rules) (λ c κs. search rules)
     returns
-    (λ c κs. search needs) (λ c κs. search needs)
+    (λ c κs. search rules) (λ c κs. search rules)
     returns-2
-    (λ c κs. search needs)
+    (λ c κs. search rules)
     returns-3
-    (λ c κs. search needs)
+    (λ c κs. search rules)
     returns-4)

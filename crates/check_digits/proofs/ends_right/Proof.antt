@@ -1,5 +1,5 @@
 -- `check_digits::ends_right` meets its contract: the part before the last byte is what its check digit is made of. Assumes nothing.
-use Rattle.refusal.proofs.Basics.{sym, ap, needs, arith, ℕ, ◌+◌, ◌-◌, length, take, get_or, lt-ltb, le-ltb, eqb, length-take-le, and_first, and_second}
+use Rattle.refusal.proofs.Basics.{sym, ap, rules, arith, ℕ, ◌+◌, ◌-◌, length, take, get_or, lt-ltb, le-ltb, eqb, length-take-le, and_first, and_second}
 use Rattle.text.specs.Digits.{digits_of}
 use Rattle.check_digits.specs.CheckDigit.{passes}
 use Rattle.check_digits.proofs.Theorems.{check_digit_small}
@@ -29,8 +29,8 @@ pub ends-right-spec : {M : Type 1} → statement M
 ends-right-spec =
     tie.close (tie.spec
     returns
-    (λ c. search needs)
+    (λ c. search rules)
     slice-aggregate-check-digit
-    (λ c κs. search needs) (λ c. search needs)
+    (λ c κs. search rules) (λ c. search rules)
     add-result
     returns-2)

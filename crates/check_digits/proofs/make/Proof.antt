@@ -1,5 +1,5 @@
 -- `check_digits::make` meets its contract: each return is the definition's choice on the tests that led there. Assumes nothing.
-use Rattle.refusal.proofs.Basics.{refl, sym, ap, ◌∙◌, needs, not-true, not-false, left, entered}
+use Rattle.refusal.proofs.Basics.{refl, sym, ap, ◌∙◌, rules, not-true, not-false, left, entered}
 use Rattle.check_digits.specs.declared.Made.TheVariants.{Digit}
 use Rattle.check_digits.proofs.make.Statement.{statement}
 use Rattle.check_digits.proofs.make.Tie as tie
@@ -22,9 +22,9 @@ returns-3 c =
 pub make_spec : {M : Type 1} → statement M
 make_spec =
     tie.close (tie.spec
-    (λ c κs. search needs) (λ c κs. search needs)
+    (λ c κs. search rules) (λ c κs. search rules)
     returns
-    (λ c κs. search needs) (λ c κs. search needs)
+    (λ c κs. search rules) (λ c κs. search rules)
     returns-2
-    (λ c κs. search needs)
+    (λ c κs. search rules)
     returns-3)

@@ -1,5 +1,5 @@
 -- `check_digits::read` meets its contract: the tests say whether the byte is a digit. Assumes nothing.
-use Rattle.refusal.proofs.Basics.{refl, needs, left, entered}
+use Rattle.refusal.proofs.Basics.{refl, rules, left, entered}
 use Rattle.classes.proofs.Laws.{no_digit_below, no_digit_above, digit_between}
 use Rattle.check_digits.proofs.read.Statement.{statement}
 use Rattle.check_digits.proofs.read.Tie as tie
@@ -14,4 +14,4 @@ returns-3 : tie.Need-returns-3
 returns-3 c = entered _ _ _ _ (digit_between c.before.before.before.args.b c.before.before.if1.false c.before.if2.false) c.step.ensures
 
 pub read_spec : {M : Type 1} → statement M
-read_spec = tie.close (tie.spec returns returns-2 (λ c. search needs) (λ c κs. search needs) returns-3)
+read_spec = tie.close (tie.spec returns returns-2 (λ c. search rules) (λ c κs. search rules) returns-3)

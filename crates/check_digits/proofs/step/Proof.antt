@@ -1,5 +1,5 @@
 -- `check_digits::step` meets its contract: each arm says which rule it is. Assumes nothing.
-use Rattle.refusal.proofs.Basics.{needs}
+use Rattle.refusal.proofs.Basics.{rules}
 use Rattle.check_digits.proofs.step.Statement.{statement}
 use Rattle.check_digits.proofs.step.Tie as tie
 
@@ -11,4 +11,4 @@ returns-2 c = rw (c.before.enum-told2.given.1, c.carried.ensures)
 
 pub step_spec : {M : Type 1} → statement M
 step_spec =
-    tie.close (tie.spec (λ c. search needs) (λ c κs. search needs) (λ c. search needs) (λ c κs. search needs) returns returns-2)
+    tie.close (tie.spec (λ c. search rules) (λ c κs. search rules) (λ c. search rules) (λ c κs. search rules) returns returns-2)

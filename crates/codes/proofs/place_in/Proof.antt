@@ -1,5 +1,5 @@
 -- `codes::place_in` meets its contract. The loop's invariant: the answer is that of what is left from `i` on. Assumes nothing.
-use Rattle.refusal.proofs.Basics.{◌≡◌, sym, ◌∙◌, needs, arith, ◌≤◌, ◌-◌, length, drop}
+use Rattle.refusal.proofs.Basics.{◌≡◌, sym, ◌∙◌, rules, arith, ◌≤◌, ◌-◌, length, drop}
 use Rattle.text.proofs.Laws.{shifted, shifted_zero}
 use Rattle.codes.specs.Codes.{first_in}
 use Rattle.codes.proofs.Laws.{search_on, search_stops, search_ends}
@@ -39,7 +39,7 @@ place-in-spec =
     invariant-loop
     decreases-loop
     loop-holds
-    (λ c. search needs) (λ c. omega arith) (λ c κs. search needs)
+    (λ c. search rules) (λ c. omega arith) (λ c κs. search rules)
     returns
     (λ c. omega arith) (λ c. omega arith)
     loop-again

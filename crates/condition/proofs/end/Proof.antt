@@ -1,5 +1,5 @@
 -- `judge::end` meets its contract: each return is the definition's choice on the tests that led there. Assumes nothing.
-use Rattle.refusal.proofs.Basics.{sym, ◌∙◌, needs, arith, eq-eqb, ne_eqb}
+use Rattle.refusal.proofs.Basics.{sym, ◌∙◌, rules, arith, eq-eqb, ne_eqb}
 use Rattle.condition.specs.Record.{ended}
 use Rattle.condition.proofs.Laws.{sound_within}
 use Rattle.condition.proofs.end.Statement.{statement}
@@ -27,12 +27,12 @@ returns-4 c = rw (← c.before.before.before.before.is-refused.ensures, c.before
 pub end-spec : {M : Type 1} → statement M
 end-spec =
     tie.close (tie.spec
-    (λ c κs. search needs) (λ c κs. search needs)
+    (λ c κs. search rules) (λ c κs. search rules)
     returns
-    (λ c κs. search needs) (λ c κs. search needs)
+    (λ c κs. search rules) (λ c κs. search rules)
     returns-2
     add-at-line
-    (λ c κs. search needs)
+    (λ c κs. search rules)
     returns-3
-    (λ c κs. search needs)
+    (λ c κs. search rules)
     returns-4)

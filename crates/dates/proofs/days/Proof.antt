@@ -1,5 +1,5 @@
 -- `dates::days` meets its contract: each arm says the month, and the last that it is none of the others. Assumes nothing.
-use Rattle.refusal.proofs.Basics.{sym, ◌∙◌, needs, ne_eqb}
+use Rattle.refusal.proofs.Basics.{sym, ◌∙◌, rules, ne_eqb}
 use Rattle.dates.specs.Dates.{days_of}
 use Rattle.dates.proofs.days.Statement.{statement}
 use Rattle.dates.proofs.days.Tie as tie
@@ -38,4 +38,4 @@ returns-7 c =
 pub days-spec : {M : Type 1} → statement M
 days-spec =
     tie.close
-    (tie.spec (λ c κs. search needs) returns returns-2 returns-3 returns-4 returns-5 returns-6 returns-7)
+    (tie.spec (λ c κs. search rules) returns returns-2 returns-3 returns-4 returns-5 returns-6 returns-7)

@@ -1,5 +1,5 @@
 -- `dates::is_date` meets its contract: each return is the definition's on the tests that led there. Assumes nothing.
-use Rattle.refusal.proofs.Basics.{needs, lt-leb, le-leb}
+use Rattle.refusal.proofs.Basics.{rules, lt-leb, le-leb}
 use Rattle.dates.specs.Dates.{is_date}
 use Rattle.dates.proofs.is_date.Statement.{statement}
 use Rattle.dates.proofs.is_date.Tie as tie
@@ -30,4 +30,4 @@ returns-6 c = simp (le-leb _ _ c.before.before.before.before.before.if1.false, l
 
 pub is-date-spec : {M : Type 1} → statement M
 is-date-spec =
-    tie.close (tie.spec returns returns-2 returns-3 returns-4 returns-5 (λ c κs. search needs) returns-6)
+    tie.close (tie.spec returns returns-2 returns-3 returns-4 returns-5 (λ c κs. search rules) returns-6)

@@ -1,5 +1,5 @@
 -- `desk_checks::lanecockle_check_digits` meets its contract: rule 0, rule 1, and 5 for another. Assumes nothing.
-use Rattle.refusal.proofs.Basics.{needs}
+use Rattle.refusal.proofs.Basics.{rules}
 use Rattle.desk_checks.proofs.Laws.{by_ini, by_mod, by_none}
 use Rattle.desk_checks.proofs.lanecockle_check_digits.Statement.{statement}
 use Rattle.desk_checks.proofs.lanecockle_check_digits.Tie as tie
@@ -14,4 +14,4 @@ returns-3 : tie.Need-returns-3
 returns-3 c = by_none _ _ _ _ _ c.before.before.before.if1.false c.before.before.if2.false (rw (c.refuse.ensures, c.before.nowhere.ensures))
 
 pub lanecockle-check-digits-spec : {M : Type 1} → statement M
-lanecockle-check-digits-spec = tie.close (tie.spec (λ c κs. search needs) (λ c κs. search needs) returns (λ c κs. search needs) (λ c κs. search needs) returns-2 (λ c κs. search needs) (λ c κs. search needs) returns-3)
+lanecockle-check-digits-spec = tie.close (tie.spec (λ c κs. search rules) (λ c κs. search rules) returns (λ c κs. search rules) (λ c κs. search rules) returns-2 (λ c κs. search rules) (λ c κs. search rules) returns-3)

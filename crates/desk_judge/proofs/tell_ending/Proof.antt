@@ -1,5 +1,5 @@
 -- `desk_judge::tell_ending` meets its contract. Assumes nothing.
-use Rattle.refusal.proofs.Basics.{needs}
+use Rattle.refusal.proofs.Basics.{rules}
 use Rattle.desk_judge.specs.Wages.{ended_of}
 use Rattle.desk_judge.proofs.tell_ending.Statement.{statement}
 use Rattle.desk_judge.proofs.tell_ending.Tie as tie
@@ -15,4 +15,4 @@ returns-2 c = rw (c.before.before.before.e2.given.1, c.nothing.ensures, c.before
 pub tell-ending-spec : {M : Type 1} → statement M
 tell-ending-spec =
     tie.close
-    (tie.spec (λ c. search needs) (λ c κs. search needs) (λ c. search needs) (λ c κs. search needs) (λ c κs. search needs) returns returns-2)
+    (tie.spec (λ c. search rules) (λ c κs. search rules) (λ c. search rules) (λ c κs. search rules) (λ c κs. search rules) returns returns-2)

@@ -1,5 +1,5 @@
 -- `desk_ledger::tell` meets its contract: the arm says what the slip is. Assumes nothing.
-use Rattle.refusal.proofs.Basics.{needs}
+use Rattle.refusal.proofs.Basics.{rules}
 use Rattle.desk_ledger.specs.Ledgers.{ledger_told}
 use Rattle.desk_ledger.proofs.tell.Statement.{statement}
 use Rattle.desk_ledger.proofs.tell.Tie as tie
@@ -19,8 +19,8 @@ returns-3 c = rw (c.before.before.slip3.given.1, c.refuse.ensures)
 pub tell-spec : {M : Type 1} → statement M
 tell-spec =
     tie.close (tie.spec
-    (λ c. search needs) (λ c κs. search needs) (λ c. search needs) (λ c κs. search needs) (λ c κs. search needs) (λ c. search needs)
-    (λ c κs. search needs)
+    (λ c. search rules) (λ c κs. search rules) (λ c. search rules) (λ c κs. search rules) (λ c κs. search rules) (λ c. search rules)
+    (λ c κs. search rules)
     returns
     returns-2
     returns-3)

@@ -1,5 +1,5 @@
 -- `desk_record::condition_from` meets its contract: each arm says the number. Assumes nothing.
-use Rattle.refusal.proofs.Basics.{ap, needs, ne_eqb}
+use Rattle.refusal.proofs.Basics.{ap, rules, ne_eqb}
 use Rattle.condition.specs.declared.Condition.TheVariants.{Refused}
 use Rattle.desk_record.proofs.condition_from.Statement.{statement}
 use Rattle.desk_record.proofs.condition_from.Tie as tie
@@ -28,4 +28,4 @@ returns-6 c =
 pub condition-from-spec : {M : Type 1} → statement M
 condition-from-spec =
     tie.close
-    (tie.spec (λ c κs. search needs) returns returns-2 returns-3 returns-4 returns-5 returns-6)
+    (tie.spec (λ c κs. search rules) returns returns-2 returns-3 returns-4 returns-5 returns-6)

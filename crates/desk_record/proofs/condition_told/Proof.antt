@@ -1,5 +1,5 @@
 -- `desk_record::condition_told` meets its contract: each return is the definition's choice on the test. Assumes nothing.
-use Rattle.refusal.proofs.Basics.{needs}
+use Rattle.refusal.proofs.Basics.{rules}
 use Rattle.desk_record.proofs.condition_told.Statement.{statement}
 use Rattle.desk_record.proofs.condition_told.Tie as tie
 
@@ -10,4 +10,4 @@ returns-2 : tie.Need-returns-2
 returns-2 c = rw (← c.before.before.is-refused.ensures, c.before.if1.false, c.accept.ensures)
 
 pub condition-told-spec : {M : Type 1} → statement M
-condition-told-spec = tie.close (tie.spec (λ c κs. search needs) (λ c κs. search needs) (λ c κs. search needs) returns (λ c κs. search needs) returns-2)
+condition-told-spec = tie.close (tie.spec (λ c κs. search rules) (λ c κs. search rules) (λ c κs. search rules) returns (λ c κs. search rules) returns-2)

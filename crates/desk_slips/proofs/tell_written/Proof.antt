@@ -1,5 +1,5 @@
 -- `desk_slips::tell_written` meets its contract. Assumes nothing.
-use Rattle.refusal.proofs.Basics.{needs}
+use Rattle.refusal.proofs.Basics.{rules}
 use Rattle.desk_slips.specs.Slips.{written_of}
 use Rattle.desk_slips.proofs.tell_written.Statement.{statement}
 use Rattle.desk_slips.proofs.tell_written.Tie as tie
@@ -15,6 +15,6 @@ returns-2 c = rw c.before.before.w2.given.1 c.refuse-value.ensures
 pub tell-written-spec : {M : Type 1} → statement M
 tell-written-spec =
     tie.close (tie.spec
-    (λ c. search needs) (λ c κs. search needs) (λ c. search needs) (λ c κs. search needs)
+    (λ c. search rules) (λ c κs. search rules) (λ c. search rules) (λ c κs. search rules)
     returns
     returns-2)

@@ -1,5 +1,5 @@
 -- `desk_standing::tell` meets its contract. Assumes nothing.
-use Rattle.refusal.proofs.Basics.{needs}
+use Rattle.refusal.proofs.Basics.{rules}
 use Rattle.desk_standing.specs.Standings.{standing_told}
 use Rattle.desk_standing.proofs.tell.Statement.{statement}
 use Rattle.desk_standing.proofs.tell.Tie as tie
@@ -9,4 +9,4 @@ unfolding standing_told
 returns c = rw (c.sheet-number.ensures, c.before.tell.ensures)
 
 pub tell-spec : {M : Type 1} → statement M
-tell-spec = tie.close (tie.spec (λ c κs. search needs) (λ c κs. search needs) returns)
+tell-spec = tie.close (tie.spec (λ c κs. search rules) (λ c κs. search rules) returns)

@@ -1,5 +1,5 @@
 -- `desk_standing::tell_slip` meets its contract. Assumes nothing.
-use Rattle.refusal.proofs.Basics.{needs}
+use Rattle.refusal.proofs.Basics.{rules}
 use Rattle.desk_standing.specs.Standings.{written_told}
 use Rattle.desk_standing.proofs.tell_slip.Statement.{statement}
 use Rattle.desk_standing.proofs.tell_slip.Tie as tie
@@ -9,4 +9,4 @@ unfolding written_told
 returns c = rw (c.sheet-number.ensures, c.before.before.tell-written.ensures)
 
 pub tell-slip-spec : {M : Type 1} → statement M
-tell-slip-spec = tie.close (tie.spec (λ c κs. search needs) (λ c κs. search needs) returns)
+tell-slip-spec = tie.close (tie.spec (λ c κs. search rules) (λ c κs. search rules) returns)

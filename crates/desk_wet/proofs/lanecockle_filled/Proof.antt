@@ -1,5 +1,5 @@
 -- `desk_wet::lanecockle_filled` meets its contract: what the call answers is told, and what it leaves is left. Assumes nothing.
-use Rattle.refusal.proofs.Basics.{needs}
+use Rattle.refusal.proofs.Basics.{rules}
 use Rattle.refusal.specs.declared.Answer.{Answer}
 use Rattle.filling.specs.Filling.{filled_by}
 use Rattle.boundary.specs.Told.{told_of}
@@ -11,4 +11,4 @@ returns : tie.Need-returns
 returns c = told-and-left told_of (λ (a : Answer). filled_by a c.before.before.before.before.before.before.before.args.text.now c.before.before.before.before.before.before.before.args.number c.before.before.before.before.before.before.before.args.out.now) _ _ _ _ c.tell.ensures c.before.before.before.filled.ensures
 
 pub lanecockle-filled-spec : {M : Type 1} → statement M
-lanecockle-filled-spec = tie.close (tie.spec (λ c κs. search needs) (λ c κs. search needs) (λ c. search needs) returns)
+lanecockle-filled-spec = tie.close (tie.spec (λ c κs. search rules) (λ c κs. search rules) (λ c. search rules) returns)

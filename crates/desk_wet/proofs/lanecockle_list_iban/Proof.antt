@@ -1,5 +1,5 @@
 -- `desk_wet::lanecockle_list_iban` meets its contract: what the call answers is told, and what it leaves is left. Assumes nothing.
-use Rattle.refusal.proofs.Basics.{needs}
+use Rattle.refusal.proofs.Basics.{rules}
 use Rattle.account.specs.Answers.{is_iban}
 use Rattle.fillings.specs.declared.Listed.{Listed}
 use Rattle.fillings.specs.Answers.{left_by_listing}
@@ -13,4 +13,4 @@ returns : tie.Need-returns
 returns c = told-and-left listed_of (λ (l : Listed). left_by_listing l (fillings is_iban c.before.before.before.before.before.before.before.args.text.now) c.before.before.before.before.before.before.before.args.out.now) _ _ _ _ c.tell-listed.ensures c.before.before.before.list-iban.ensures
 
 pub lanecockle-list-iban-spec : {M : Type 1} → statement M
-lanecockle-list-iban-spec = tie.close (tie.spec (λ c κs. search needs) (λ c κs. search needs) (λ c. search needs) returns)
+lanecockle-list-iban-spec = tie.close (tie.spec (λ c κs. search rules) (λ c κs. search rules) (λ c. search rules) returns)

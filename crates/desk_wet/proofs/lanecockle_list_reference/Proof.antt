@@ -1,5 +1,5 @@
 -- `desk_wet::lanecockle_list_reference` meets its contract: what the call answers is told, and what it leaves is left. Assumes nothing.
-use Rattle.refusal.proofs.Basics.{needs}
+use Rattle.refusal.proofs.Basics.{rules}
 use Rattle.fillings.specs.declared.Listed.{Listed}
 use Rattle.fillings.specs.Answers.{left_by_listing}
 use Rattle.wet.specs.Wet.{reference_fillings}
@@ -12,4 +12,4 @@ returns : tie.Need-returns
 returns c = told-and-left listed_of (λ (l : Listed). left_by_listing l (reference_fillings c.before.before.before.before.before.before.before.before.args.model.now c.before.before.before.before.before.before.before.before.args.text.now) c.before.before.before.before.before.before.before.before.args.out.now) _ _ _ _ c.tell-listed.ensures c.before.before.before.list-reference.ensures
 
 pub lanecockle-list-reference-spec : {M : Type 1} → statement M
-lanecockle-list-reference-spec = tie.close (tie.spec (λ c κs. search needs) (λ c κs. search needs) (λ c. search needs) returns)
+lanecockle-list-reference-spec = tie.close (tie.spec (λ c κs. search rules) (λ c κs. search rules) (λ c. search rules) returns)

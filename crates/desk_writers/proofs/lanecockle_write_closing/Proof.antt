@@ -1,5 +1,5 @@
 -- `desk_writers::lanecockle_write_closing` meets its contract: what the call answers is told, and what it leaves is left. Assumes nothing.
-use Rattle.refusal.proofs.Basics.{needs}
+use Rattle.refusal.proofs.Basics.{rules}
 use Rattle.desk_writers.proofs.Laws.{line_told}
 use Rattle.desk_writers.proofs.lanecockle_write_closing.Statement.{statement}
 use Rattle.desk_writers.proofs.lanecockle_write_closing.Tie as tie
@@ -8,4 +8,4 @@ returns : tie.Need-returns
 returns c = line_told _ _ _ _ _ _ c.tell.ensures c.before.before.before.write-closing.ensures
 
 pub lanecockle-write-closing-spec : {M : Type 1} → statement M
-lanecockle-write-closing-spec = tie.close (tie.spec (λ c κs. search needs) (λ c κs. search needs) (λ c. search needs) returns)
+lanecockle-write-closing-spec = tie.close (tie.spec (λ c κs. search rules) (λ c κs. search rules) (λ c. search rules) returns)

@@ -1,5 +1,5 @@
 -- `filling::filled` meets its contract. The loop's invariant: the bytes from `i` on are written. Assumes nothing.
-use Rattle.refusal.proofs.Basics.{◌≡◌, refl, needs, arith, ◌≤◌, ◌-◌, length, length-set}
+use Rattle.refusal.proofs.Basics.{◌≡◌, refl, rules, arith, ◌≤◌, ◌-◌, length, length-set}
 use Rattle.filling.proofs.Laws.{WrittenFrom, from_end, from_mark, from_byte, from_front, short_refused, enough_accepted}
 use Rattle.filling.proofs.filled.Statement.{statement}
 use Rattle.filling.proofs.filled.Tie as tie
@@ -43,7 +43,7 @@ filled-spec =
     tie.close (tie.spec
     invariant-loop
     decreases-loop
-    (λ c κs. search needs)
+    (λ c κs. search rules)
     returns
     loop-holds
     (λ c. omega arith) (λ c. omega arith) (λ c. omega arith) (λ c. omega arith) (λ c. omega arith) (λ c. omega arith)

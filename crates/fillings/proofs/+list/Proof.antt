@@ -1,6 +1,6 @@
 -- `fillings::list` meets its contract. The measure is the number of marks left. The loop's invariant: the fillings with a digit below `d` at
 -- the first mark are written, and `w` is `t` but for the byte at that mark. Assumes nothing.
-use Rattle.refusal.proofs.Basics.{◌≡◌, refl, sym, ◌∙◌, needs, arith, ℕ, ◌+◌, ◌-◌, ◌≤◌, ◌<◌, take, set, length-take-le, set-set}
+use Rattle.refusal.proofs.Basics.{◌≡◌, refl, sym, ◌∙◌, rules, arith, ℕ, ◌+◌, ◌-◌, ◌≤◌, ◌<◌, take, set, length-take-le, set-set}
 use borrow.Fn.Kinds.{In}
 use borrow.Fn.PlainCycle.{Measures, is, falls, and}
 use Rattle.text.specs.Stands.{Stands}
@@ -83,7 +83,7 @@ pub +list-spec : {M : Type 1} → statement M
     list.Post
     list-Inv-loop
     list-μ-loop
-    (λ c. let a = c.before.before.before.before.args in sym (length-take-le a.n a.t.now (search needs)))  -- list-slice-aggregate-leaf
+    (λ c. let a = c.before.before.before.before.args in sym (length-take-le a.n a.t.now (search rules)))  -- list-slice-aggregate-leaf
     (λ c κs.
     let z = c.before.before.before.before.before in
     let a = z.args in
@@ -92,18 +92,18 @@ pub +list-spec : {M : Type 1} → statement M
     (λ c.
     let y = c.before.before.before.before.before in
     rw (block_dry _ _ _ (sym y.before.before.before.requires.1.1.0 ∙ y.if1.true)) c.before.before.leaf.ensures)  -- list-returns
-    (λ c. let a = c.before.before.before.before.args in sym (length-take-le a.n a.t.now (search needs)))  -- list-slice-aggregate-first-bad
-    (λ c κs. search needs)  -- list-first-bad-requires
-    (λ c. search needs)  -- list-enum-known-i
-    (λ c. search needs)  -- list-enum-told
+    (λ c. let a = c.before.before.before.before.args in sym (length-take-le a.n a.t.now (search rules)))  -- list-slice-aggregate-first-bad
+    (λ c κs. search rules)  -- list-first-bad-requires
+    (λ c. search rules)  -- list-enum-known-i
+    (λ c. search rules)  -- list-enum-told
     (λ c.
     let y = c.before.before.before.before in
     absurd (y.if1.false (y.before.before.before.requires.1.1.0 ∙ no_mark _ (sym c.before.before.first-bad.ensures ∙ c.enum_told.given.1))))  -- list-returns-2
     (λ c. (omega arith, (λ b. refl, digits_none _ _ _ _ _ _)))  -- list-loop-holds
-    (λ c. search needs)  -- list-cast-w
-    (λ c. search needs)  -- list-add-w
+    (λ c. search rules)  -- list-cast-w
+    (λ c. search rules)  -- list-add-w
     (λ c. let k = c.before.before.before in omega (arith, (entry t k).requires.1.0, first_before (opened t k)))  -- list-array-write-w
-    (λ c. search needs)  -- list-sub-list
+    (λ c. search rules)  -- list-sub-list
     (λ c. let z = entry t c.before.before.before.before in omega (arith, number_small z.args.number z.args.left z.pre.1.1.1.0))  -- list-mul-list
     (λ c. let z = entry t c.before.before.before.before in omega (arith, number_small z.args.number z.args.left z.pre.1.1.1.0))  -- list-add-list
     (λ c κs.
@@ -114,8 +114,8 @@ pub +list-spec : {M : Type 1} → statement M
     let small : l.d < 10 = omega arith in
     let o = opened t k in
     (omega (arith, z.pre.0, o.some), (z.pre.1.0, (rw (l.invariant.1.0 (48 + l.d)) (one_fewer o l.d small), (digits_fit o number l.d small z.pre.1.1.1.0, digits-place o _ number l.d z.pre.1.1.1.1 l.invariant.1.1)))))  -- list-list-requires
-    (λ c. search needs)  -- list-add-d
-    (λ c. search needs)  -- list-loop-less
+    (λ c. search rules)  -- list-add-d
+    (λ c. search rules)  -- list-loop-less
     (λ c.
     let k = c.before.before.before.before.before.before.before.before in
     let l = c.before.before.before.before.before.before.loop in

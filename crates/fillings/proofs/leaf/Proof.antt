@@ -1,5 +1,5 @@
 -- `fillings::leaf` meets its contract: the number is written where the text is accepted and there is room. Assumes nothing.
-use Rattle.refusal.proofs.Basics.{sym, refl, ◌∙◌, needs, arith, not-true, not-false, set_out}
+use Rattle.refusal.proofs.Basics.{sym, refl, ◌∙◌, rules, arith, not-true, not-false, set_out}
 use Rattle.fillings.proofs.Laws.{written_rejected, written_accepted}
 use Rattle.fillings.proofs.leaf.Statement.{statement}
 use Rattle.fillings.proofs.leaf.Tie as tie
@@ -16,9 +16,9 @@ returns-3 c = written_accepted _ _ _ _ _ (sym c.before.before.accepted.ensures �
 pub leaf-spec : {M : Type 1} → statement M
 leaf-spec =
     tie.close (tie.spec
-    (λ c κs. search needs)
+    (λ c κs. search rules)
     returns
-    (λ c. search needs) (λ c. search needs) (λ c. search needs) (λ c. search needs) (λ c. search needs)
+    (λ c. search rules) (λ c. search rules) (λ c. search rules) (λ c. search rules) (λ c. search rules)
     returns-2
-    (λ c. search needs)
+    (λ c. search rules)
     returns-3)

@@ -1,6 +1,6 @@
 -- `fillings::list_into` meets its contract: 1 and 16 first; then nothing where no filling mends the form, else the count is that of all fillings,
 -- and they are written where there is room: room for ten thousand is room for all. Assumes nothing.
-use Rattle.refusal.proofs.Basics.{◌≡◌, refl, sym, ap, ◌∙◌, needs, arith, ℕ, suc, ◌*◌, ◌^◌, ◌≤◌, length, take, not-true, lt-leb, le-leb, List, left, entered}
+use Rattle.refusal.proofs.Basics.{◌≡◌, refl, sym, ap, ◌∙◌, rules, arith, ℕ, suc, ◌*◌, ◌^◌, ◌≤◌, length, take, not-true, lt-leb, le-leb, List, left, entered}
 use Rattle.text.specs.Bytes.{marks}
 use Rattle.fillings.specs.Mirror.{accepts}
 use Rattle.fillings.specs.Fillings.{fillings}
@@ -87,19 +87,19 @@ returns-6 c =
 pub list-into-spec : {M : Type 1} → statement M
 list-into-spec =
     tie.close (tie.spec
-    (λ c κs. search needs)
+    (λ c κs. search rules)
     returns
-    (λ c κs. search needs) (λ c κs. search needs)
+    (λ c κs. search rules) (λ c κs. search rules)
     returns-2
     returns-3
-    (λ c κs. search needs)
+    (λ c κs. search rules)
     list-requires
-    (λ c. search needs)
+    (λ c. search rules)
     returns-4
-    (λ c. search needs)
+    (λ c. search rules)
     list-requires-2
-    (λ c κs. search needs)
+    (λ c κs. search rules)
     returns-5
     list-requires-3
-    (λ c. search needs)
+    (λ c. search rules)
     returns-6)

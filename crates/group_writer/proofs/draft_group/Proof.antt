@@ -1,5 +1,5 @@
 -- `group_writer::draft_group` meets its contract: a 301 is drafted in three runs of fields. Assumes nothing.
-use Rattle.refusal.proofs.Basics.{needs}
+use Rattle.refusal.proofs.Basics.{rules}
 use Rattle.wage_places.specs.declared.LineType.TheVariants.{Group}
 use Rattle.bare_line.proofs.Theorems.{bare}
 use Rattle.group_writer.proofs.Laws.{group_first, group_worked, group-last}
@@ -24,9 +24,9 @@ returns-3 c =
 pub draft-group-spec : {M : Type 1} → statement M
 draft-group-spec =
     tie.close (tie.spec
-    (λ c κs. search needs) (λ c κs. search needs) (λ c. search needs) (λ c. search needs)
+    (λ c κs. search rules) (λ c κs. search rules) (λ c. search rules) (λ c. search rules)
     returns
-    (λ c. search needs) (λ c κs. search needs) (λ c. search needs) (λ c. search needs)
+    (λ c. search rules) (λ c κs. search rules) (λ c. search rules) (λ c. search rules)
     returns-2
-    (λ c. search needs) (λ c κs. search needs) (λ c κs. search needs) (λ c κs. search needs) (λ c. search needs)
+    (λ c. search rules) (λ c κs. search rules) (λ c κs. search rules) (λ c κs. search rules) (λ c. search rules)
     returns-3)

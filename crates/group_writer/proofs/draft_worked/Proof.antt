@@ -1,5 +1,5 @@
 -- `group_writer::draft_worked` meets its contract: the digits are two fields, one behind the other. Assumes nothing.
-use Rattle.refusal.proofs.Basics.{needs}
+use Rattle.refusal.proofs.Basics.{rules}
 use Rattle.room.proofs.Digits.{digits_length}
 use Rattle.group_writer.proofs.Laws.{two_fields}
 use Rattle.group_writer.proofs.draft_worked.Statement.{statement}
@@ -11,5 +11,5 @@ returns c = rw (c.before.before.before.before.before.before.before.put-worked.en
 pub draft-worked-spec : {M : Type 1} → statement M
 draft-worked-spec =
     tie.close (tie.spec
-    (λ c. search needs) (λ c κs. search needs) (λ c. search needs) (λ c. search needs) (λ c κs. search needs) (λ c. search needs)
+    (λ c. search rules) (λ c κs. search rules) (λ c. search rules) (λ c. search rules) (λ c κs. search rules) (λ c. search rules)
     returns)

@@ -1,5 +1,5 @@
 -- `group_writer::put_worked` meets its contract: three runs of digits fill the room, and the last two are the sum's. Assumes nothing.
-use Rattle.refusal.proofs.Basics.{needs}
+use Rattle.refusal.proofs.Basics.{rules}
 use Rattle.group_writer.proofs.Laws.{worked-digits}
 use Rattle.group_writer.proofs.put_worked.Statement.{statement}
 use Rattle.group_writer.proofs.put_worked.Tie as tie
@@ -12,5 +12,5 @@ returns c =
 pub put-worked-spec : {M : Type 1} → statement M
 put-worked-spec =
     tie.close (tie.spec
-    (λ c κs. search needs) (λ c κs. search needs) (λ c κs. search needs) (λ c κs. search needs) (λ c κs. search needs) (λ c. search needs)
+    (λ c κs. search rules) (λ c κs. search rules) (λ c κs. search rules) (λ c κs. search rules) (λ c κs. search rules) (λ c. search rules)
     returns)

@@ -1,5 +1,5 @@
 -- `group_writer::write_group` meets its contract: the sizes, the day, the kind, the orders, then the line. Assumes nothing.
-use Rattle.refusal.proofs.Basics.{sym, ◌∙◌, needs, not-true, not-false}
+use Rattle.refusal.proofs.Basics.{sym, ◌∙◌, rules, not-true, not-false}
 use Rattle.wage_orders.proofs.Theorems.{accepted_small}
 use Rattle.line_room.proofs.Laws.{refused_first, accepted_first, day_wrong, day_right, kind-wrong, kind-right}
 use Rattle.wage_writer.proofs.Laws.{sizes_wrong, sizes_right}
@@ -45,15 +45,15 @@ returns-5 c =
 pub write-group-spec : {M : Type 1} → statement M
 write-group-spec =
     tie.close (tie.spec
-    (λ c κs. search needs) (λ c κs. search needs)
+    (λ c κs. search rules) (λ c κs. search rules)
     returns
-    (λ c κs. search needs) (λ c κs. search needs)
+    (λ c κs. search rules) (λ c κs. search rules)
     returns-2
-    (λ c κs. search needs) (λ c κs. search needs)
+    (λ c κs. search rules) (λ c κs. search rules)
     returns-3
-    (λ c κs. search needs) (λ c. search needs)
+    (λ c κs. search rules) (λ c. search rules)
     returns-4
-    (λ c. search needs)
+    (λ c. search rules)
     write-judged-requires
-    (λ c. search needs)
+    (λ c. search rules)
     returns-5)

@@ -1,5 +1,5 @@
 -- `group_writer::write_judged` meets its contract: a refused draft leaves the room as it was, and another's line is put. Assumes nothing.
-use Rattle.refusal.proofs.Basics.{needs}
+use Rattle.refusal.proofs.Basics.{rules}
 use Rattle.wage_writer.proofs.Laws.{draft_refused, draft_written}
 use Rattle.group_writer.proofs.write_judged.Statement.{statement}
 use Rattle.group_writer.proofs.write_judged.Tie as tie
@@ -13,7 +13,7 @@ returns-2 c = draft_written _ _ _ c.before.before.before.before.before.before.be
 pub write-judged-spec : {M : Type 1} → statement M
 write-judged-spec =
     tie.close (tie.spec
-    (λ c. search needs) (λ c κs. search needs) (λ c. search needs)
+    (λ c. search rules) (λ c κs. search rules) (λ c. search rules)
     returns
-    (λ c. search needs) (λ c κs. search needs) (λ c. search needs)
+    (λ c. search rules) (λ c κs. search rules) (λ c. search rules)
     returns-2)

@@ -1,5 +1,5 @@
 -- `groups::group_at` meets its contract: each return is the definition's choice on the tests that led there. Assumes nothing.
-use Rattle.refusal.proofs.Basics.{sym, ap, ◌∙◌, needs, eq-eqb, ne_eqb, taken, left, or_first, or_second}
+use Rattle.refusal.proofs.Basics.{sym, ap, ◌∙◌, rules, eq-eqb, ne_eqb, taken, left, or_first, or_second}
 use Rattle.check_digits.specs.CheckDigit.{passes}
 use Rattle.groups.proofs.group_at.Statement.{statement}
 use Rattle.groups.proofs.group_at.Tie as tie
@@ -23,9 +23,9 @@ returns-3 c =
 pub group-at-spec : {M : Type 1} → statement M
 group-at-spec =
     tie.close (tie.spec
-    (λ c κs. search needs) (λ c κs. search needs)
+    (λ c κs. search rules) (λ c κs. search rules)
     returns
-    (λ c κs. search needs)
+    (λ c κs. search rules)
     returns-2
-    (λ c. search needs) (λ c. search needs) (λ c κs. search needs) (λ c κs. search needs)
+    (λ c. search rules) (λ c. search rules) (λ c κs. search rules) (λ c κs. search rules)
     returns-3)

@@ -1,5 +1,5 @@
 -- `groups::groups_at` meets its contract. The loop's invariant: the groups are right where those from `i` on are. Assumes nothing.
-use Rattle.refusal.proofs.Basics.{◌≡◌, refl, sym, ◌∙◌, needs, arith, ◌≤◌, ◌-◌, length, drop, not-true, not-false}
+use Rattle.refusal.proofs.Basics.{◌≡◌, refl, sym, ◌∙◌, rules, arith, ◌≤◌, ◌-◌, length, drop, not-true, not-false}
 use Rattle.models.specs.Models.{no_group}
 use Rattle.models.specs.declared.Group.{Group}
 use Rattle.models.proofs.Every.{unmapped, every_on, every_stops, every_ends}
@@ -15,7 +15,7 @@ decreases-loop ends s groups i₀ i = 4 - i
 
 -- a model has four groups
 four : (c : tie.Start invariant-loop decreases-loop) → length c.args.model.groups ≡ 4
-four c = search (needs, unmapped)
+four c = search (rules, unmapped)
 
 returns : tie.Need-returns invariant-loop decreases-loop
 returns c =
@@ -44,7 +44,7 @@ groups-at-spec =
     invariant-loop
     decreases-loop
     (λ c. (omega arith, refl))
-    (λ c. omega arith) (λ c. omega arith) (λ c κs. search needs)
+    (λ c. omega arith) (λ c. omega arith) (λ c κs. search rules)
     returns
     (λ c. omega arith) (λ c. omega arith)
     loop-again

@@ -1,5 +1,5 @@
 -- `judge::step` meets its contract: each return is the definition's choice on the tests that led there. Assumes nothing.
-use Rattle.refusal.proofs.Basics.{sym, ◌∙◌, needs, arith, ltb-true, ltb, both_true}
+use Rattle.refusal.proofs.Basics.{sym, ◌∙◌, rules, arith, ltb-true, ltb, both_true}
 use Rattle.judge.specs.Judge.{stepped}
 use Rattle.judge.proofs.step.Statement.{statement}
 use Rattle.judge.proofs.step.Tie as tie
@@ -29,13 +29,13 @@ returns-4 c = rw (← c.before.before.before.before.before.is-refused.ensures, c
 pub step_spec : {M : Type 1} → statement M
 step_spec =
     tie.close (tie.spec
-    (λ c κs. search needs)
+    (λ c κs. search rules)
     returns
-    (λ c κs. search needs) (λ c κs. search needs) (λ c. search needs)
+    (λ c κs. search rules) (λ c κs. search rules) (λ c. search rules)
     type-step-requires
-    (λ c. search needs)
+    (λ c. search rules)
     add-in-line
-    (λ c κs. search needs) (λ c κs. search needs) (λ c κs. search needs) (λ c κs. search needs)
+    (λ c κs. search rules) (λ c κs. search rules) (λ c κs. search rules) (λ c κs. search rules)
     returns-2
     returns-3
     returns-4)

@@ -1,5 +1,5 @@
 -- `judge::type_step` meets its contract: 10, 12 and 13 first, then the arm says the answer of the places. Assumes nothing.
-use Rattle.refusal.proofs.Basics.{needs, arith, eq-eqb, ne_eqb}
+use Rattle.refusal.proofs.Basics.{rules, arith, eq-eqb, ne_eqb}
 use Rattle.condition.proofs.Laws.{sound_within}
 use Rattle.judge.specs.Judge.{type_step}
 use Rattle.judge.proofs.type_step.Statement.{statement}
@@ -24,8 +24,8 @@ pub type-step-spec : {M : Type 1} → statement M
 type-step-spec =
     tie.close (tie.spec
     add-next
-    (λ c κs. search needs) (λ c κs. search needs) (λ c κs. search needs) (λ c κs. search needs)
+    (λ c κs. search rules) (λ c κs. search rules) (λ c κs. search rules) (λ c κs. search rules)
     returns
-    (λ c κs. search needs) (λ c. search needs) (λ c κs. search needs) (λ c. search needs) (λ c κs. search needs) (λ c κs. search needs)
+    (λ c κs. search rules) (λ c. search rules) (λ c κs. search rules) (λ c. search rules) (λ c κs. search rules) (λ c κs. search rules)
     returns-2
     returns-3)

@@ -1,5 +1,5 @@
 -- `ledger_slip::currency` meets its contract: each return is the definition's choice on the test that led there. Assumes nothing.
-use Rattle.refusal.proofs.Basics.{refl, sym, ap, ◌∙◌, needs, taken, left}
+use Rattle.refusal.proofs.Basics.{refl, sym, ap, ◌∙◌, rules, taken, left}
 use Rattle.text.specs.Bytes.{same}
 use Rattle.slip_fields.specs.declared.Currency.TheVariants.{Kuna}
 use Rattle.slip_fields.specs.Fields.{currency_text}
@@ -16,4 +16,4 @@ unfolding currency_of
 returns-2 c = left _ _ _ _ (sym (c.before.is_same.ensures ∙ ap (same (currency_text Kuna)) c.before.before.piece-text.ensures) ∙ c.if1.false) refl
 
 pub currency-spec : {M : Type 1} → statement M
-currency-spec = tie.close (tie.spec (λ c. search needs) (λ c κs. search needs) (λ c κs. search needs) returns returns-2)
+currency-spec = tie.close (tie.spec (λ c. search rules) (λ c κs. search rules) (λ c κs. search rules) returns returns-2)

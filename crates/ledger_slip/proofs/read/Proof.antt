@@ -1,5 +1,5 @@
 -- `ledger_slip::read` meets its contract: an accepted slip's third field has fifteen digits. Assumes nothing.
-use Rattle.refusal.proofs.Basics.{sym, ap, ◌∙◌, needs}
+use Rattle.refusal.proofs.Basics.{sym, ap, ◌∙◌, rules}
 use Rattle.sums.specs.Sums.{number_in}
 use Rattle.slip_fields.specs.declared.Currency.{Currency}
 use Rattle.slip.specs.Slip.{slip_answer_in}
@@ -26,7 +26,7 @@ returns-2 c =
 pub read_spec : {M : Type 1} → statement M
 read_spec =
     tie.close (tie.spec
-    (λ c κs. search needs) (λ c κs. search needs) (λ c. search needs) (λ c κs. search needs) (λ c κs. search needs) (λ c κs. search needs)
-    (λ c. search needs)
+    (λ c κs. search rules) (λ c κs. search rules) (λ c. search rules) (λ c κs. search rules) (λ c κs. search rules) (λ c κs. search rules)
+    (λ c. search rules)
     returns
     returns-2)

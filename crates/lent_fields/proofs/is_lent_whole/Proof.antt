@@ -1,5 +1,5 @@
 -- `lent_fields::is_lent_whole` meets its contract. The loop's invariant: the fields that are left are asked for what is left of the text. Assumes nothing.
-use Rattle.refusal.proofs.Basics.{◌≡◌, sym, ◌∙◌, needs, arith, ◌≤◌, ◌-◌, length}
+use Rattle.refusal.proofs.Basics.{◌≡◌, sym, ◌∙◌, rules, arith, ◌≤◌, ◌-◌, length}
 use Rattle.lent_fields.specs.Fields.{lent_whole}
 use Rattle.lent_fields.proofs.Laws.{SizedFrom, sized_last, sized_past, sized_short, sized_on}
 use Rattle.lent_fields.proofs.is_lent_whole.Statement.{statement}
@@ -25,7 +25,7 @@ returns c =
     sized_last a.sizes.now a.fields l.i l.left (omega arith) ∙ sym l.invariant.1
 
 mul-size : tie.Need-overflow-mul-size invariant-loop decreases-loop
-mul-size c = search needs
+mul-size c = search rules
 
 shared-slice-read-size : tie.Need-shared-slice-read-size invariant-loop decreases-loop
 shared-slice-read-size c = omega arith

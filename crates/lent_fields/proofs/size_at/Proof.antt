@@ -1,5 +1,5 @@
 -- `wage_draft::size_at` meets its contract. Assumes nothing.
-use Rattle.refusal.proofs.Basics.{sym, needs, arith, ◌≤◌, length, get_or-eq_default}
+use Rattle.refusal.proofs.Basics.{sym, rules, arith, ◌≤◌, length, get_or-eq_default}
 use Rattle.lent_fields.proofs.size_at.Statement.{statement}
 use Rattle.lent_fields.proofs.size_at.Tie as tie
 
@@ -10,4 +10,4 @@ returns-2 c =
     sym (get_or-eq_default s 0 h)
 
 pub size-at-spec : {M : Type 1} → statement M
-size-at-spec = tie.close (tie.spec (λ c. search needs) (λ c. search needs) (λ c. search needs) returns-2)
+size-at-spec = tie.close (tie.spec (λ c. search rules) (λ c. search rules) (λ c. search rules) returns-2)

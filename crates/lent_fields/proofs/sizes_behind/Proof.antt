@@ -1,5 +1,5 @@
 -- `wage_writer::sizes_behind` meets its contract: the part from the fourth on, none where there are fewer. Assumes nothing.
-use Rattle.refusal.proofs.Basics.{sym, needs, arith, drop_of_length-le}
+use Rattle.refusal.proofs.Basics.{sym, rules, arith, drop_of_length-le}
 use Rattle.text.proofs.Laws.{to_the_end}
 use Rattle.lent_fields.proofs.sizes_behind.Statement.{statement}
 use Rattle.lent_fields.proofs.sizes_behind.Tie as tie
@@ -13,7 +13,7 @@ returns-2 c = to_the_end 4 c.before.before.args.sizes.now
 pub sizes-behind-spec : {M : Type 1} → statement M
 sizes-behind-spec =
     tie.close (tie.spec
-    (λ c. search needs)
+    (λ c. search rules)
     returns
-    (λ c. search needs) (λ c. search needs) (λ c. search needs)
+    (λ c. search rules) (λ c. search rules) (λ c. search rules)
     returns-2)

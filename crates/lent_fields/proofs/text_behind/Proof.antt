@@ -1,5 +1,5 @@
 -- `lent_fields::text_behind` meets its contract. The loop's invariant: the text behind what is left of the fields is that behind all. Assumes nothing.
-use Rattle.refusal.proofs.Basics.{◌≡◌, sym, ◌∙◌, needs, arith, ◌≤◌, ◌-◌, length, take}
+use Rattle.refusal.proofs.Basics.{◌≡◌, sym, ◌∙◌, rules, arith, ◌≤◌, ◌-◌, length, take}
 use Rattle.text.proofs.Laws.{to_the_end}
 use Rattle.lent_fields.specs.Fields.{behind}
 use Rattle.lent_fields.proofs.Laws.{Behind, behind_last, behind_past, behind-on, field_ends}
@@ -22,10 +22,10 @@ sub-result : tie.Need-overflow-sub-result invariant-loop decreases-loop
 sub-result c = omega arith
 
 part-result-start : tie.Need-slice-bounds-result-start invariant-loop decreases-loop
-part-result-start c = search needs
+part-result-start c = search rules
 
 part-result-end : tie.Need-slice-bounds-result-end invariant-loop decreases-loop
-part-result-end c = search needs
+part-result-end c = search rules
 
 returns : tie.Need-returns invariant-loop decreases-loop
 returns c =
@@ -34,13 +34,13 @@ returns c =
     to_the_end l.at a.text.now ∙ behind_last a.sizes.now a.fields l.i a.text.now l.at (omega arith) ∙ sym l.invariant.1
 
 mul-end-of : tie.Need-overflow-mul-end-of invariant-loop decreases-loop
-mul-end-of c = search needs
+mul-end-of c = search rules
 
 shared-slice-read-end-of : tie.Need-shared-slice-read-end-of invariant-loop decreases-loop
 shared-slice-read-end-of c = omega arith
 
 end-of-requires : tie.Need-end-of-requires invariant-loop decreases-loop
-end-of-requires c κs = search needs
+end-of-requires c κs = search rules
 
 add-i : tie.Need-overflow-add-i invariant-loop decreases-loop
 add-i c = omega arith
@@ -59,10 +59,10 @@ sub-result-2 : tie.Need-overflow-sub-result-2 invariant-loop decreases-loop
 sub-result-2 c = omega arith
 
 part-result-start-2 : tie.Need-slice-bounds-result-start-2 invariant-loop decreases-loop
-part-result-start-2 c = search needs
+part-result-start-2 c = search rules
 
 part-result-end-2 : tie.Need-slice-bounds-result-end-2 invariant-loop decreases-loop
-part-result-end-2 c = search needs
+part-result-end-2 c = search rules
 
 returns-2 : tie.Need-returns-2 invariant-loop decreases-loop
 returns-2 c =

@@ -1,5 +1,5 @@
 -- `wage_orders::judge_fields` meets its contract. Assumes nothing.
-use Rattle.refusal.proofs.Basics.{sym, ◌∙◌, needs}
+use Rattle.refusal.proofs.Basics.{sym, ◌∙◌, rules}
 use Rattle.lent_order.proofs.judge_fields.Statement.{statement}
 use Rattle.lent_order.proofs.judge_fields.Tie as tie
 
@@ -12,4 +12,4 @@ returns-2 c = rw (c.in-line.ensures, sym c.before.before.before.before.judge-pla
 pub judge-fields-spec : {M : Type 1} → statement M
 judge-fields-spec =
     tie.close
-    (tie.spec (λ c κs. search needs) (λ c. search needs) (λ c. search needs) (λ c κs. search needs) returns returns-2)
+    (tie.spec (λ c κs. search rules) (λ c. search rules) (λ c. search rules) (λ c κs. search rules) returns returns-2)

@@ -1,5 +1,5 @@
 -- `wage_orders::judge_order` meets its contract, type by type. Assumes nothing.
-use Rattle.refusal.proofs.Basics.{sym, ◌∙◌, needs}
+use Rattle.refusal.proofs.Basics.{sym, ◌∙◌, rules}
 use Rattle.lent_order.specs.Order.{lent_order_answer}
 use Rattle.lent_order.proofs.judge_order.Statement.{statement}
 use Rattle.lent_order.proofs.judge_order.Tie as tie
@@ -27,8 +27,8 @@ returns-5 c = rw (c.in-line.ensures, sym c.before.before.before.before.read-type
 pub judge-order-spec : {M : Type 1} → statement M
 judge-order-spec =
     tie.close (tie.spec
-    (λ c κs. search needs) (λ c. search needs) (λ c. search needs) (λ c κs. search needs) (λ c. search needs) (λ c κs. search needs)
-    (λ c. search needs) (λ c κs. search needs) (λ c. search needs) (λ c κs. search needs) (λ c. search needs) (λ c κs. search needs)
+    (λ c κs. search rules) (λ c. search rules) (λ c. search rules) (λ c κs. search rules) (λ c. search rules) (λ c κs. search rules)
+    (λ c. search rules) (λ c κs. search rules) (λ c. search rules) (λ c κs. search rules) (λ c. search rules) (λ c κs. search rules)
     returns
     returns-2
     returns-3

@@ -1,5 +1,5 @@
 -- `line::took_byte` meets its contract: each return is the definition's choice on the tests that led there. Assumes nothing.
-use Rattle.refusal.proofs.Basics.{◌∙◌, needs, eq-eqb, ne_eqb}
+use Rattle.refusal.proofs.Basics.{◌∙◌, rules, eq-eqb, ne_eqb}
 use Rattle.line.specs.Mirror.{kept_of}
 use Rattle.line.proofs.Laws.{took_ended, took_feed, took_behind, took_space, took_ahead}
 use Rattle.line.proofs.took_byte.Statement.{statement}
@@ -39,8 +39,8 @@ took-byte-spec =
     tie.close (tie.spec
     returns
     returns-2
-    (λ c κs. search needs) (λ c. search needs)
+    (λ c κs. search rules) (λ c. search rules)
     returns-3
     returns-4
-    (λ c κs. search needs) (λ c. search needs)
+    (λ c κs. search rules) (λ c. search rules)
     returns-5)

@@ -1,5 +1,5 @@
 -- `line::took_head` meets its contract: each return is the definition's choice on the test that led there. Assumes nothing.
-use Rattle.refusal.proofs.Basics.{refl, needs, lt-ltb, le-ltb, taken, left}
+use Rattle.refusal.proofs.Basics.{refl, rules, lt-ltb, le-ltb, taken, left}
 use Rattle.line.proofs.took_head.Statement.{statement}
 use Rattle.line.proofs.took_head.Tie as tie
 
@@ -10,4 +10,4 @@ returns-2 : tie.Need-returns-2
 returns-2 c = λ tail. left _ _ _ _ (le-ltb _ _ c.if1.false) refl
 
 pub took-head-spec : {M : Type 1} → statement M
-took-head-spec = tie.close (tie.spec (λ c. search needs) (λ c. search needs) (λ c. search needs) returns returns-2)
+took-head-spec = tie.close (tie.spec (λ c. search rules) (λ c. search rules) (λ c. search rules) returns returns-2)

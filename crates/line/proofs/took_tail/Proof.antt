@@ -1,5 +1,5 @@
 -- `line::took_tail` meets its contract: each return is the definition's choice on the test that led there. Assumes nothing.
-use Rattle.refusal.proofs.Basics.{refl, needs, lt-ltb, le-ltb, taken, left}
+use Rattle.refusal.proofs.Basics.{refl, rules, lt-ltb, le-ltb, taken, left}
 use Rattle.line.proofs.took_tail.Statement.{statement}
 use Rattle.line.proofs.took_tail.Tie as tie
 
@@ -10,4 +10,4 @@ returns-2 : tie.Need-returns-2
 returns-2 c = λ head. left _ _ _ _ (le-ltb _ _ c.if1.false) refl
 
 pub took-tail-spec : {M : Type 1} → statement M
-took-tail-spec = tie.close (tie.spec (λ c. search needs) (λ c. search needs) (λ c. search needs) returns returns-2)
+took-tail-spec = tie.close (tie.spec (λ c. search rules) (λ c. search rules) (λ c. search rules) returns returns-2)

@@ -1,5 +1,5 @@
 -- `line_room::write_closing` meets its contract: the day, then the line, which has no fields. Assumes nothing.
-use Rattle.refusal.proofs.Basics.{refl, sym, ◌∙◌, needs, not-true, not-false}
+use Rattle.refusal.proofs.Basics.{refl, sym, ◌∙◌, rules, not-true, not-false}
 use Rattle.wage_places.specs.declared.LineType.TheVariants.{Closing}
 use Rattle.bare_line.proofs.Theorems.{bare}
 use Rattle.line_room.specs.LineRoom.{closing_answer}
@@ -20,7 +20,7 @@ returns-2 c =
 pub write-closing-spec : {M : Type 1} → statement M
 write-closing-spec =
     tie.close (tie.spec
-    (λ c κs. search needs) (λ c κs. search needs)
+    (λ c κs. search rules) (λ c κs. search rules)
     returns
-    (λ c. search needs) (λ c κs. search needs) (λ c κs. search needs) (λ c. search needs)
+    (λ c. search rules) (λ c κs. search rules) (λ c κs. search rules) (λ c. search rules)
     returns-2)

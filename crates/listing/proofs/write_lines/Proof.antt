@@ -1,5 +1,5 @@
 -- `listing::write_lines` is safe and ends. Assumes nothing.
-use Rattle.refusal.proofs.Basics.{needs, arith, ◌≤◌, ◌-◌}
+use Rattle.refusal.proofs.Basics.{rules, arith, ◌≤◌, ◌-◌}
 use Rattle.listing.proofs.write_lines.Statement.{statement}
 use Rattle.listing.proofs.write_lines.Tie as tie
 
@@ -14,5 +14,5 @@ write-lines-spec =
     tie.close (tie.spec
     invariant-loop
     decreases-loop
-    (λ c. omega arith) (λ c. tt) (λ c. search needs) (λ c. omega arith) (λ c κs. tt) (λ c. tt) (λ c. omega arith) (λ c. omega arith)
+    (λ c. omega arith) (λ c. tt) (λ c. search rules) (λ c. omega arith) (λ c κs. tt) (λ c. tt) (λ c. omega arith) (λ c. omega arith)
     (λ c. omega arith) (λ c. tt))

@@ -1,5 +1,5 @@
 -- `listing_printed::list` meets its contract: 1 without a line feed, else the listing that the space tells. Assumes nothing.
-use Rattle.refusal.proofs.Basics.{refl, needs, not-true, not-false}
+use Rattle.refusal.proofs.Basics.{refl, rules, not-true, not-false}
 use Rattle.listing_printed.specs.Mirror.{kept_listing, kept_fillings}
 use Rattle.listing_printed.proofs.list.Statement.{statement}
 use Rattle.listing_printed.proofs.list.Tie as tie
@@ -25,9 +25,9 @@ returns-3 c =
 pub list-spec : {M : Type 1} → statement M
 list-spec =
     tie.close (tie.spec
-    (λ c κs. search needs)
+    (λ c κs. search rules)
     returns
-    (λ c κs. search needs) (λ c κs. search needs) (λ c κs. search needs) (λ c. search needs)
+    (λ c κs. search rules) (λ c κs. search rules) (λ c κs. search rules) (λ c. search rules)
     returns-2
-    (λ c κs. search needs) (λ c κs. search needs) (λ c. search needs)
+    (λ c κs. search rules) (λ c κs. search rules) (λ c. search rules)
     returns-3)

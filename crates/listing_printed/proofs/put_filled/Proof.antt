@@ -1,6 +1,6 @@
 -- `listing_printed::put_filled` meets its contract: the filled text stands at the front of the room, and the line feed is put behind it.
 -- Assumes nothing.
-use Rattle.refusal.proofs.Basics.{sym, ◌∙◌, needs}
+use Rattle.refusal.proofs.Basics.{sym, ◌∙◌, rules}
 use Rattle.listing_printed.proofs.Laws.{line-put, no_line_put}
 use Rattle.listing_printed.proofs.put_filled.Statement.{statement}
 use Rattle.listing_printed.proofs.put_filled.Tie as tie
@@ -20,7 +20,7 @@ returns-2 c =
 pub put-filled-spec : {M : Type 1} → statement M
 put-filled-spec =
     tie.close (tie.spec
-    (λ c κs. search needs) (λ c. search needs) (λ c. search needs) (λ c κs. search needs) (λ c. search needs) (λ c. search needs)
+    (λ c κs. search rules) (λ c. search rules) (λ c. search rules) (λ c κs. search rules) (λ c. search rules) (λ c. search rules)
     returns
-    (λ c. search needs)
+    (λ c. search rules)
     returns-2)

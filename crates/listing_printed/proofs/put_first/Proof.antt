@@ -1,5 +1,5 @@
 -- `listing_printed::put_first` meets its contract: each arm puts its texts one behind the other. Assumes nothing.
-use Rattle.refusal.proofs.Basics.{needs}
+use Rattle.refusal.proofs.Basics.{rules}
 use Rattle.printed.proofs.Laws.{puts_then}
 use Rattle.listing_printed.specs.Listing.{first_line}
 use Rattle.listing_printed.proofs.put_first.Statement.{statement}
@@ -20,8 +20,8 @@ returns-2 c =
 pub put-first-spec : {M : Type 1} → statement M
 put-first-spec =
     tie.close (tie.spec
-    (λ c. search needs) (λ c κs. search needs) (λ c. search needs) (λ c κs. search needs) (λ c. search needs) (λ c κs. search needs)
-    (λ c. search needs) (λ c. search needs) (λ c κs. search needs) (λ c. search needs) (λ c κs. search needs) (λ c. search needs)
+    (λ c. search rules) (λ c κs. search rules) (λ c. search rules) (λ c κs. search rules) (λ c. search rules) (λ c κs. search rules)
+    (λ c. search rules) (λ c. search rules) (λ c κs. search rules) (λ c. search rules) (λ c κs. search rules) (λ c. search rules)
     returns
-    (λ c. search needs)
+    (λ c. search rules)
     returns-2)

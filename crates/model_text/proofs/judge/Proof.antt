@@ -1,6 +1,6 @@
 -- `model_text::judge` meets its contract: each return is the definition's choice on the model's number and whether it is handled.
 -- Assumes nothing.
-use Rattle.refusal.proofs.Basics.{refl, sym, ap, ◌∙◌, needs, taken, left}
+use Rattle.refusal.proofs.Basics.{refl, sym, ap, ◌∙◌, rules, taken, left}
 use Rattle.models.specs.declared.Model.{Model}
 use Rattle.model_text.proofs.judge.Statement.{statement}
 use Rattle.model_text.proofs.judge.Tie as tie
@@ -21,8 +21,8 @@ returns-3 c = rw (sym c.before.before.number.ensures ∙ c.enum_told.given.1)
 pub judge-spec : {M : Type 1} → statement M
 judge-spec =
     tie.close (tie.spec
-    (λ c κs. search needs) (λ c. search needs) (λ c κs. search needs)
+    (λ c κs. search rules) (λ c. search rules) (λ c κs. search rules)
     returns
-    (λ c. search needs)
+    (λ c. search rules)
     returns-2
     returns-3)

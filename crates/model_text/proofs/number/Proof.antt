@@ -1,5 +1,5 @@
 -- `model_text::number` meets its contract: each return is the definition's choice on the tests that led there. Assumes nothing.
-use Rattle.refusal.proofs.Basics.{refl, sym, needs, ne_eqb, eq-eqb, left, entered, and_first, and_second}
+use Rattle.refusal.proofs.Basics.{refl, sym, rules, ne_eqb, eq-eqb, left, entered, and_first, and_second}
 use Rattle.model_text.proofs.number.Statement.{statement}
 use Rattle.model_text.proofs.number.Tie as tie
 
@@ -27,9 +27,9 @@ pub number-spec : {M : Type 1} → statement M
 number-spec =
     tie.close (tie.spec
     returns
-    (λ c. search needs)
+    (λ c. search rules)
     returns-2
-    (λ c. search needs)
+    (λ c. search rules)
     returns-3
-    (λ c. search needs) (λ c. search needs) (λ c κs. search needs)
+    (λ c. search rules) (λ c. search rules) (λ c κs. search rules)
     returns-4)

@@ -1,6 +1,6 @@
 -- `models::rules` meets its contract: each arm says the number, and its model is the definition's at that number.
 -- Assumes nothing.
-use Rattle.refusal.proofs.Basics.{◌≡◌, ◌∙◌, needs, arith, ℕ, ne_eqb}
+use Rattle.refusal.proofs.Basics.{◌≡◌, ◌∙◌, rules, arith, ℕ, ne_eqb}
 use Rattle.models.specs.Models.{special_of, model_of}
 use Rattle.models.proofs.rules.Statement.{statement}
 use Rattle.models.proofs.rules.Tie as tie
@@ -71,14 +71,14 @@ returns-13 c =
 pub rules-spec : {M : Type 1} → statement M
 rules-spec =
     tie.close (tie.spec
-    (λ c κs. search needs)
+    (λ c κs. search rules)
     returns
-    (λ c κs. search needs) (λ c κs. search needs) (λ c κs. search needs) (λ c κs. search needs) (λ c κs. search needs)
-    (λ c κs. search needs) (λ c κs. search needs) (λ c κs. search needs) (λ c κs. search needs) (λ c κs. search needs)
-    (λ c κs. search needs) (λ c κs. search needs) (λ c κs. search needs) (λ c κs. search needs) (λ c κs. search needs)
-    (λ c κs. search needs) (λ c κs. search needs) (λ c κs. search needs) (λ c κs. search needs) (λ c κs. search needs)
-    (λ c κs. search needs) (λ c κs. search needs) (λ c κs. search needs) (λ c κs. search needs) (λ c κs. search needs)
-    (λ c κs. search needs) (λ c κs. search needs) (λ c κs. search needs) (λ c κs. search needs) (λ c κs. search needs)
+    (λ c κs. search rules) (λ c κs. search rules) (λ c κs. search rules) (λ c κs. search rules) (λ c κs. search rules)
+    (λ c κs. search rules) (λ c κs. search rules) (λ c κs. search rules) (λ c κs. search rules) (λ c κs. search rules)
+    (λ c κs. search rules) (λ c κs. search rules) (λ c κs. search rules) (λ c κs. search rules) (λ c κs. search rules)
+    (λ c κs. search rules) (λ c κs. search rules) (λ c κs. search rules) (λ c κs. search rules) (λ c κs. search rules)
+    (λ c κs. search rules) (λ c κs. search rules) (λ c κs. search rules) (λ c κs. search rules) (λ c κs. search rules)
+    (λ c κs. search rules) (λ c κs. search rules) (λ c κs. search rules) (λ c κs. search rules) (λ c κs. search rules)
     returns-2
     returns-3
     returns-4

@@ -1,6 +1,6 @@
 -- `models::special` meets its contract: each arm says the number, and its model is the definition's at that number.
 -- Assumes nothing.
-use Rattle.refusal.proofs.Basics.{needs, ne_eqb}
+use Rattle.refusal.proofs.Basics.{rules, ne_eqb}
 use Rattle.models.specs.Models.{special_of}
 use Rattle.models.proofs.special.Statement.{statement}
 use Rattle.models.proofs.special.Tie as tie
@@ -37,9 +37,9 @@ returns-6 c =
 pub special-spec : {M : Type 1} → statement M
 special-spec =
     tie.close (tie.spec
-    (λ c κs. search needs) (λ c κs. search needs) (λ c κs. search needs) (λ c κs. search needs) (λ c κs. search needs)
-    (λ c κs. search needs) (λ c κs. search needs) (λ c κs. search needs) (λ c κs. search needs) (λ c κs. search needs)
-    (λ c κs. search needs) (λ c κs. search needs) (λ c κs. search needs) (λ c κs. search needs)
+    (λ c κs. search rules) (λ c κs. search rules) (λ c κs. search rules) (λ c κs. search rules) (λ c κs. search rules)
+    (λ c κs. search rules) (λ c κs. search rules) (λ c κs. search rules) (λ c κs. search rules) (λ c κs. search rules)
+    (λ c κs. search rules) (λ c κs. search rules) (λ c κs. search rules) (λ c κs. search rules)
     returns
     returns-2
     returns-3

@@ -1,5 +1,5 @@
 -- `order_contents::judge_description` meets its contract: a text that is not described has a byte for 3. Assumes nothing.
-use Rattle.refusal.proofs.Basics.{sym, ◌∙◌, needs, not-true, not-false, false≢true}
+use Rattle.refusal.proofs.Basics.{sym, ◌∙◌, rules, not-true, not-false, false≢true}
 use Rattle.verdict.proofs.Verdicts.{refused, passed}
 use Rattle.classes.specs.declared.Class.TheVariants.{Description}
 use Rattle.text.proofs.Laws.{all_passes, passes_all}
@@ -18,4 +18,4 @@ returns-2 c = passed _ _ _ (all_passes Description c.before.before.before.before
 
 pub judge-description-spec : {M : Type 1} → statement M
 judge-description-spec =
-    tie.close (tie.spec (λ c κs. search needs) (λ c κs. search needs) returns (λ c κs. search needs) (λ c κs. search needs) returns-2)
+    tie.close (tie.spec (λ c κs. search rules) (λ c κs. search rules) returns (λ c κs. search rules) (λ c κs. search rules) returns-2)

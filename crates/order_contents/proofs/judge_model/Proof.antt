@@ -1,6 +1,6 @@
 -- `order_contents::judge_model` meets its contract. Assumes nothing.
 use Rattle.order_contents.specs.Contents.{held_verdict}
-use Rattle.refusal.proofs.Basics.{needs}
+use Rattle.refusal.proofs.Basics.{rules}
 use Rattle.order_contents.proofs.judge_model.Statement.{statement}
 use Rattle.order_contents.proofs.judge_model.Tie as tie
 
@@ -19,4 +19,4 @@ returns-3 c = rw (c.before.before.before.held.given.1, ← c.before.rules.ensure
 pub judge-model-spec : {M : Type 1} → statement M
 judge-model-spec =
     tie.close (tie.spec
-    (λ c. search needs) (λ c. search needs) (λ c. search needs) (λ c κs. search needs) (λ c κs. search needs) returns returns-2 returns-3)
+    (λ c. search rules) (λ c. search rules) (λ c. search rules) (λ c κs. search rules) (λ c κs. search rules) returns returns-2 returns-3)

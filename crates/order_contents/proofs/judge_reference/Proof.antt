@@ -1,6 +1,6 @@
 -- `order_contents::judge_reference` meets its contract. Assumes nothing.
 use Rattle.order_contents.specs.Contents.{reference_held}
-use Rattle.refusal.proofs.Basics.{needs}
+use Rattle.refusal.proofs.Basics.{rules}
 use Rattle.order_contents.proofs.judge_reference.Statement.{statement}
 use Rattle.order_contents.proofs.judge_reference.Tie as tie
 
@@ -19,5 +19,5 @@ returns-3 c = rw (c.before.before.held.given.1, ← c.before.before.before.befor
 pub judge-reference-spec : {M : Type 1} → statement M
 judge-reference-spec =
     tie.close (tie.spec
-    (λ c κs. search needs) (λ c. search needs) (λ c κs. search needs) (λ c. search needs) (λ c. search needs) (λ c κs. search needs) returns
+    (λ c κs. search rules) (λ c. search rules) (λ c κs. search rules) (λ c. search rules) (λ c. search rules) (λ c κs. search rules) returns
     returns-2 returns-3)

@@ -1,5 +1,5 @@
 -- `order_contents::model_in` meets its contract. Assumes nothing.
-use Rattle.refusal.proofs.Basics.{sym, ◌∙◌, needs}
+use Rattle.refusal.proofs.Basics.{sym, ◌∙◌, rules}
 use Rattle.order_contents.specs.Contents.{held_in}
 use Rattle.order_contents.proofs.model_in.Statement.{statement}
 use Rattle.order_contents.proofs.model_in.Tie as tie
@@ -18,4 +18,4 @@ returns-3 c = rw (sym c.before.before.before.before.all-blank.ensures ∙ c.befo
 
 pub model-in-spec : {M : Type 1} → statement M
 model-in-spec =
-    tie.close (tie.spec (λ c κs. search needs) returns (λ c κs. search needs) (λ c. search needs) (λ c. search needs) returns-2 returns-3)
+    tie.close (tie.spec (λ c κs. search rules) returns (λ c κs. search rules) (λ c. search rules) (λ c. search rules) returns-2 returns-3)

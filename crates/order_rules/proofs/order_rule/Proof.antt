@@ -1,6 +1,6 @@
 -- `order_rules::order_rule` meets its contract: each arm says the order, and its answer is the definition's for the
 -- field at that order. Assumes nothing.
-use Rattle.refusal.proofs.Basics.{refl, needs}
+use Rattle.refusal.proofs.Basics.{refl, rules}
 use Rattle.wage_places.specs.declared.LineType.TheVariants.{Order}
 use Rattle.wage_places.specs.Places.{spots, spot_in, no_spot}
 use Rattle.wage_places.proofs.Laws.{past}
@@ -11,13 +11,13 @@ pub order-rule-spec : {M : Type 1} → statement M
 unfolding spots spot_in
 order-rule-spec =
     tie.close (tie.spec
-    (λ c κs. search needs) (λ c κs. search needs) (λ c κs. search needs) (λ c κs. search needs) (λ c κs. search needs)
-    (λ c κs. search needs) (λ c κs. search needs) (λ c κs. search needs) (λ c κs. search needs) (λ c κs. search needs)
-    (λ c κs. search needs) (λ c κs. search needs) (λ c κs. search needs) (λ c κs. search needs) (λ c κs. search needs)
-    (λ c κs. search needs) (λ c κs. search needs) (λ c κs. search needs) (λ c κs. search needs) (λ c κs. search needs)
-    (λ c κs. search needs) (λ c κs. search needs) (λ c κs. search needs) (λ c κs. search needs) (λ c κs. search needs)
-    (λ c κs. search needs) (λ c κs. search needs) (λ c κs. search needs) (λ c κs. search needs) (λ c κs. search needs)
-    (λ c κs. search needs) (λ c κs. search needs) (λ c κs. search needs)
+    (λ c κs. search rules) (λ c κs. search rules) (λ c κs. search rules) (λ c κs. search rules) (λ c κs. search rules)
+    (λ c κs. search rules) (λ c κs. search rules) (λ c κs. search rules) (λ c κs. search rules) (λ c κs. search rules)
+    (λ c κs. search rules) (λ c κs. search rules) (λ c κs. search rules) (λ c κs. search rules) (λ c κs. search rules)
+    (λ c κs. search rules) (λ c κs. search rules) (λ c κs. search rules) (λ c κs. search rules) (λ c κs. search rules)
+    (λ c κs. search rules) (λ c κs. search rules) (λ c κs. search rules) (λ c κs. search rules) (λ c κs. search rules)
+    (λ c κs. search rules) (λ c κs. search rules) (λ c κs. search rules) (λ c κs. search rules) (λ c κs. search rules)
+    (λ c κs. search rules) (λ c κs. search rules) (λ c κs. search rules)
     (λ c. rw (c.before.before.match.keys1, ← c.before.part-at.ensures) c.judge-iban.ensures)
     (λ c. rw c.match.keys2)
     (λ c. rw (c.before.before.match.keys3, ← c.before.part-at2.ensures) c.judge-among.ensures)

@@ -1,5 +1,5 @@
 -- `part_contents::asked_at` meets its contract: of a part that is there its stretch is looked at. Assumes nothing.
-use Rattle.refusal.proofs.Basics.{ap, ◌∙◌, needs, eq-eqb, ne_eqb, or_first, or_second}
+use Rattle.refusal.proofs.Basics.{ap, ◌∙◌, rules, eq-eqb, ne_eqb, or_first, or_second}
 use Rattle.part_contents.specs.Contents.{holds}
 use Rattle.part_contents.proofs.asked_at.Statement.{statement}
 use Rattle.part_contents.proofs.asked_at.Tie as tie
@@ -14,4 +14,4 @@ returns-2 c =
     (c.is_held_lem.ensures ∙ ap (holds c.before.before.before.before.before.before.args.a.content) (rw w at c.before.stretch.ensures))
 
 pub asked-at-spec : {M : Type 1} → statement M
-asked-at-spec = tie.close (tie.spec (λ c κs. search needs) (λ c κs. search needs) returns (λ c κs. search needs) (λ c κs. search needs) returns-2)
+asked-at-spec = tie.close (tie.spec (λ c κs. search rules) (λ c κs. search rules) returns (λ c κs. search rules) (λ c κs. search rules) returns-2)

@@ -1,5 +1,5 @@
 -- `part_contents::contents_at` meets its contract: a model asks two things, if any, and of enough parts. Assumes nothing.
-use Rattle.refusal.proofs.Basics.{◌≡◌, sym, ◌∙◌, needs, length, Bool, eq-eqb, ne_eqb, not-true, not-false, and_first, and_second, or_first, or_second}
+use Rattle.refusal.proofs.Basics.{◌≡◌, sym, ◌∙◌, rules, length, Bool, eq-eqb, ne_eqb, not-true, not-false, and_first, and_second, or_first, or_second}
 use Rattle.models.specs.declared.Asked.{Asked}
 use Rattle.models.specs.Models.{free}
 use Rattle.models.specs.Every.{every}
@@ -9,7 +9,7 @@ use Rattle.part_contents.proofs.contents_at.Statement.{statement}
 use Rattle.part_contents.proofs.contents_at.Tie as tie
 
 two : (c : tie.Start) → length c.args.model.asked ≡ 2
-two c = search (needs, unmapped)
+two c = search (rules, unmapped)
 
 returns : tie.Need-returns
 returns c = or_first _ _ (eq-eqb _ 0 (rw c.before.wide.ensures at c.if1.true))
@@ -40,11 +40,11 @@ returns-4 c =
 pub contents-at-spec : {M : Type 1} → statement M
 contents-at-spec =
     tie.close (tie.spec
-    (λ c κs. search needs)
+    (λ c κs. search rules)
     returns
-    (λ c. search needs) (λ c κs. search needs)
+    (λ c. search rules) (λ c κs. search rules)
     returns-2
-    (λ c. search needs) (λ c. search needs) (λ c κs. search needs)
+    (λ c. search rules) (λ c. search rules) (λ c κs. search rules)
     returns-3
-    (λ c κs. search needs)
+    (λ c κs. search rules)
     returns-4)

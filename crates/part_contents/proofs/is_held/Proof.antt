@@ -1,5 +1,5 @@
 -- `part_contents::is_held` meets its contract: the definition's choice on what is asked. Assumes nothing.
-use Rattle.refusal.proofs.Basics.{needs}
+use Rattle.refusal.proofs.Basics.{rules}
 use Rattle.part_contents.specs.Contents.{holds}
 use Rattle.part_contents.proofs.is_held.Statement.{statement}
 use Rattle.part_contents.proofs.is_held.Tie as tie
@@ -15,6 +15,6 @@ returns-2 c = rw (c.before.before.enum_told.given.1, ← c.before.number2.ensure
 pub is-held-spec : {M : Type 1} → statement M
 is-held-spec =
     tie.close (tie.spec
-    (λ c. search needs) (λ c κs. search needs) (λ c κs. search needs) (λ c. search needs) (λ c κs. search needs) (λ c κs. search needs)
+    (λ c. search rules) (λ c κs. search rules) (λ c κs. search rules) (λ c. search rules) (λ c κs. search rules) (λ c κs. search rules)
     returns
     returns-2)

@@ -1,5 +1,5 @@
 -- `parts::count_fits` meets its contract: each return is the definition's choice on the tests that led there. Assumes nothing.
-use Rattle.refusal.proofs.Basics.{ap, needs, ℕ, eq-eqb, ne_eqb, not, eqb, and_first, and_second, or_first, or_second}
+use Rattle.refusal.proofs.Basics.{ap, rules, ℕ, eq-eqb, ne_eqb, not, eqb, and_first, and_second, or_first, or_second}
 use Rattle.parts.proofs.count_fits.Statement.{statement}
 use Rattle.parts.proofs.count_fits.Tie as tie
 
@@ -17,4 +17,4 @@ returns-3 c =
 
 pub count-fits-spec : {M : Type 1} → statement M
 count-fits-spec =
-    tie.close (tie.spec (λ c κs. search needs) returns returns-2 (λ c. search needs) (λ c κs. search needs) returns-3)
+    tie.close (tie.spec (λ c κs. search rules) returns returns-2 (λ c. search rules) (λ c κs. search rules) returns-3)

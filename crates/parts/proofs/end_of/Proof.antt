@@ -1,5 +1,5 @@
 -- `parts::end_of` meets its contract: ten bits for each end; a power of 1024 above the sixth is beyond every number. Assumes nothing.
-use Rattle.refusal.proofs.Basics.{◌≡◌, refl, sym, ap, ◌∙◌, needs, arith, ℕ, zero, suc, ◌*◌, ◌^◌, ◌≤◌, pow-le-pow_right, pow-suc, mul-suc, div-eq_of_lt}
+use Rattle.refusal.proofs.Basics.{◌≡◌, refl, sym, ap, ◌∙◌, rules, arith, ℕ, zero, suc, ◌*◌, ◌^◌, ◌≤◌, pow-le-pow_right, pow-suc, mul-suc, div-eq_of_lt}
 use lib.Pow.{pow-add}
 use Rattle.parts.proofs.end_of.Statement.{statement}
 use Rattle.parts.proofs.end_of.Tie as tie
@@ -18,4 +18,4 @@ returns-2 : tie.Need-returns-2
 returns-2 c = rw (tens c.before.args.k)
 
 pub end-of-spec : {M : Type 1} → statement M
-end-of-spec = tie.close (tie.spec returns (λ c. search needs) (λ c. search needs) returns-2)
+end-of-spec = tie.close (tie.spec returns (λ c. search rules) (λ c. search rules) returns-2)

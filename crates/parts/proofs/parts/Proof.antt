@@ -1,6 +1,6 @@
 -- `parts::parts` meets its contract: of no byte the definition's choice on the fewest parts, nothing in a text that is too long, and else
 -- what the readers read, where there are as many parts as the model asks. Assumes nothing.
-use Rattle.refusal.proofs.Basics.{◌≡◌, refl, sym, ◌∙◌, needs, arith, ◌≤◌, length, eq-eqb, ne_eqb, taken, left}
+use Rattle.refusal.proofs.Basics.{◌≡◌, refl, sym, ◌∙◌, rules, arith, ◌≤◌, length, eq-eqb, ne_eqb, taken, left}
 use Rattle.parts.proofs.Pieces.{Bytes}
 use Rattle.parts.proofs.Laws.{found_empty, found-read, found_far}
 use Rattle.parts.proofs.parts.Statement.{statement}
@@ -8,11 +8,11 @@ use Rattle.parts.proofs.parts.Tie as tie
 
 -- the model's lengths are bytes
 bytes : (c : tie.Start) → Bytes c.args.model.lengths
-bytes c i = search needs
+bytes c i = search rules
 
 -- and there are eight
 eight : (c : tie.Start) → length c.args.model.lengths ≤ 8
-eight c = let e : length c.args.model.lengths ≡ 8 = search needs in omega arith
+eight c = let e : length c.args.model.lengths ≡ 8 = search rules in omega arith
 
 returns : tie.Need-returns
 returns c =
@@ -55,9 +55,9 @@ parts-spec =
     returns
     returns-2
     returns-3
-    (λ c. search needs)
+    (λ c. search rules)
     part-requires
     returns-4
-    (λ c κs. search needs) (λ c κs. search needs) (λ c κs. search needs)
+    (λ c κs. search rules) (λ c κs. search rules) (λ c κs. search rules)
     returns-5
     returns-6)

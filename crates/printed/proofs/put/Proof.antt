@@ -1,5 +1,5 @@
 -- `printed::put` meets its contract. Assumes nothing.
-use Rattle.refusal.proofs.Basics.{sym, ap, ◌∙◌, needs, arith, length, length-sets}
+use Rattle.refusal.proofs.Basics.{sym, ap, ◌∙◌, rules, arith, length, length-sets}
 use Rattle.room.proofs.Laws.{sets_past}
 use Rattle.printed.proofs.Laws.{ends_short, ends_whole}
 use Rattle.printed.proofs.put.Statement.{statement}
@@ -26,7 +26,7 @@ pub put_spec : {M : Type 1} → statement M
 put_spec =
     tie.close (tie.spec
     returns
-    (λ c. search needs) (λ c κs. search needs) (λ c. search needs)
+    (λ c. search rules) (λ c κs. search rules) (λ c. search rules)
     returns-2
-    (λ c. search needs) (λ c. search needs)
+    (λ c. search rules) (λ c. search rules)
     returns-3)

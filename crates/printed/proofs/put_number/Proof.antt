@@ -1,5 +1,5 @@
 -- `printed::put_number` meets its contract. Assumes nothing.
-use Rattle.refusal.proofs.Basics.{sym, ap, ◌∙◌, needs, arith, ℕ, ◌+◌, length, length-sets}
+use Rattle.refusal.proofs.Basics.{sym, ap, ◌∙◌, rules, arith, ℕ, ◌+◌, length, length-sets}
 use Rattle.room.proofs.Laws.{sets_past}
 use Rattle.printed.specs.Printed.{decimal}
 use Rattle.printed.proofs.Laws.{ends_short, ends_whole, decimal_length, put_width}
@@ -30,7 +30,7 @@ pub put-number-spec : {M : Type 1} → statement M
 put-number-spec =
     tie.close (tie.spec
     returns
-    (λ c. search needs) (λ c κs. search needs) (λ c κs. search needs) (λ c. search needs)
+    (λ c. search rules) (λ c κs. search rules) (λ c κs. search rules) (λ c. search rules)
     returns-2
-    (λ c. search needs) (λ c. search needs)
+    (λ c. search rules) (λ c. search rules)
     returns-3)

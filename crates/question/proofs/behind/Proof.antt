@@ -1,5 +1,5 @@
 -- `question::behind` meets its contract. The loop's invariant: what stands behind the bars left, from `i` on, is what stands behind all. Assumes nothing.
-use Rattle.refusal.proofs.Basics.{◌≡◌, refl, sym, ◌∙◌, needs, arith, ◌≤◌, ◌-◌, length, drop}
+use Rattle.refusal.proofs.Basics.{◌≡◌, refl, sym, ◌∙◌, rules, arith, ◌≤◌, ◌-◌, length, drop}
 use Rattle.question.proofs.Laws.{behind_here, behind_bar, behind_other, behind_end}
 use Rattle.question.specs.Question.{behind_bars}
 use Rattle.question.proofs.behind.Statement.{statement}
@@ -44,11 +44,11 @@ behind-spec =
     invariant-loop
     decreases-loop
     loop-holds
-    (λ c. omega arith) (λ c. search needs) (λ c. search needs)
+    (λ c. omega arith) (λ c. search rules) (λ c. search rules)
     returns
     (λ c. omega arith) (λ c. omega arith) (λ c. omega arith) (λ c. omega arith)
     loop-again
     (λ c. omega arith) (λ c. omega arith)
     loop-again-2
-    (λ c. search needs)
+    (λ c. search rules)
     returns-2)

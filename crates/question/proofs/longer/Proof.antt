@@ -1,5 +1,5 @@
 -- `question::longer` meets its contract: each return is the capped number. Assumes nothing.
-use Rattle.refusal.proofs.Basics.{sym, ◌∙◌, needs, arith, not-true, not-false}
+use Rattle.refusal.proofs.Basics.{sym, ◌∙◌, rules, arith, not-true, not-false}
 use Rattle.classes.proofs.Laws.{digit_bounds}
 use Rattle.text.proofs.Values.{value_skips, value_takes}
 use Rattle.question.proofs.Laws.{capped_fits, capped_more}
@@ -29,10 +29,10 @@ returns-3 c =
 pub longer-spec : {M : Type 1} → statement M
 longer-spec =
     tie.close (tie.spec
-    (λ c κs. search needs)
+    (λ c κs. search rules)
     returns
     sub-d
-    (λ c. search needs) (λ c. search needs)
+    (λ c. search rules) (λ c. search rules)
     returns-2
-    (λ c. search needs) (λ c. search needs)
+    (λ c. search rules) (λ c. search rules)
     returns-3)

@@ -1,5 +1,5 @@
 -- `question::number` meets its contract. The loop's invariant: the number read and the digits from `i` on write the whole. Assumes nothing.
-use Rattle.refusal.proofs.Basics.{◌≡◌, refl, sym, ap, ◌∙◌, needs, arith, ◌≤◌, ◌-◌, length, drop}
+use Rattle.refusal.proofs.Basics.{◌≡◌, refl, sym, ap, ◌∙◌, rules, arith, ◌≤◌, ◌-◌, length, drop}
 use Rattle.text.specs.Digits.{digits_of, value_from}
 use Rattle.text.proofs.Values.{value_on, value_ends}
 use Rattle.question.proofs.Laws.{capped_fits, capped_on}
@@ -34,6 +34,6 @@ number-spec =
     invariant-loop
     decreases-loop
     loop-holds
-    (λ c. omega arith) (λ c κs. search needs) (λ c. omega arith) (λ c. omega arith)
+    (λ c. omega arith) (λ c κs. search rules) (λ c. omega arith) (λ c. omega arith)
     loop-again
     returns)

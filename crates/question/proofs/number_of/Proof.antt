@@ -1,5 +1,5 @@
 -- `question::number_of` meets its contract. The loop's invariant: the verbs passed and the place among those from `k` on make up the whole. Assumes nothing.
-use Rattle.refusal.proofs.Basics.{◌≡◌, sym, ◌∙◌, needs, arith, ◌≤◌, ◌+◌, ◌-◌, length, drop, zero-add}
+use Rattle.refusal.proofs.Basics.{◌≡◌, sym, ◌∙◌, rules, arith, ◌≤◌, ◌+◌, ◌-◌, length, drop, zero-add}
 use Rattle.text.specs.Split.{split}
 use Rattle.text.proofs.Pieces.{pieces_counted}
 use Rattle.question.proofs.Laws.{count_within, place_here, place_on, place_none}
@@ -46,10 +46,10 @@ number-of-spec =
     tie.close (tie.spec
     invariant-loop
     decreases-loop
-    (λ c κs. search needs)
+    (λ c κs. search rules)
     add-n
     loop-holds
-    (λ c κs. search needs) (λ c κs. search needs)
+    (λ c κs. search rules) (λ c κs. search rules)
     returns
     add-k
     (λ c. omega arith)

@@ -1,5 +1,5 @@
 -- `question::put_lines` meets its contract. The loop's invariant: what is left of the text makes up the whole. Assumes nothing.
-use Rattle.refusal.proofs.Basics.{◌≡◌, refl, needs, arith, ◌≤◌, ◌-◌, length, drop, length-set, sets}
+use Rattle.refusal.proofs.Basics.{◌≡◌, refl, rules, arith, ◌≤◌, ◌-◌, length, drop, length-set, sets}
 use Rattle.question.proofs.Laws.{written_full, line_more, line_last}
 use Rattle.question.specs.Question.{lined}
 use Rattle.question.proofs.put_lines.Statement.{statement}
@@ -46,7 +46,7 @@ put-lines-spec =
     loop-holds
     same_length
     returns
-    (λ c. omega arith) (λ c κs. search needs) (λ c. omega arith) (λ c. omega arith) (λ c. omega arith)
+    (λ c. omega arith) (λ c κs. search rules) (λ c. omega arith) (λ c. omega arith) (λ c. omega arith)
     loop-again
     same-length-2
     returns-2)

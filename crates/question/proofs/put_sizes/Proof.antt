@@ -1,5 +1,5 @@
 -- `question::put_sizes` meets its contract. The loop's invariant: the sizes of the fields from `at` on make up the whole. Assumes nothing.
-use Rattle.refusal.proofs.Basics.{◌≡◌, refl, needs, arith, ◌≤◌, ◌-◌, length, drop, length-set, sets}
+use Rattle.refusal.proofs.Basics.{◌≡◌, refl, rules, arith, ◌≤◌, ◌-◌, length, drop, length-set, sets}
 use Rattle.text.specs.Split.{split}
 use Rattle.question.proofs.Laws.{written_full, size_more, size_last}
 use Rattle.question.specs.Question.{lengths_of}
@@ -45,7 +45,7 @@ put-sizes-spec =
     invariant-loop
     decreases-loop
     loop-holds
-    (λ c. omega arith) (λ c. search needs) (λ c. search needs) (λ c κs. search needs) (λ c. search needs) (λ c. omega arith)
+    (λ c. omega arith) (λ c. search rules) (λ c. search rules) (λ c κs. search rules) (λ c. search rules) (λ c. omega arith)
     (λ c. omega arith)
     same_length
     returns

@@ -1,7 +1,7 @@
 -- `reference::judged` meets its contract: 7 where the model is not handled; what is found has no byte for 3, and is judged by what its parts hold and by its groups;
 -- what is not fails by 3, 4 or 8.
 -- Assumes nothing.
-use Rattle.refusal.proofs.Basics.{refl, sym, ◌∙◌, needs, lt-leb, le-leb, not-true, not-false, taken, left}
+use Rattle.refusal.proofs.Basics.{refl, sym, ◌∙◌, rules, lt-leb, le-leb, not-true, not-false, taken, left}
 use Rattle.verdict.proofs.Verdicts.{refused, passed, failed, met}
 use Rattle.parts.proofs.Laws.{found_none}
 use Rattle.reference.proofs.Laws.{found_bare, found_long, found_wrong, found_judged, unformed_judged}
@@ -65,14 +65,14 @@ pub judged-spec : {M : Type 1} → statement M
 judged-spec =
     tie.close (tie.spec
     returns
-    (λ c κs. search needs) (λ c. search needs)
+    (λ c κs. search rules) (λ c. search rules)
     returns-2
     returns-3
-    (λ c κs. search needs)
+    (λ c κs. search rules)
     returns-4
-    (λ c κs. search needs)
+    (λ c κs. search rules)
     returns-5
-    (λ c. search needs) (λ c κs. search needs)
+    (λ c. search rules) (λ c κs. search rules)
     returns-6
     returns-7
     returns-8

@@ -1,5 +1,5 @@
 -- `reference::obeys` meets its contract: what is found is judged by its groups, and what is not does not obey. Assumes nothing.
-use Rattle.refusal.proofs.Basics.{◌≡◌, sym, ◌∙◌, needs, arith, ◌≤◌, length, and_first}
+use Rattle.refusal.proofs.Basics.{◌≡◌, sym, ◌∙◌, rules, arith, ◌≤◌, length, and_first}
 use Rattle.parts.proofs.Pieces.{Bytes, formed_short}
 use Rattle.parts.proofs.Laws.{found_none, found_formed}
 use Rattle.reference.proofs.Laws.{found_obeys}
@@ -8,11 +8,11 @@ use Rattle.reference.proofs.obeys.Tie as tie
 
 -- the model's lengths are bytes
 bytes : (c : tie.Start) → Bytes c.args.model.lengths
-bytes c i = search needs
+bytes c i = search rules
 
 -- and there are eight
 eight : (c : tie.Start) → length c.args.model.lengths ≤ 8
-eight c = let e : length c.args.model.lengths ≡ 8 = search needs in omega arith
+eight c = let e : length c.args.model.lengths ≡ 8 = search rules in omega arith
 
 returns : tie.Need-returns
 returns c =
@@ -29,6 +29,6 @@ returns-2 c =
 pub obeys-spec : {M : Type 1} → statement M
 obeys-spec =
     tie.close (tie.spec
-    (λ c κs. search needs) (λ c. search needs) (λ c κs. search needs) (λ c. search needs)
+    (λ c κs. search rules) (λ c. search rules) (λ c κs. search rules) (λ c. search rules)
     returns
     returns-2)

@@ -1,5 +1,5 @@
 -- `running_total::step` meets its contract: the judge's refusal first, then 29, then the tally with what the line adds. Assumes nothing.
-use Rattle.refusal.proofs.Basics.{◌≡◌, sym, ap, ◌∙◌, needs, true, false, cond}
+use Rattle.refusal.proofs.Basics.{◌≡◌, sym, ap, ◌∙◌, rules, true, false, cond}
 use Rattle.tally.specs.declared.Growth.{Growth}
 use Rattle.tally.specs.Tally.{is_within, grown}
 use Rattle.tally.proofs.Laws.{grows_within, grows}
@@ -42,9 +42,9 @@ returns-3 c =
 pub step_spec : {M : Type 1} → statement M
 step_spec =
     tie.close (tie.spec
-    (λ c κs. search needs) (λ c κs. search needs)
+    (λ c κs. search rules) (λ c κs. search rules)
     returns
-    (λ c κs. search needs) (λ c κs. search needs) (λ c κs. search needs)
+    (λ c κs. search rules) (λ c κs. search rules) (λ c κs. search rules)
     returns-2
-    (λ c κs. search needs) (λ c κs. search needs)
+    (λ c κs. search rules) (λ c κs. search rules)
     returns-3)

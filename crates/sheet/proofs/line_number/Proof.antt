@@ -1,5 +1,5 @@
 -- `sheet::line_number` meets its contract: each return is the definition's choice on the tests that led there. Assumes nothing.
-use Rattle.refusal.proofs.Basics.{arith, needs, ◌≤◌, length, eq-eqb, ne_eqb, get_or-eq_default}
+use Rattle.refusal.proofs.Basics.{arith, rules, ◌≤◌, length, eq-eqb, ne_eqb, get_or-eq_default}
 use Rattle.sheet.specs.Sheet.{line_number}
 use Rattle.sheet.proofs.line_number.Statement.{statement}
 use Rattle.sheet.proofs.line_number.Tie as tie
@@ -35,9 +35,9 @@ pub line-number-spec : {M : Type 1} → statement M
 line-number-spec =
     tie.close (tie.spec
     returns
-    (λ c. search needs) (λ c. search needs) (λ c κs. search needs)
+    (λ c. search rules) (λ c. search rules) (λ c κs. search rules)
     returns-2
     returns-3
-    (λ c. search needs) (λ c. search needs) (λ c. search needs) (λ c κs. search needs)
+    (λ c. search rules) (λ c. search rules) (λ c. search rules) (λ c κs. search rules)
     returns-4
     returns-5)

@@ -1,5 +1,5 @@
 -- `sheet::read` meets its contract. The loop's invariant: what reading the sheet finds is what the lines from `at` on add. Assumes nothing.
-use Rattle.refusal.proofs.Basics.{sym, ◌∙◌, needs, arith, ◌+◌, ◌-◌, ◌≤◌, ◌<◌, length}
+use Rattle.refusal.proofs.Basics.{sym, ◌∙◌, rules, arith, ◌+◌, ◌-◌, ◌≤◌, ◌<◌, length}
 use Rattle.sheet.proofs.Laws.{Reached, reached_first, reached_ends, reached_number, reached_bad, reached_next, reached_open, reached_last}
 use Rattle.sheet.proofs.read.Statement.{statement}
 use Rattle.sheet.proofs.read.Tie as tie
@@ -49,7 +49,7 @@ add-starts : tie.Need-overflow-add-starts invariant-loop decreases-loop
 add-starts c = omega (arith, ends c.before.before.before.before.before, (fits c).1)
 
 mul-starts : tie.Need-overflow-mul-starts invariant-loop decreases-loop
-mul-starts c = let h = (fits c).0 in search needs
+mul-starts c = let h = (fits c).0 in search rules
 
 array-write-starts : tie.Need-array-write-starts invariant-loop decreases-loop
 array-write-starts c = omega (arith, (fits c).0)
@@ -58,7 +58,7 @@ sub-lengths : tie.Need-overflow-sub-lengths invariant-loop decreases-loop
 sub-lengths c = (fits c).1
 
 mul-lengths : tie.Need-overflow-mul-lengths invariant-loop decreases-loop
-mul-lengths c = let h = (fits c).0 in search needs
+mul-lengths c = let h = (fits c).0 in search rules
 
 array-write-lengths : tie.Need-array-write-lengths invariant-loop decreases-loop
 array-write-lengths c = omega (arith, (fits c).0)
@@ -98,13 +98,13 @@ read_spec =
     invariant-loop
     decreases-loop
     loop-holds
-    (λ c. search needs) (λ c. search needs) (λ c. search needs) (λ c κs. search needs) (λ c. search needs)
+    (λ c. search rules) (λ c. search rules) (λ c. search rules) (λ c κs. search rules) (λ c. search rules)
     add-stop
-    (λ c. search needs) (λ c. search needs)
+    (λ c. search rules) (λ c. search rules)
     part-right-number-end
-    (λ c κs. search needs) (λ c κs. search needs)
+    (λ c κs. search rules) (λ c κs. search rules)
     returns
-    (λ c κs. search needs)
+    (λ c κs. search rules)
     add-starts
     mul-starts
     array-write-starts
@@ -115,6 +115,6 @@ read_spec =
     add_at
     loop-less
     loop-again
-    (λ c. search needs) (λ c κs. search needs)
+    (λ c. search rules) (λ c κs. search rules)
     returns-2
     returns-3)

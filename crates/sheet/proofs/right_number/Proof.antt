@@ -1,5 +1,5 @@
 -- `sheet::right_number` meets its contract: its number is above the one before it, and its text obeys. Assumes nothing.
-use Rattle.refusal.proofs.Basics.{◌≡◌, sym, ◌∙◌, arith, needs, ◌≤◌, length, []}
+use Rattle.refusal.proofs.Basics.{◌≡◌, sym, ◌∙◌, arith, rules, ◌≤◌, length, []}
 use Rattle.text.proofs.Laws.{to_the_end}
 use Rattle.slip_fields.specs.declared.Currency.TheVariants.{Euro}
 use Rattle.slip_fields.specs.Fields.{field_verdict}
@@ -22,7 +22,7 @@ sub-judge-field : tie.Need-overflow-sub-judge-field
 sub-judge-field c = within c.before
 
 part-judge-field-start : tie.Need-slice-bounds-judge-field-start
-part-judge-field-start c = let h = within c.before in search needs
+part-judge-field-start c = let h = within c.before in search rules
 
 -- it is judged by its field's rule
 judged : (c : tie.After-judge-field) → c.judge-field.result ≡ field_verdict Euro (line_number c.before.before.before.before.before.before.before.args.p.now) [] (line_text c.before.before.before.before.before.before.before.args.p.now)
@@ -43,11 +43,11 @@ returns-3 c =
 pub right-number-spec : {M : Type 1} → statement M
 right-number-spec =
     tie.close (tie.spec
-    (λ c κs. search needs)
+    (λ c κs. search rules)
     returns
-    (λ c κs. search needs) (λ c. search needs)
+    (λ c κs. search rules) (λ c. search rules)
     sub-judge-field
     part-judge-field-start
-    (λ c. search needs) (λ c κs. search needs)
+    (λ c. search rules) (λ c κs. search rules)
     returns-2
     returns-3)

@@ -1,5 +1,5 @@
 -- `slip::ends_right` meets its contract: each return is the definition's test that led there. Assumes nothing.
-use Rattle.refusal.proofs.Basics.{needs}
+use Rattle.refusal.proofs.Basics.{rules}
 use Rattle.slip.proofs.Laws.{other_number, none_last, one_last}
 use Rattle.slip.proofs.ends_right.Statement.{statement}
 use Rattle.slip.proofs.ends_right.Tie as tie
@@ -16,4 +16,4 @@ returns-3 c = one_last c.before.before.before.before.before.args.s.now c.before.
 pub ends-right-spec : {M : Type 1} → statement M
 ends-right-spec =
     tie.close
-    (tie.spec (λ c κs. search needs) returns returns-2 (λ c. search needs) (λ c. search needs) returns-3)
+    (tie.spec (λ c κs. search rules) returns returns-2 (λ c. search rules) (λ c. search rules) returns-3)

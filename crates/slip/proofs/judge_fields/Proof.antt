@@ -1,6 +1,6 @@
 -- `slip::judge_fields` meets its contract. The loop's invariant: the answer is that of the pieces from `at` on, from field `n` on, after
 -- the field that stands from `before` to `end`. Assumes nothing.
-use Rattle.refusal.proofs.Basics.{sym, ◌∙◌, needs, arith, ◌+◌, ◌-◌, length, drop, length-take, length-drop}
+use Rattle.refusal.proofs.Basics.{sym, ◌∙◌, rules, arith, ◌+◌, ◌-◌, length, drop, length-take, length-drop}
 use Rattle.slip.proofs.Laws.{Reached, reached_first, reached_ends, reached_next, reached_refusal, reached_last}
 use Rattle.slip.proofs.judge_fields.Statement.{statement}
 use Rattle.slip.proofs.judge_fields.Tie as tie
@@ -39,7 +39,7 @@ judge-one-requires c κs =
     omega (arith, length-take (l.at + c.before.before.before.i.given.0.0 - l.at) (drop l.at s), length-drop l.at s)
 
 enum_told : tie.Need-enum-told invariant-loop decreases-loop
-enum_told c = search needs
+enum_told c = search rules
 
 add_at : tie.Need-overflow-add-at invariant-loop decreases-loop
 add_at c =
@@ -86,9 +86,9 @@ judge-fields-spec =
     invariant-loop
     decreases-loop
     loop-holds
-    (λ c. search needs) (λ c. search needs) (λ c. search needs) (λ c κs. search needs) (λ c. search needs)
+    (λ c. search rules) (λ c. search rules) (λ c. search rules) (λ c κs. search rules) (λ c. search rules)
     add-stop
-    (λ c. search needs) (λ c. search needs) (λ c. search needs) (λ c. search needs) (λ c. search needs)
+    (λ c. search rules) (λ c. search rules) (λ c. search rules) (λ c. search rules) (λ c. search rules)
     part-judge-one-end-2
     judge-one-requires
     enum_told
@@ -96,7 +96,7 @@ judge-fields-spec =
     add-n
     loop-less
     loop-again
-    (λ c. search needs)
+    (λ c. search rules)
     returns
-    (λ c. search needs)
+    (λ c. search rules)
     returns-2)

@@ -1,5 +1,5 @@
 -- `slip::judge_one` meets its contract: a 3's byte lies within the field, so that its place in the slip fits. Assumes nothing.
-use Rattle.refusal.proofs.Basics.{needs, arith, length}
+use Rattle.refusal.proofs.Basics.{rules, arith, length}
 use Rattle.verdict.proofs.Verdicts.{byte_within}
 use Rattle.slip_fields.proofs.Theorems.{field_within}
 use Rattle.slip.proofs.judge_one.Statement.{statement}
@@ -15,4 +15,4 @@ returns : tie.Need-returns
 returns c = rw (c.answer-of.ensures, c.before.byte_of.ensures, c.before.before.judge-field.ensures)
 
 pub judge-one-spec : {M : Type 1} → statement M
-judge-one-spec = tie.close (tie.spec (λ c κs. search needs) (λ c κs. search needs) add-answer-of (λ c κs. search needs) returns)
+judge-one-spec = tie.close (tie.spec (λ c κs. search rules) (λ c κs. search rules) add-answer-of (λ c κs. search rules) returns)

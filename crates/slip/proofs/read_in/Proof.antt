@@ -1,5 +1,5 @@
 -- `slip::read_in` meets its contract: each return is the definition's choice on the tests that led there. Assumes nothing.
-use Rattle.refusal.proofs.Basics.{sym, ◌∙◌, needs, not-true, not-false}
+use Rattle.refusal.proofs.Basics.{sym, ◌∙◌, rules, not-true, not-false}
 use Rattle.slip.proofs.Laws.{too_long, ends_wrong, fields_judged}
 use Rattle.slip.proofs.read_in.Statement.{statement}
 use Rattle.slip.proofs.read_in.Tie as tie
@@ -16,9 +16,9 @@ returns-3 c = fields_judged _ c.before.before.before.before.before.args.s.now c.
 pub read-in-spec : {M : Type 1} → statement M
 read-in-spec =
     tie.close (tie.spec
-    (λ c κs. search needs)
+    (λ c κs. search rules)
     returns
-    (λ c κs. search needs) (λ c κs. search needs)
+    (λ c κs. search rules) (λ c κs. search rules)
     returns-2
-    (λ c κs. search needs)
+    (λ c κs. search rules)
     returns-3)

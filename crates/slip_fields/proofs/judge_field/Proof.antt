@@ -1,6 +1,6 @@
 -- `slip_fields::judge_field` meets its contract: each arm says the number, and its answer is the definition's at that number.
 -- Assumes nothing.
-use Rattle.refusal.proofs.Basics.{needs, ne_eqb}
+use Rattle.refusal.proofs.Basics.{rules, ne_eqb}
 use Rattle.slip_fields.specs.Fields.{field_verdict}
 use Rattle.slip_fields.proofs.judge_field.Statement.{statement}
 use Rattle.slip_fields.proofs.judge_field.Tie as tie
@@ -43,8 +43,8 @@ returns-8 c =
 pub judge-field-spec : {M : Type 1} → statement M
 judge-field-spec =
     tie.close (tie.spec
-    (λ c. search needs) (λ c κs. search needs) (λ c κs. search needs) (λ c κs. search needs) (λ c κs. search needs) (λ c κs. search needs)
-    (λ c κs. search needs) (λ c κs. search needs) (λ c κs. search needs) (λ c κs. search needs)
+    (λ c. search rules) (λ c κs. search rules) (λ c κs. search rules) (λ c κs. search rules) (λ c κs. search rules) (λ c κs. search rules)
+    (λ c κs. search rules) (λ c κs. search rules) (λ c κs. search rules) (λ c κs. search rules)
     returns
     returns-2
     returns-3

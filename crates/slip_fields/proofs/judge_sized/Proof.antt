@@ -1,5 +1,5 @@
 -- `slip_fields::judge_sized` meets its contract: each return is the chain's answer on the tests that led there. Assumes nothing.
-use Rattle.refusal.proofs.Basics.{refl, sym, ◌∙◌, needs, ne_eqb, eq-eqb, taken, left, or_first, or_second}
+use Rattle.refusal.proofs.Basics.{refl, sym, ◌∙◌, rules, ne_eqb, eq-eqb, taken, left, or_first, or_second}
 use Rattle.verdict.proofs.Verdicts.{refused, passed}
 use Rattle.slip_fields.proofs.judge_sized.Statement.{statement}
 use Rattle.slip_fields.proofs.judge_sized.Tie as tie
@@ -21,4 +21,4 @@ returns-4 c =
     (left _ _ _ _ (sym (or_second _ _ _ (ne_eqb _ _ c.before.if2.false) (sym (ne_eqb _ _ c.if3.false)))) refl)
 
 pub judge-sized-spec : {M : Type 1} → statement M
-judge-sized-spec = tie.close (tie.spec (λ c κs. search needs) returns returns-2 returns-3 returns-4)
+judge-sized-spec = tie.close (tie.spec (λ c κs. search rules) returns returns-2 returns-3 returns-4)

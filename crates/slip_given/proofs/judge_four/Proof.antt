@@ -1,5 +1,5 @@
 -- `slip_writer::judge_four` meets its contract: the first refusal stands. Assumes nothing.
-use Rattle.refusal.proofs.Basics.{needs, [], ◌∷◌}
+use Rattle.refusal.proofs.Basics.{rules, [], ◌∷◌}
 use Rattle.slip_given.specs.Given.{three}
 use Rattle.slip_given.proofs.Laws.{refused_first, accepted_next}
 use Rattle.slip_given.proofs.judge_four.Statement.{statement}
@@ -18,7 +18,7 @@ returns-2 c =
 pub judge-four-spec : {M : Type 1} → statement M
 judge-four-spec =
     tie.close (tie.spec
-    (λ c κs. search needs) (λ c. search needs)
+    (λ c κs. search rules) (λ c. search rules)
     returns
-    (λ c. search needs) (λ c. search needs) (λ c κs. search needs)
+    (λ c. search rules) (λ c. search rules) (λ c κs. search rules)
     returns-2)

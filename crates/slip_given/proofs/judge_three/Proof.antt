@@ -1,5 +1,5 @@
 -- `slip_writer::judge_three` meets its contract: the first refusal stands. Assumes nothing.
-use Rattle.refusal.proofs.Basics.{◌≡◌, needs, arith, ◌+◌, [], ◌∷◌}
+use Rattle.refusal.proofs.Basics.{◌≡◌, rules, arith, ◌+◌, [], ◌∷◌}
 use Rattle.slip_given.proofs.Laws.{refused_first, accepted_next}
 use Rattle.slip_given.proofs.judge_three.Statement.{statement}
 use Rattle.slip_given.proofs.judge_three.Tie as tie
@@ -25,9 +25,9 @@ returns-3 c =
 pub judge-three-spec : {M : Type 1} → statement M
 judge-three-spec =
     tie.close (tie.spec
-    (λ c κs. search needs) (λ c. search needs)
+    (λ c κs. search rules) (λ c. search rules)
     returns
-    (λ c. search needs) (λ c. search needs) (λ c κs. search needs) (λ c. search needs)
+    (λ c. search rules) (λ c. search rules) (λ c κs. search rules) (λ c. search rules)
     returns-2
-    (λ c. search needs) (λ c. search needs) (λ c κs. search needs)
+    (λ c. search rules) (λ c. search rules) (λ c κs. search rules)
     returns-3)

@@ -1,5 +1,5 @@
 -- `slip_handed::cents` meets its contract: an accepted slip's third field has fifteen digits. Assumes nothing.
-use Rattle.refusal.proofs.Basics.{sym, ap, ◌∙◌, needs}
+use Rattle.refusal.proofs.Basics.{sym, ap, ◌∙◌, rules}
 use Rattle.sums.specs.Sums.{number_in}
 use Rattle.slip_fields.specs.declared.Currency.TheVariants.{Euro}
 use Rattle.slip_handed.specs.declared.Amount.TheVariants.{Cents}
@@ -19,4 +19,4 @@ returns-2 c = rw (sym c.before.before.before.read.ensures ∙ c.before.r.given.1
 pub cents-spec : {M : Type 1} → statement M
 cents-spec =
     tie.close
-    (tie.spec (λ c κs. search needs) (λ c. search needs) (λ c κs. search needs) (λ c κs. search needs) (λ c. search needs) returns returns-2)
+    (tie.spec (λ c κs. search rules) (λ c. search rules) (λ c κs. search rules) (λ c κs. search rules) (λ c. search rules) returns returns-2)

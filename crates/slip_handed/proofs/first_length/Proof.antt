@@ -1,5 +1,5 @@
 -- `slip::first_length` meets its contract: the scan divides the text. Assumes nothing.
-use Rattle.refusal.proofs.Basics.{sym, ◌∙◌, needs, arith, length-take-le}
+use Rattle.refusal.proofs.Basics.{sym, ◌∙◌, rules, arith, length-take-le}
 use Rattle.slip.specs.Slip.{piece_of}
 use Rattle.text.proofs.Pieces.{split_at, split_whole}
 use Rattle.slip_handed.proofs.first_length.Statement.{statement}
@@ -17,4 +17,4 @@ unfolding piece_of
 returns-2 c = rw (split_whole c.before.before.before.before.args.s.now (sym c.before.before.first-bad.ensures ∙ c.enum_told.given.1))
 
 pub first-length-spec : {M : Type 1} → statement M
-first-length-spec = tie.close (tie.spec (λ c κs. search needs) (λ c. search needs) (λ c. search needs) returns returns-2)
+first-length-spec = tie.close (tie.spec (λ c κs. search rules) (λ c. search rules) (λ c. search rules) returns returns-2)

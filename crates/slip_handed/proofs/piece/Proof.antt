@@ -1,6 +1,6 @@
 -- `slip::piece` meets its contract. The loop's invariant: the piece is the one that is left to count, of what is left from `at` on.
 -- Assumes nothing.
-use Rattle.refusal.proofs.Basics.{◌≡◌, sym, ◌∙◌, needs, arith, ◌≤◌, length, drop}
+use Rattle.refusal.proofs.Basics.{◌≡◌, sym, ◌∙◌, rules, arith, ◌≤◌, length, drop}
 use Rattle.text.specs.Split.{split}
 use Rattle.text.proofs.Pieces.{next_piece_lem}
 use Rattle.slip_handed.specs.Handed.{piece_part}
@@ -46,12 +46,12 @@ piece-spec =
     invariant-loop
     decreases-loop
     loop-holds
-    (λ c. search needs) (λ c. search needs) (λ c. search needs) (λ c κs. search needs) (λ c. search needs) (λ c. search needs)
+    (λ c. search rules) (λ c. search rules) (λ c. search rules) (λ c κs. search rules) (λ c. search rules) (λ c. search rules)
     add_at
     add-at-2
-    (λ c. search needs)
+    (λ c. search rules)
     loop-again
-    (λ c. search needs)
+    (λ c. search rules)
     returns
-    (λ c. search needs) (λ c. search needs) (λ c. search needs) (λ c κs. search needs)
+    (λ c. search rules) (λ c. search rules) (λ c. search rules) (λ c κs. search rules)
     returns-2)

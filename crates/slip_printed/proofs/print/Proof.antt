@@ -1,5 +1,5 @@
 -- `slip_printed::print` meets its contract: the arm says what the slip is. Assumes nothing.
-use Rattle.refusal.proofs.Basics.{sym, ◌∙◌, needs}
+use Rattle.refusal.proofs.Basics.{sym, ◌∙◌, rules}
 use Rattle.slip_printed.specs.SlipPrinted.{slip_printed}
 use Rattle.slip_printed.proofs.print.Statement.{statement}
 use Rattle.slip_printed.proofs.print.Tie as tie
@@ -15,8 +15,8 @@ returns-2 c = rw (sym c.before.before.before.before.before.before.before.read.en
 pub print-spec : {M : Type 1} → statement M
 print-spec =
     tie.close (tie.spec
-    (λ c κs. search needs) (λ c. search needs) (λ c. search needs) (λ c κs. search needs) (λ c. search needs) (λ c κs. search needs)
-    (λ c. search needs)
+    (λ c κs. search rules) (λ c. search rules) (λ c. search rules) (λ c κs. search rules) (λ c. search rules) (λ c κs. search rules)
+    (λ c. search rules)
     returns
-    (λ c. search needs)
+    (λ c. search rules)
     returns-2)

@@ -1,5 +1,5 @@
 -- `slip_printed::print_ledger` meets its contract: the arm says what the slip is. Assumes nothing.
-use Rattle.refusal.proofs.Basics.{sym, ◌∙◌, needs}
+use Rattle.refusal.proofs.Basics.{sym, ◌∙◌, rules}
 use Rattle.printed.proofs.Laws.{puts_then}
 use Rattle.slip_printed.specs.SlipPrinted.{ledger_printed}
 use Rattle.slip_printed.proofs.print_ledger.Statement.{statement}
@@ -20,10 +20,10 @@ returns-3 c = rw (sym c.before.before.before.before.before.before.before.read.en
 pub print-ledger-spec : {M : Type 1} → statement M
 print-ledger-spec =
     tie.close (tie.spec
-    (λ c κs. search needs) (λ c. search needs) (λ c. search needs) (λ c κs. search needs) (λ c. search needs) (λ c. search needs)
-    (λ c κs. search needs) (λ c κs. search needs) (λ c. search needs) (λ c κs. search needs) (λ c. search needs)
+    (λ c κs. search rules) (λ c. search rules) (λ c. search rules) (λ c κs. search rules) (λ c. search rules) (λ c. search rules)
+    (λ c κs. search rules) (λ c κs. search rules) (λ c. search rules) (λ c κs. search rules) (λ c. search rules)
     returns
-    (λ c. search needs)
+    (λ c. search rules)
     returns-2
-    (λ c. search needs)
+    (λ c. search rules)
     returns-3)

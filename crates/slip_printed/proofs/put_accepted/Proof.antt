@@ -1,5 +1,5 @@
 -- `slip_printed::put_accepted` meets its contract. Assumes nothing.
-use Rattle.refusal.proofs.Basics.{needs}
+use Rattle.refusal.proofs.Basics.{rules}
 use Rattle.printed.proofs.Laws.{puts_then, puts_within, puts_length}
 use Rattle.slip_printed.proofs.put_accepted.Statement.{statement}
 use Rattle.slip_printed.proofs.put_accepted.Tie as tie
@@ -11,4 +11,4 @@ returns : tie.Need-returns
 returns c = puts_then c.before.before.before.before.before.before.put.ensures c.before.before.put-fields.ensures
 
 pub put-accepted-spec : {M : Type 1} → statement M
-put-accepted-spec = tie.close (tie.spec (λ c κs. search needs) put-fields-requires (λ c. search needs) returns)
+put-accepted-spec = tie.close (tie.spec (λ c κs. search rules) put-fields-requires (λ c. search rules) returns)

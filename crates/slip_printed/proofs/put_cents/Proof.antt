@@ -1,5 +1,5 @@
 -- `slip_printed::put_cents` meets its contract: the nearest cent is one number. Assumes nothing.
-use Rattle.refusal.proofs.Basics.{needs}
+use Rattle.refusal.proofs.Basics.{rules}
 use Rattle.units.proofs.Theorems.{nearest_is}
 use Rattle.printed.proofs.Laws.{puts_then}
 use Rattle.slip_printed.specs.SlipPrinted.{cents_line}
@@ -15,6 +15,6 @@ returns c =
 pub put-cents-spec : {M : Type 1} → statement M
 put-cents-spec =
     tie.close (tie.spec
-    (λ c κs. search needs) (λ c. search needs) (λ c κs. search needs) (λ c κs. search needs) (λ c. search needs) (λ c κs. search needs)
-    (λ c. search needs)
+    (λ c κs. search rules) (λ c. search rules) (λ c κs. search rules) (λ c κs. search rules) (λ c. search rules) (λ c κs. search rules)
+    (λ c. search rules)
     returns)

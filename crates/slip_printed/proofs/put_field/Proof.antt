@@ -1,5 +1,5 @@
 -- `slip_printed::put_field` meets its contract. Assumes nothing.
-use Rattle.refusal.proofs.Basics.{needs}
+use Rattle.refusal.proofs.Basics.{rules}
 use Rattle.printed.proofs.Laws.{puts_then}
 use Rattle.slip_printed.specs.SlipPrinted.{field_line}
 use Rattle.slip_printed.proofs.put_field.Statement.{statement}
@@ -14,6 +14,6 @@ returns c =
 pub put-field-spec : {M : Type 1} → statement M
 put-field-spec =
     tie.close (tie.spec
-    (λ c κs. search needs) (λ c. search needs) (λ c κs. search needs) (λ c κs. search needs) (λ c. search needs) (λ c κs. search needs)
-    (λ c. search needs)
+    (λ c κs. search rules) (λ c. search rules) (λ c κs. search rules) (λ c κs. search rules) (λ c. search rules) (λ c κs. search rules)
+    (λ c. search rules)
     returns)

@@ -1,5 +1,5 @@
 -- `slip_printed::put_fields` meets its contract. The loop's invariant: what puts the lines that are left, puts all. Assumes nothing.
-use Rattle.refusal.proofs.Basics.{◌≡◌, refl, ◌∙◌, needs, arith, ℕ, ◌-◌, ◌≤◌, length, List}
+use Rattle.refusal.proofs.Basics.{◌≡◌, refl, ◌∙◌, rules, arith, ℕ, ◌-◌, ◌≤◌, length, List}
 use Rattle.printed.specs.Printed.{Puts}
 use Rattle.printed.proofs.Laws.{puts_then, puts_none, puts_within, puts_length}
 use Rattle.slip_printed.specs.SlipPrinted.{field_lines}
@@ -44,7 +44,7 @@ put-fields-spec =
     invariant-loop
     decreases-loop
     loop-holds
-    (λ c. omega arith) (λ c κs. search needs) (λ c κs. search needs) (λ c. omega arith) (λ c. omega arith)
+    (λ c. omega arith) (λ c κs. search rules) (λ c κs. search rules) (λ c. omega arith) (λ c. omega arith)
     loop-again
     (λ c. c.before.loop.invariant.0)
     returns)

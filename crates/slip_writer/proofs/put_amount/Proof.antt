@@ -1,5 +1,5 @@
 -- `slip_writer::put_amount` meets its contract. Assumes nothing.
-use Rattle.refusal.proofs.Basics.{needs, arith}
+use Rattle.refusal.proofs.Basics.{rules, arith}
 use Rattle.room.proofs.Digits.{digits_length}
 use Rattle.slip_writer.proofs.put_amount.Statement.{statement}
 use Rattle.slip_writer.proofs.put_amount.Tie as tie
@@ -12,4 +12,4 @@ returns c =
     }
 
 pub put-amount-spec : {M : Type 1} → statement M
-put-amount-spec = tie.close (tie.spec (λ c κs. search needs) (λ c. omega arith) (λ c. search needs) returns)
+put-amount-spec = tie.close (tie.spec (λ c κs. search rules) (λ c. omega arith) (λ c. search rules) returns)

@@ -1,5 +1,5 @@
 -- `slip_writer::put_amount_line` meets its contract. Assumes nothing.
-use Rattle.refusal.proofs.Basics.{needs, arith}
+use Rattle.refusal.proofs.Basics.{rules, arith}
 use Rattle.text.specs.Digits.{digits_text}
 use Rattle.room.proofs.Digits.{digits_length}
 use Rattle.slip_writer.proofs.Laws.{line_length, line_stands, room_feed}
@@ -20,4 +20,4 @@ returns c = line_stands c.before.before.put-amount.ensures
 
 pub put-amount-line-spec : {M : Type 1} → statement M
 put-amount-line-spec =
-    tie.close (tie.spec put-amount-requires slice-write-out add-result (λ c. search needs) returns)
+    tie.close (tie.spec put-amount-requires slice-write-out add-result (λ c. search rules) returns)

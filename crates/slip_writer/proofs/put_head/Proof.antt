@@ -1,5 +1,5 @@
 -- `slip_writer::put_head` meets its contract: one line behind another. Assumes nothing.
-use Rattle.refusal.proofs.Basics.{needs, [], ◌∷◌}
+use Rattle.refusal.proofs.Basics.{rules, [], ◌∷◌}
 use Rattle.text.specs.Bytes.{eur}
 use Rattle.text.specs.Digits.{digits_text}
 use Rattle.slip_fields.specs.Fields.{hrvhub30}
@@ -30,10 +30,10 @@ returns c =
 pub put-head-spec : {M : Type 1} → statement M
 put-head-spec =
     tie.close (tie.spec
-    (λ c. search needs)
+    (λ c. search rules)
     put-line-requires
-    (λ c. search needs)
+    (λ c. search rules)
     put-line-requires-2
     put-amount-line-requires
-    (λ c. search needs)
+    (λ c. search rules)
     returns)

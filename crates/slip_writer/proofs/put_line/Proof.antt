@@ -1,5 +1,5 @@
 -- `slip_writer::put_line` meets its contract. Assumes nothing.
-use Rattle.refusal.proofs.Basics.{needs, arith}
+use Rattle.refusal.proofs.Basics.{rules, arith}
 use Rattle.slip_writer.proofs.Laws.{line_length, line_stands, room_feed}
 use Rattle.slip_writer.proofs.put_line.Statement.{statement}
 use Rattle.slip_writer.proofs.put_line.Tie as tie
@@ -14,4 +14,4 @@ returns : tie.Need-returns
 returns c = line_stands c.before.before.put.ensures
 
 pub put-line-spec : {M : Type 1} → statement M
-put-line-spec = tie.close (tie.spec put-requires slice-write-out (λ c. search needs) (λ c. search needs) returns)
+put-line-spec = tie.close (tie.spec put-requires slice-write-out (λ c. search rules) (λ c. search rules) returns)

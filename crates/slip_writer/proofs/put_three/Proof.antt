@@ -1,5 +1,5 @@
 -- `slip_writer::put_three` meets its contract: one line behind another. Assumes nothing.
-use Rattle.refusal.proofs.Basics.{needs, [], ◌∷◌}
+use Rattle.refusal.proofs.Basics.{rules, [], ◌∷◌}
 use Rattle.slip_writer.proofs.Laws.{room_first, room_next, lines-stand}
 use Rattle.slip_writer.proofs.put_three.Statement.{statement}
 use Rattle.slip_writer.proofs.put_three.Tie as tie
@@ -27,4 +27,4 @@ returns c =
 pub put-three-spec : {M : Type 1} → statement M
 put-three-spec =
     tie.close
-    (tie.spec put-line-requires put-line-requires-2 put-line-requires-3 (λ c. search needs) returns)
+    (tie.spec put-line-requires put-line-requires-2 put-line-requires-3 (λ c. search rules) returns)

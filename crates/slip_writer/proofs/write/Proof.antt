@@ -1,5 +1,5 @@
 -- `slip_writer::write` meets its contract: the amount, the fields in their order, then the room. Assumes nothing.
-use Rattle.refusal.proofs.Basics.{needs}
+use Rattle.refusal.proofs.Basics.{rules}
 use Rattle.slip_given.specs.Given.{eleven}
 use Rattle.slip_writer.proofs.Laws.{amount_refused, field_refused, fields_accepted}
 use Rattle.slip_writer.proofs.Sizes.{accepted_small}
@@ -28,9 +28,9 @@ pub write_spec : {M : Type 1} → statement M
 write_spec =
     tie.close (tie.spec
     returns
-    (λ c κs. search needs) (λ c. search needs)
+    (λ c κs. search rules) (λ c. search rules)
     returns-2
-    (λ c. search needs)
+    (λ c. search rules)
     write-accepted-requires
-    (λ c. search needs)
+    (λ c. search rules)
     returns-3)

@@ -1,5 +1,5 @@
 -- `slip_writer::write_accepted` meets its contract: the slip is its head and its fields in three parts. Assumes nothing.
-use Rattle.refusal.proofs.Basics.{◌≡◌, refl, needs, arith, ℕ, ◌+◌, ◌≤◌, length, List, ◌++◌}
+use Rattle.refusal.proofs.Basics.{◌≡◌, refl, rules, arith, ℕ, ◌+◌, ◌≤◌, length, List, ◌++◌}
 use Rattle.text.proofs.Stands.{front_stands}
 use Rattle.slip_given.specs.Given.{three, four}
 use Rattle.text.specs.Lines.{join_lines}
@@ -93,11 +93,11 @@ write-accepted-spec =
     add-middle
     size-four-requires-2
     add-size
-    (λ c κs. search needs)
+    (λ c κs. search rules)
     returns
     put-head-requires
     put-four-requires
     put-three-requires
     put-four-requires-2
-    (λ c. search needs)
+    (λ c. search rules)
     returns-2)

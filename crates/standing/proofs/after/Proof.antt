@@ -1,5 +1,5 @@
 -- `standing::after` meets its contract: the definition's choice on whether the record is sound. Assumes nothing.
-use Rattle.refusal.proofs.Basics.{refl, sym, ◌∙◌, needs, left, entered}
+use Rattle.refusal.proofs.Basics.{refl, sym, ◌∙◌, rules, left, entered}
 use Rattle.standing.proofs.after.Statement.{statement}
 use Rattle.standing.proofs.after.Tie as tie
 
@@ -13,4 +13,4 @@ returns-2 : tie.Need-returns-2
 returns-2 c = left _ _ _ _ (sym c.before.is-sound.ensures ∙ c.if1.false) refl
 
 pub after-spec : {M : Type 1} → statement M
-after-spec = tie.close (tie.spec (λ c κs. search needs) sound returns returns-2)
+after-spec = tie.close (tie.spec (λ c κs. search rules) sound returns returns-2)

@@ -1,5 +1,5 @@
 -- `standing::after_sound` meets its contract: the arm says the type, and a sound record has small counts. Assumes nothing.
-use Rattle.refusal.proofs.Basics.{◌≡◌, ap, needs, arith, ℕ}
+use Rattle.refusal.proofs.Basics.{◌≡◌, ap, rules, arith, ℕ}
 use Rattle.condition.specs.declared.Condition.{Condition}
 use Rattle.condition.specs.declared.Counts.{Counts}
 use Rattle.condition.specs.declared.Open.{Open}
@@ -35,11 +35,11 @@ returns-4 c = rw (c.made4.ensures, c.before.before.before.group-after.ensures, c
 pub after-sound-spec : {M : Type 1} → statement M
 after-sound-spec =
     tie.close (tie.spec
-    (λ c κs. search needs)
+    (λ c κs. search rules)
     add-t13
-    (λ c κs. search needs)
+    (λ c κs. search rules)
     group-after-requires
-    (λ c. search needs) (λ c κs. search needs) (λ c κs. search needs) (λ c. search needs) (λ c κs. search needs) (λ c. search needs) (λ c κs. search needs) (λ c. search needs) (λ c κs. search needs)
+    (λ c. search rules) (λ c κs. search rules) (λ c κs. search rules) (λ c. search rules) (λ c κs. search rules) (λ c. search rules) (λ c κs. search rules) (λ c. search rules) (λ c κs. search rules)
     returns
     returns-2
     returns-3

@@ -1,5 +1,5 @@
 -- `standing::group_after` meets its contract: the arm says what the line adds. Assumes nothing.
-use Rattle.refusal.proofs.Basics.{needs}
+use Rattle.refusal.proofs.Basics.{rules}
 use Rattle.standing.proofs.group_after.Statement.{statement}
 use Rattle.standing.proofs.group_after.Tie as tie
 
@@ -12,7 +12,7 @@ returns-3 c = rw (c.before.before.more.given.1, c.add.ensures)
 pub group-after-spec : {M : Type 1} → statement M
 group-after-spec =
     tie.close (tie.spec
-    (λ c. search needs) (λ c. search needs) (λ c κs. search needs) (λ c. search needs) (λ c. search needs) (λ c κs. search needs)
-    (λ c. search needs)
+    (λ c. search rules) (λ c. search rules) (λ c κs. search rules) (λ c. search rules) (λ c. search rules) (λ c κs. search rules)
+    (λ c. search rules)
     returns-2
     returns-3)

@@ -1,5 +1,5 @@
 -- `judge::judge_whole` meets its contract: each return is the definition's choice on the tests that led there. Assumes nothing.
-use Rattle.refusal.proofs.Basics.{needs, eq-eqb, ne_eqb}
+use Rattle.refusal.proofs.Basics.{rules, eq-eqb, ne_eqb}
 use Rattle.standing.proofs.judge_whole.Statement.{statement}
 use Rattle.standing.proofs.judge_whole.Tie as tie
 
@@ -16,4 +16,4 @@ returns-4 : tie.Need-returns-4
 returns-4 c = rw c.if1.false
 
 pub judge-whole-spec : {M : Type 1} → statement M
-judge-whole-spec = tie.close (tie.spec returns (λ c κs. search needs) returns-2 returns-3 returns-4)
+judge-whole-spec = tie.close (tie.spec returns (λ c κs. search rules) returns-2 returns-3 returns-4)

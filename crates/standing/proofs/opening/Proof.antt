@@ -1,5 +1,5 @@
 -- `judge::opening` meets its contract: what the line declares, and no orders yet. Assumes nothing.
-use Rattle.refusal.proofs.Basics.{needs}
+use Rattle.refusal.proofs.Basics.{rules}
 use Rattle.standing.proofs.opening.Statement.{statement}
 use Rattle.standing.proofs.opening.Tie as tie
 
@@ -9,5 +9,5 @@ returns c = rw (c.nothing.ensures, c.before.written.ensures, c.before.before.par
 pub opening-spec : {M : Type 1} → statement M
 opening-spec =
     tie.close (tie.spec
-    (λ c κs. search needs) (λ c κs. search needs) (λ c κs. search needs) (λ c κs. search needs) (λ c κs. search needs)
+    (λ c κs. search rules) (λ c κs. search rules) (λ c κs. search rules) (λ c κs. search rules) (λ c κs. search rules)
     returns)

@@ -1,5 +1,5 @@
 -- `standing_slip::field` meets its contract: as it is given, or what the sheets supply. Assumes nothing.
-use Rattle.refusal.proofs.Basics.{sym, ap, ◌∙◌, needs, length, not-true, not-false}
+use Rattle.refusal.proofs.Basics.{sym, ap, ◌∙◌, rules, length, not-true, not-false}
 use Rattle.standing_slip.proofs.Laws.{field_given, field_alone, field_supplied}
 use Rattle.standing_slip.proofs.field.Statement.{statement}
 use Rattle.standing_slip.proofs.field.Tie as tie
@@ -18,4 +18,4 @@ returns-3 c =
     (c.bytes-in.ensures ∙ rw c.before.supply.ensures)
 
 pub field-spec : {M : Type 1} → statement M
-field-spec = tie.close (tie.spec (λ c. search needs) (λ c κs. search needs) returns (λ c κs. search needs) returns-2 (λ c κs. search needs) (λ c κs. search needs) returns-3)
+field-spec = tie.close (tie.spec (λ c. search rules) (λ c κs. search rules) returns (λ c κs. search rules) returns-2 (λ c κs. search rules) (λ c κs. search rules) returns-3)

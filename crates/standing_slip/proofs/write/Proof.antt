@@ -1,5 +1,5 @@
 -- `standing_slip::write` meets its contract: the sizes, then both sheets, then the writer. Assumes nothing.
-use Rattle.refusal.proofs.Basics.{◌≡◌, sym, ◌∙◌, needs, not-true, not-false}
+use Rattle.refusal.proofs.Basics.{◌≡◌, sym, ◌∙◌, rules, not-true, not-false}
 use Rattle.standing_text.specs.Standing.{both_judged}
 use Rattle.standing_text.proofs.Laws.{found_judged}
 use Rattle.standing_slip.proofs.Laws.{unsized, sheets_refused, sheets_right}
@@ -23,4 +23,4 @@ returns-3 c =
     (rw (← c.before.before.before.before.before.before.before.before.read.ensures, ← c.before.before.before.before.before.before.before.read2.ensures) c.before.before.write-filled.ensures)
 
 pub write_spec : {M : Type 1} → statement M
-write_spec = tie.close (tie.spec (λ c κs. search needs) (λ c κs. search needs) returns (λ c κs. search needs) (λ c κs. search needs) (λ c κs. search needs) (λ c. search needs) returns-2 (λ c. search needs) (λ c κs. search needs) (λ c. search needs) returns-3)
+write_spec = tie.close (tie.spec (λ c κs. search rules) (λ c κs. search rules) returns (λ c κs. search rules) (λ c κs. search rules) (λ c κs. search rules) (λ c. search rules) returns-2 (λ c. search rules) (λ c κs. search rules) (λ c. search rules) returns-3)

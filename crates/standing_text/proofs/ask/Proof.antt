@@ -1,5 +1,5 @@
 -- `standing_text::ask` meets its contract: 28, then 20, then what the sheets supply. Assumes nothing.
-use Rattle.refusal.proofs.Basics.{◌≡◌, sym, ◌∙◌, needs, not-true, not-false}
+use Rattle.refusal.proofs.Basics.{◌≡◌, sym, ◌∙◌, rules, not-true, not-false}
 use Rattle.standing_text.specs.Standing.{both_judged}
 use Rattle.standing_text.proofs.Laws.{found_judged, not_standing, sheets_refused, sheets_right}
 use Rattle.standing_text.proofs.ask.Statement.{statement}
@@ -29,9 +29,9 @@ returns-3 c =
 pub ask-spec : {M : Type 1} → statement M
 ask-spec =
     tie.close (tie.spec
-    (λ c κs. search needs) (λ c κs. search needs)
+    (λ c κs. search rules) (λ c κs. search rules)
     returns
-    (λ c κs. search needs) (λ c κs. search needs) (λ c κs. search needs) (λ c. search needs)
+    (λ c κs. search rules) (λ c κs. search rules) (λ c κs. search rules) (λ c. search rules)
     returns-2
-    (λ c. search needs) (λ c κs. search needs)
+    (λ c. search rules) (λ c κs. search rules)
     returns-3)

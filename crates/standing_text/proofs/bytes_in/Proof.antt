@@ -1,5 +1,5 @@
 -- `standing_text::bytes_in` meets its contract: the arm says which sheet it is. Assumes nothing.
-use Rattle.refusal.proofs.Basics.{needs}
+use Rattle.refusal.proofs.Basics.{rules}
 use Rattle.standing_text.specs.Standing.{bytes_from}
 use Rattle.standing_text.proofs.bytes_in.Statement.{statement}
 use Rattle.standing_text.proofs.bytes_in.Tie as tie
@@ -19,7 +19,7 @@ returns-3 c = rw c.before.enum-told3.given.1 c.bytes2.ensures
 pub bytes-in-spec : {M : Type 1} → statement M
 bytes-in-spec =
     tie.close (tie.spec
-    (λ c. search needs) (λ c. search needs) (λ c. search needs) (λ c. search needs) (λ c. search needs) (λ c κs. search needs) (λ c. search needs) (λ c κs. search needs)
+    (λ c. search rules) (λ c. search rules) (λ c. search rules) (λ c. search rules) (λ c. search rules) (λ c κs. search rules) (λ c. search rules) (λ c κs. search rules)
     returns
     returns-2
     returns-3)

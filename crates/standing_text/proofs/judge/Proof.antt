@@ -1,5 +1,5 @@
 -- `standing_text::judge` meets its contract. Assumes nothing.
-use Rattle.refusal.proofs.Basics.{needs}
+use Rattle.refusal.proofs.Basics.{rules}
 use Rattle.standing_text.proofs.judge.Statement.{statement}
 use Rattle.standing_text.proofs.judge.Tie as tie
 
@@ -7,4 +7,4 @@ returns : tie.Need-returns
 returns c = rw c.ask.ensures
 
 pub judge-spec : {M : Type 1} → statement M
-judge-spec = tie.close (tie.spec (λ c κs. search needs) returns)
+judge-spec = tie.close (tie.spec (λ c κs. search rules) returns)

@@ -1,5 +1,5 @@
 -- `standing_text::judge_sheets` meets its contract: each return is the definition's choice on the tests that led there. Assumes nothing.
-use Rattle.refusal.proofs.Basics.{needs, ne_eqb}
+use Rattle.refusal.proofs.Basics.{rules, ne_eqb}
 use Rattle.standing_text.specs.Standing.{sheets_judged}
 use Rattle.standing_text.proofs.judge_sheets.Statement.{statement}
 use Rattle.standing_text.proofs.judge_sheets.Tie as tie
@@ -17,4 +17,4 @@ unfolding sheets_judged
 returns-3 c = rw (c.before.if1.false, c.if2.false)
 
 pub judge-sheets-spec : {M : Type 1} → statement M
-judge-sheets-spec = tie.close (tie.spec (λ c κs. search needs) returns (λ c κs. search needs) returns-2 returns-3)
+judge-sheets-spec = tie.close (tie.spec (λ c κs. search rules) returns (λ c κs. search rules) returns-2 returns-3)

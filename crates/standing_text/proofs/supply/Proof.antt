@@ -1,5 +1,5 @@
 -- `standing_text::supply` meets its contract: the arms say which sheet has the line. Assumes nothing.
-use Rattle.refusal.proofs.Basics.{sym, ◌∙◌, needs}
+use Rattle.refusal.proofs.Basics.{sym, ◌∙◌, rules}
 use Rattle.standing_text.specs.Standing.{supplied_by}
 use Rattle.standing_text.proofs.supply.Statement.{statement}
 use Rattle.standing_text.proofs.supply.Tie as tie
@@ -19,7 +19,7 @@ returns-3 c = rw (sym c.before.before.before.before.before.before.find.ensures �
 pub supply-spec : {M : Type 1} → statement M
 supply-spec =
     tie.close (tie.spec
-    (λ c κs. search needs) (λ c. search needs) (λ c κs. search needs) (λ c. search needs) (λ c κs. search needs) (λ c. search needs) (λ c κs. search needs) (λ c. search needs) (λ c κs. search needs)
+    (λ c κs. search rules) (λ c. search rules) (λ c κs. search rules) (λ c. search rules) (λ c κs. search rules) (λ c. search rules) (λ c κs. search rules) (λ c. search rules) (λ c κs. search rules)
     returns
     returns-2
     returns-3)

@@ -1,5 +1,5 @@
 -- `stretches::cut` meets its contract: what does not stand in the text is no byte. Assumes nothing.
-use Rattle.refusal.proofs.Basics.{refl, sym, needs, lt-leb, le-leb, left, entered, and_first, and_second}
+use Rattle.refusal.proofs.Basics.{refl, sym, rules, lt-leb, le-leb, left, entered, and_first, and_second}
 use Rattle.stretches.proofs.cut.Statement.{statement}
 use Rattle.stretches.proofs.cut.Tie as tie
 
@@ -19,5 +19,5 @@ cut_spec =
     returns
     (λ c. refl)
     returns-2
-    (λ c. search needs) (λ c. search needs)
+    (λ c. search rules) (λ c. search rules)
     returns-3)

@@ -1,5 +1,5 @@
 -- `sums::add` meets its contract: the high parts, with what the low ones carry, and the low part are kept. Assumes nothing.
-use Rattle.refusal.proofs.Basics.{ap, ◌∙◌, needs}
+use Rattle.refusal.proofs.Basics.{ap, ◌∙◌, rules}
 use Rattle.sums.specs.Sums.{sum_of}
 use Rattle.sums.proofs.Laws.{carried_more, low_small}
 use Rattle.sums.proofs.add.Statement.{statement}
@@ -11,6 +11,6 @@ returns c = let a = c.before.args in c.kept.ensures ∙ ap (sum_of a.most) (carr
 pub add_spec : {M : Type 1} → statement M
 add_spec =
     tie.close (tie.spec
-    (λ c. search needs) (λ c. search needs) (λ c. search needs)
+    (λ c. search rules) (λ c. search rules) (λ c. search rules)
     (λ c κs. low_small _)
     returns)

@@ -1,7 +1,7 @@
 -- `sums::longer` meets its contract: the tests say whether the byte is a digit. Assumes nothing.
 use Rattle.classes.proofs.Laws.{no_digit_below, no_digit_above, digit_between}
 use Rattle.text.proofs.Values.{value_skips, value_takes}
-use Rattle.refusal.proofs.Basics.{needs}
+use Rattle.refusal.proofs.Basics.{rules}
 use Rattle.sums.proofs.longer.Statement.{statement}
 use Rattle.sums.proofs.longer.Tie as tie
 
@@ -15,4 +15,4 @@ returns-3 : tie.Need-returns-3
 returns-3 c = value_takes c.before.before.args.v c.before.before.args.b (digit_between c.before.before.args.b c.before.if1.false c.if2.false)
 
 pub longer-spec : {M : Type 1} → statement M
-longer-spec = tie.close (tie.spec returns returns-2 (λ c. search needs) (λ c. search needs) (λ c. search needs) returns-3)
+longer-spec = tie.close (tie.spec returns returns-2 (λ c. search rules) (λ c. search rules) (λ c. search rules) returns-3)

@@ -1,5 +1,5 @@
 -- `sums::number` meets its contract. The loop's invariant: the number of the first eighteen bytes is that of `v` and the rest from here. Assumes nothing.
-use Rattle.refusal.proofs.Basics.{◌≡◌, refl, sym, ◌∙◌, needs, arith, ◌≤◌, ◌<◌, ◌-◌, ◌^◌, length, take, drop, get_or, length-take, get_or-take}
+use Rattle.refusal.proofs.Basics.{◌≡◌, refl, sym, ◌∙◌, rules, arith, ◌≤◌, ◌<◌, ◌-◌, ◌^◌, length, take, drop, get_or, length-take, get_or-take}
 use Rattle.text.specs.Digits.{digits_of, value_from}
 use Rattle.sums.specs.Sums.{number_in}
 use Rattle.text.proofs.Values.{value_grows, value_small, value_on, value_ends}
@@ -49,8 +49,8 @@ number-spec =
     decreases-loop
     loop-holds
     returns
-    (λ c. search needs)
+    (λ c. search rules)
     longer-requires
-    (λ c. search needs) (λ c. search needs)
+    (λ c. search rules) (λ c. search rules)
     loop-again
     returns-2)

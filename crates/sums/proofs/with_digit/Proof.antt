@@ -1,5 +1,5 @@
 -- `sums::with_digit` meets its contract: the tests say whether the byte is a digit, and whether ten times the high part may be below the limit. Assumes nothing.
-use Rattle.refusal.proofs.Basics.{ap, ◌∙◌, needs, arith, ◌-◌, [], ◌∷◌, add-zero}
+use Rattle.refusal.proofs.Basics.{ap, ◌∙◌, rules, arith, ◌-◌, [], ◌∷◌, add-zero}
 use Rattle.text.specs.Digits.{digits_of, value_from}
 use Rattle.classes.proofs.Laws.{no_digit_below, no_digit_above, digit_between}
 use Rattle.text.proofs.Values.{value_skips, value_takes}
@@ -34,11 +34,11 @@ returns-4 c =
 pub with-digit-spec : {M : Type 1} → statement M
 with-digit-spec =
     tie.close (tie.spec
-    (λ c κs. search needs)
+    (λ c κs. search rules)
     returns
-    (λ c κs. search needs)
+    (λ c κs. search rules)
     returns-2
     returns-3
-    (λ c. search needs) (λ c. search needs) (λ c. search needs) (λ c. search needs) (λ c. search needs) (λ c. search needs)
+    (λ c. search rules) (λ c. search rules) (λ c. search rules) (λ c. search rules) (λ c. search rules) (λ c. search rules)
     (λ c κs. low_small _)
     returns-4)

@@ -1,5 +1,5 @@
 -- `sums::written` meets its contract. The loop's invariant: the sum is that of the digits up to here. Assumes nothing.
-use Rattle.refusal.proofs.Basics.{◌≡◌, sym, ap, ◌∙◌, needs, arith, ℕ, ◌≤◌, ◌-◌, length, take, get_or, List, [], ◌∷◌, take_all}
+use Rattle.refusal.proofs.Basics.{◌≡◌, sym, ap, ◌∙◌, rules, arith, ℕ, ◌≤◌, ◌-◌, length, take, get_or, List, [], ◌∷◌, take_all}
 use Rattle.text.specs.Digits.{digits_of, value_from}
 use Rattle.sums.specs.declared.Sum.{Sum}
 use Rattle.sums.specs.Sums.{cents_of, sum_of, number_of}
@@ -42,8 +42,8 @@ written-spec =
     tie.close (tie.spec
     invariant-loop
     decreases-loop
-    (λ c κs. search needs)
+    (λ c κs. search rules)
     loop-holds
-    (λ c. search needs) (λ c κs. search needs) (λ c. search needs) (λ c. search needs)
+    (λ c. search rules) (λ c κs. search rules) (λ c. search rules) (λ c. search rules)
     loop-again
     returns)

@@ -1,5 +1,5 @@
 -- `tally::grow` meets its contract: the definition's choice on the test, and the arm says what is added. Assumes nothing.
-use Rattle.refusal.proofs.Basics.{sym, ◌∙◌, needs, arith}
+use Rattle.refusal.proofs.Basics.{sym, ◌∙◌, rules, arith}
 use Rattle.tally.proofs.Laws.{within_small}
 use Rattle.tally.proofs.grow.Statement.{statement}
 use Rattle.tally.proofs.grow.Tie as tie
@@ -25,11 +25,11 @@ returns-4 c = rw (sym c.before.is_Within.ensures ∙ c.if1.false)
 pub grow_spec : {M : Type 1} → statement M
 grow_spec =
     tie.close (tie.spec
-    (λ c κs. search needs) (λ c. search needs) (λ c. search needs)
+    (λ c κs. search rules) (λ c. search rules) (λ c. search rules)
     add-t10
-    (λ c. search needs)
+    (λ c. search rules)
     add-t11
-    (λ c κs. search needs)
+    (λ c κs. search rules)
     returns
     returns-2
     returns-3

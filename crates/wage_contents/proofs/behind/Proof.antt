@@ -1,5 +1,5 @@
 -- `wage_contents::behind` meets its contract. Assumes nothing.
-use Rattle.refusal.proofs.Basics.{sym, needs, arith, ◌≤◌, length, drop_of_length-le}
+use Rattle.refusal.proofs.Basics.{sym, rules, arith, ◌≤◌, length, drop_of_length-le}
 use Rattle.text.proofs.Laws.{to_the_end}
 use Rattle.wage_contents.proofs.behind.Statement.{statement}
 use Rattle.wage_contents.proofs.behind.Tie as tie
@@ -15,4 +15,4 @@ returns-2 c = to_the_end 21 c.before.before.args.f.now
 
 pub behind-spec : {M : Type 1} → statement M
 behind-spec =
-    tie.close (tie.spec (λ c. search needs) returns (λ c. search needs) (λ c. search needs) (λ c. search needs) returns-2)
+    tie.close (tie.spec (λ c. search rules) returns (λ c. search rules) (λ c. search rules) (λ c. search rules) returns-2)

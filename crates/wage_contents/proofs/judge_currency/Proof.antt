@@ -1,6 +1,6 @@
 -- `wage_contents::judge_currency` meets its contract. Assumes nothing.
 use Rattle.wage_contents.specs.Contents.{currency_verdict}
-use Rattle.refusal.proofs.Basics.{needs}
+use Rattle.refusal.proofs.Basics.{rules}
 use Rattle.wage_contents.proofs.judge_currency.Statement.{statement}
 use Rattle.wage_contents.proofs.judge_currency.Tie as tie
 
@@ -11,4 +11,4 @@ returns c = rw (← c.before.before.before.all-blank.ensures, ← c.before.is_sa
 pub judge-currency-spec : {M : Type 1} → statement M
 judge-currency-spec =
     tie.close
-    (tie.spec (λ c κs. search needs) (λ c. search needs) (λ c κs. search needs) (λ c κs. search needs) returns)
+    (tie.spec (λ c κs. search rules) (λ c. search rules) (λ c κs. search rules) (λ c κs. search rules) returns)

@@ -1,6 +1,6 @@
 -- `wage_contents::judge_date` meets its contract. Assumes nothing.
 use Rattle.wage_contents.specs.Contents.{date_verdict}
-use Rattle.refusal.proofs.Basics.{needs}
+use Rattle.refusal.proofs.Basics.{rules}
 use Rattle.wage_contents.proofs.judge_date.Statement.{statement}
 use Rattle.wage_contents.proofs.judge_date.Tie as tie
 
@@ -10,4 +10,4 @@ returns c = rw (← c.before.before.number.ensures, ← c.before.is-date.ensures
 
 pub judge-date-spec : {M : Type 1} → statement M
 judge-date-spec =
-    tie.close (tie.spec (λ c κs. search needs) (λ c κs. search needs) (λ c κs. search needs) returns)
+    tie.close (tie.spec (λ c κs. search rules) (λ c κs. search rules) (λ c κs. search rules) returns)

@@ -1,6 +1,6 @@
 -- `wage_contents::judge_employer` meets its contract. Assumes nothing.
 use Rattle.wage_contents.specs.Contents.{employer_verdict}
-use Rattle.refusal.proofs.Basics.{needs}
+use Rattle.refusal.proofs.Basics.{rules}
 use Rattle.wage_contents.proofs.judge_employer.Statement.{statement}
 use Rattle.wage_contents.proofs.judge_employer.Tie as tie
 
@@ -11,4 +11,4 @@ returns c = rw (← c.before.before.before.all_of.ensures, ← c.before.before.a
 pub judge-employer-spec : {M : Type 1} → statement M
 judge-employer-spec =
     tie.close
-    (tie.spec (λ c κs. search needs) (λ c κs. search needs) (λ c κs. search needs) (λ c κs. search needs) returns)
+    (tie.spec (λ c κs. search rules) (λ c κs. search rules) (λ c κs. search rules) (λ c κs. search rules) returns)

@@ -1,5 +1,5 @@
 -- `wage_contents::judge_iban` meets its contract: an IBAN with blanks behind it is right, else one rule after the other. Assumes nothing.
-use Rattle.refusal.proofs.Basics.{refl, sym, ◌∙◌, needs, taken, left}
+use Rattle.refusal.proofs.Basics.{refl, sym, ◌∙◌, rules, taken, left}
 use Rattle.verdict.proofs.Verdicts.{refused, passed, failed, met}
 use Rattle.wage_contents.specs.Contents.{iban_place_verdict}
 use Rattle.wage_contents.proofs.Laws.{account_right}
@@ -32,5 +32,5 @@ returns-5 c =
 pub judge-iban-spec : {M : Type 1} → statement M
 judge-iban-spec =
     tie.close (tie.spec
-    (λ c κs. search needs) (λ c κs. search needs) (λ c κs. search needs) (λ c κs. search needs) returns (λ c κs. search needs) returns-2
-    (λ c κs. search needs) returns-3 (λ c κs. search needs) (λ c κs. search needs) returns-4 returns-5)
+    (λ c κs. search rules) (λ c κs. search rules) (λ c κs. search rules) (λ c κs. search rules) returns (λ c κs. search rules) returns-2
+    (λ c κs. search rules) returns-3 (λ c κs. search rules) (λ c κs. search rules) returns-4 returns-5)

@@ -1,5 +1,5 @@
 -- `wage_contents::judge_oib` meets its contract: zeros are digits. Assumes nothing.
-use Rattle.refusal.proofs.Basics.{sym, ◌∙◌, needs, eqb-true}
+use Rattle.refusal.proofs.Basics.{sym, ◌∙◌, rules, eqb-true}
 use Rattle.verdict.proofs.Verdicts.{passed}
 use Rattle.classes.specs.declared.Class.TheVariants.{Digits, Zeros}
 use Rattle.text.proofs.Laws.{all_wider, all_passes}
@@ -19,4 +19,4 @@ returns-2 c = rw (sym c.before.before.before.all_of.ensures ∙ c.before.before.
 
 pub judge-oib-spec : {M : Type 1} → statement M
 judge-oib-spec =
-    tie.close (tie.spec (λ c κs. search needs) (λ c κs. search needs) returns (λ c κs. search needs) (λ c κs. search needs) returns-2)
+    tie.close (tie.spec (λ c κs. search rules) (λ c κs. search rules) returns (λ c κs. search rules) (λ c κs. search rules) returns-2)

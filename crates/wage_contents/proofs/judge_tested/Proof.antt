@@ -1,5 +1,5 @@
 -- `wage_contents::judge_tested` meets its contract. Assumes nothing.
-use Rattle.refusal.proofs.Basics.{refl, needs}
+use Rattle.refusal.proofs.Basics.{refl, rules}
 use Rattle.verdict.proofs.Verdicts.{refused, passed}
 use Rattle.wage_contents.specs.Contents.{tested}
 use Rattle.wage_contents.proofs.judge_tested.Statement.{statement}
@@ -14,4 +14,4 @@ unfolding tested
 returns-2 c = rw (← c.before.before.judge.ensures) (passed _ _ _ c.before.if1.false c.only_if.ensures)
 
 pub judge-tested-spec : {M : Type 1} → statement M
-judge-tested-spec = tie.close (tie.spec (λ c κs. search needs) returns (λ c κs. search needs) returns-2)
+judge-tested-spec = tie.close (tie.spec (λ c κs. search rules) returns (λ c κs. search rules) returns-2)

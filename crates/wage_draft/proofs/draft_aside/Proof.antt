@@ -1,5 +1,5 @@
 -- `wage_draft::draft_aside` meets its contract: the line is copied, drafted there, and put back if it is right. Assumes nothing.
-use Rattle.refusal.proofs.Basics.{sym, ◌∙◌, needs}
+use Rattle.refusal.proofs.Basics.{sym, ◌∙◌, rules}
 use Rattle.wage_draft.proofs.Laws.{put_whole, scratch_refused, scratch-accepted}
 use Rattle.wage_draft.proofs.draft_aside.Statement.{statement}
 use Rattle.wage_draft.proofs.draft_aside.Tie as tie
@@ -20,7 +20,7 @@ returns-2 c =
 pub draft-aside-spec : {M : Type 1} → statement M
 draft-aside-spec =
     tie.close (tie.spec
-    (λ c κs. search needs) (λ c κs. search needs) (λ c. search needs) (λ c. search needs) (λ c. search needs)
+    (λ c κs. search rules) (λ c κs. search rules) (λ c. search rules) (λ c. search rules) (λ c. search rules)
     returns
-    (λ c. search needs) (λ c κs. search needs) (λ c. search needs) (λ c. search needs)
+    (λ c. search rules) (λ c κs. search rules) (λ c. search rules) (λ c. search rules)
     returns-2)

@@ -1,5 +1,5 @@
 -- `wage_draft::draft_in` meets its contract. The loop's invariant: what is left to be drafted is the whole draft. Assumes nothing.
-use Rattle.refusal.proofs.Basics.{◌≡◌, refl, ◌∙◌, needs, arith, ◌≤◌, ◌-◌, length, take, drop}
+use Rattle.refusal.proofs.Basics.{◌≡◌, refl, ◌∙◌, rules, arith, ◌≤◌, ◌-◌, length, take, drop}
 use Rattle.wage_places.specs.Places.{spots}
 use Rattle.lent_fields.specs.Fields.{fields_of}
 use Rattle.wage_draft.specs.Draft.{drafted}
@@ -24,7 +24,7 @@ size-at-requires : tie.Need-size-at-requires invariant-places decreases-places
 size-at-requires c κs = tt
 
 end-of-requires : tie.Need-end-of-requires invariant-places decreases-places
-end-of-requires c κs = search needs
+end-of-requires c κs = search rules
 
 sub-place : tie.Need-overflow-sub-place invariant-places decreases-places
 sub-place c =
@@ -36,19 +36,19 @@ part-place-start : tie.Need-slice-bounds-place-start invariant-places decreases-
 part-place-start c =
     let l = c.before.before.before.before.places in
     let e = field_ends c.before.before.before.before.before.before.before.before.before.args.text.now l.at _ _ (omega arith) c.end_of_lem.ensures in
-    search (needs, e.begins)
+    search (rules, e.begins)
 
 part-place-end : tie.Need-slice-bounds-place-end invariant-places decreases-places
 part-place-end c =
     let l = c.before.before.before.before.places in
     let e = field_ends c.before.before.before.before.before.before.before.before.before.args.text.now l.at _ _ (omega arith) c.end_of_lem.ensures in
-    search (needs, e.within)
+    search (rules, e.within)
 
 place-requires : tie.Need-place-requires invariant-places decreases-places
 place-requires c κs = tt
 
 enum_told : tie.Need-enum-told invariant-places decreases-places
-enum_told c = search needs
+enum_told c = search rules
 
 add-k : tie.Need-overflow-add-k invariant-places decreases-places
 add-k c = omega arith
@@ -67,7 +67,7 @@ places-again c =
     (e.within, (omega arith, (c.before.before.before.line.given ∙ l.invariant.1.1.0, l.invariant.1.1.1 ∙ draft-on a.day a.kind a.t (spots a.t) a.last l.k a.sizes.now l.i a.text.now l.at l.line c.before.before.before.before.before.before.before.end_of_lem.result e (omega arith) (omega (arith, c.before.before.before.before.before.before.before.before.before.before.before.before.count.ensures)) c.before.before.before.before.place.result c.before.before.before.before.place.new.1.1.1.1.1.0 c.before.before.before.before.place.ensures c.enum_told.given.1)))
 
 enum-known-r : tie.Need-enum-known-r invariant-places decreases-places
-enum-known-r c = search needs
+enum-known-r c = search rules
 
 same_length : tie.Need-same-length invariant-places decreases-places
 same_length c = c.before.places.invariant.1.1.0

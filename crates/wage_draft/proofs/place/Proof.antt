@@ -1,5 +1,5 @@
 -- `wage_draft::place` meets its contract: a field of another length is not put, else it is judged where it stands. Assumes nothing.
-use Rattle.refusal.proofs.Basics.{needs, arith}
+use Rattle.refusal.proofs.Basics.{rules, arith}
 use Rattle.wage_draft.proofs.Laws.{placed_wrong, placed-right}
 use Rattle.wage_draft.proofs.place.Statement.{statement}
 use Rattle.wage_draft.proofs.place.Tie as tie
@@ -17,4 +17,4 @@ returns-2 c =
 pub place-spec : {M : Type 1} → statement M
 place-spec =
     tie.close
-    (tie.spec (λ c κs. search needs) returns (λ c κs. search needs) (λ c κs. search needs) (λ c. search needs) returns-2)
+    (tie.spec (λ c κs. search rules) returns (λ c κs. search rules) (λ c κs. search rules) (λ c. search rules) returns-2)

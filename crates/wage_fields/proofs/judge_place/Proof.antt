@@ -1,5 +1,5 @@
 -- `wage_fields::judge_place` meets its contract: a range of one place. Assumes nothing.
-use Rattle.refusal.proofs.Basics.{◌∙◌, needs, arith}
+use Rattle.refusal.proofs.Basics.{◌∙◌, rules, arith}
 use Rattle.wage_fields.proofs.Laws.{few, range_one, range_past}
 use Rattle.wage_fields.proofs.judge_place.Statement.{statement}
 use Rattle.wage_fields.proofs.judge_place.Tie as tie
@@ -18,4 +18,4 @@ returns-2 c = let a = c.before.before.before.before.args in c.judge-range2.ensur
 pub judge-place-spec : {M : Type 1} → statement M
 judge-place-spec =
     tie.close
-    (tie.spec (λ c κs. search needs) (λ c. search needs) (λ c κs. search needs) returns add-judge-range-2 (λ c κs. search needs) returns-2)
+    (tie.spec (λ c κs. search rules) (λ c. search rules) (λ c κs. search rules) returns add-judge-range-2 (λ c κs. search rules) returns-2)

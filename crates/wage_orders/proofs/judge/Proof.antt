@@ -1,5 +1,5 @@
 -- `wage_orders::judge` meets its contract. Assumes nothing.
-use Rattle.refusal.proofs.Basics.{refl, needs, le-leb, lt-leb, eq-eqb, ne_eqb, taken, left, entered}
+use Rattle.refusal.proofs.Basics.{refl, rules, le-leb, lt-leb, eq-eqb, ne_eqb, taken, left, entered}
 use Rattle.wage_orders.specs.Orders.{group_orders}
 use Rattle.wage_orders.proofs.judge.Statement.{statement}
 use Rattle.wage_orders.proofs.judge.Tie as tie
@@ -23,11 +23,11 @@ returns-4 c = entered _ _ _ _ (eq-eqb _ _ c.before.before.before.if1.false) (lef
 pub judge-spec : {M : Type 1} → statement M
 judge-spec =
     tie.close (tie.spec
-    (λ c κs. search needs)
+    (λ c κs. search rules)
     returns
-    (λ c κs. search needs)
+    (λ c κs. search rules)
     returns-2
-    (λ c κs. search needs)
+    (λ c κs. search rules)
     returns-3
-    (λ c κs. search needs)
+    (λ c κs. search rules)
     returns-4)

@@ -1,6 +1,6 @@
 -- `wage_orders::judge_lines` meets its contract. The loop's invariant: the answer is that of the lines from `at` on, the line there being `n`.
 -- Assumes nothing.
-use Rattle.refusal.proofs.Basics.{◌≡◌, refl, sym, ◌∙◌, needs, arith, ◌+◌, ◌-◌, ◌≤◌, length, drop}
+use Rattle.refusal.proofs.Basics.{◌≡◌, refl, sym, ◌∙◌, rules, arith, ◌+◌, ◌-◌, ◌≤◌, length, drop}
 use Rattle.wage_line.specs.Pieces.{pieces}
 use Rattle.wage_line.proofs.PieceLaws.{piece_advances}
 use Rattle.wage_orders.specs.Orders.{orders_from}
@@ -25,7 +25,7 @@ judge-order-requires : tie.Need-judge-order-requires invariant-lines decreases-l
 judge-order-requires c κs = tt
 
 enum_told : tie.Need-enum-told invariant-lines decreases-lines
-enum_told c = search needs
+enum_told c = search rules
 
 add-n : tie.Need-overflow-add-n invariant-lines decreases-lines
 add-n c = omega arith
@@ -49,7 +49,7 @@ lines-again c =
     rw c.next-piece.ensures (l.invariant.0 ∙ orders-on g.day g.kind l.n s l.at (omega arith) (rw c.before.before.before.before.piece.ensures at (sym c.before.before.before.judge-order.ensures ∙ c.before.enum_told.given.1)), omega arith)
 
 enum-known-r : tie.Need-enum-known-r invariant-lines decreases-lines
-enum-known-r c = search needs
+enum-known-r c = search rules
 
 returns : tie.Need-returns invariant-lines decreases-lines
 returns c =

@@ -1,5 +1,5 @@
 -- `wage_printed::day` meets its contract. Assumes nothing.
-use Rattle.refusal.proofs.Basics.{sym, ◌∙◌, needs, arith, not-true, not-false}
+use Rattle.refusal.proofs.Basics.{sym, ◌∙◌, rules, arith, not-true, not-false}
 use Rattle.wage_printed.proofs.Laws.{no_nine, no_feed, no_digits, day_digits}
 use Rattle.wage_printed.proofs.day.Statement.{statement}
 use Rattle.wage_printed.proofs.day.Tie as tie
@@ -14,9 +14,9 @@ pub day-spec : {M : Type 1} → statement M
 day-spec =
     tie.close (tie.spec
     (λ c. no_nine c.before.before.args.s.now c.if1.true)
-    (λ c. search needs)
+    (λ c. search rules)
     (λ c. no_feed c.before.before.before.before.args.s.now (omega arith) c.if2.true)
-    (λ c. search needs) (λ c. search needs) (λ c. search needs) (λ c κs. search needs)
+    (λ c. search rules) (λ c. search rules) (λ c. search rules) (λ c κs. search rules)
     returns-3
-    (λ c. search needs) (λ c. search needs) (λ c. search needs) (λ c κs. search needs)
+    (λ c. search rules) (λ c. search rules) (λ c. search rules) (λ c κs. search rules)
     returns-4)

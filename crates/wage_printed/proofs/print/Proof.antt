@@ -1,5 +1,5 @@
 -- `wage_printed::print` meets its contract. Assumes nothing.
-use Rattle.refusal.proofs.Basics.{needs}
+use Rattle.refusal.proofs.Basics.{rules}
 use Rattle.wage_printed.specs.FilePrinted.{ending_printed}
 use Rattle.wage_printed.proofs.print.Statement.{statement}
 use Rattle.wage_printed.proofs.print.Tie as tie
@@ -14,7 +14,7 @@ returns-2 c = rw c.before.before.before.before.before.e2.given.1 c.before.before
 pub print-spec : {M : Type 1} → statement M
 print-spec =
     tie.close (tie.spec
-    (λ c. search needs) (λ c κs. search needs) (λ c. search needs) (λ c κs. search needs) (λ c. search needs)
+    (λ c. search rules) (λ c κs. search rules) (λ c. search rules) (λ c κs. search rules) (λ c. search rules)
     returns
-    (λ c. search needs)
+    (λ c. search rules)
     returns-2)

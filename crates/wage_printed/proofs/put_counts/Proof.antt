@@ -1,5 +1,5 @@
 -- `wage_printed::put_counts` meets its contract. Assumes nothing.
-use Rattle.refusal.proofs.Basics.{needs}
+use Rattle.refusal.proofs.Basics.{rules}
 use Rattle.printed.proofs.Laws.{puts_then}
 use Rattle.wage_printed.specs.FilePrinted.{ending_printed}
 use Rattle.wage_printed.proofs.put_counts.Statement.{statement}
@@ -15,6 +15,6 @@ returns c =
 pub put-counts-spec : {M : Type 1} → statement M
 put-counts-spec =
     tie.close (tie.spec
-    (λ c. search needs) (λ c κs. search needs) (λ c. search needs) (λ c κs. search needs) (λ c. search needs) (λ c κs. search needs)
-    (λ c. search needs) (λ c κs. search needs) (λ c. search needs)
+    (λ c. search rules) (λ c κs. search rules) (λ c. search rules) (λ c κs. search rules) (λ c. search rules) (λ c κs. search rules)
+    (λ c. search rules) (λ c κs. search rules) (λ c. search rules)
     returns)

@@ -1,5 +1,5 @@
 -- `wage_writer::draft_line` meets its contract: the blanks are dressed, and all places drafted. Assumes nothing.
-use Rattle.refusal.proofs.Basics.{needs}
+use Rattle.refusal.proofs.Basics.{rules}
 use Rattle.bare_line.proofs.Theorems.{bare}
 use Rattle.wage_writer.proofs.Laws.{all-places}
 use Rattle.wage_writer.proofs.draft_line.Statement.{statement}
@@ -12,4 +12,4 @@ returns c =
 
 pub draft-line-spec : {M : Type 1} → statement M
 draft-line-spec =
-    tie.close (tie.spec (λ c κs. search needs) (λ c κs. search needs) (λ c κs. search needs) (λ c. search needs) returns)
+    tie.close (tie.spec (λ c κs. search rules) (λ c κs. search rules) (λ c κs. search rules) (λ c. search rules) returns)

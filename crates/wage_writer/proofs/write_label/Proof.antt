@@ -1,5 +1,5 @@
 -- `wage_writer::write_label` meets its contract: the sizes, the day, then the line. Assumes nothing.
-use Rattle.refusal.proofs.Basics.{sym, ◌∙◌, needs, not-true, not-false}
+use Rattle.refusal.proofs.Basics.{sym, ◌∙◌, rules, not-true, not-false}
 use Rattle.line_room.proofs.Laws.{day_wrong, day_right}
 use Rattle.wage_writer.proofs.Laws.{sizes_wrong, sizes_right}
 use Rattle.wage_writer.specs.Writer.{label_answer}
@@ -25,9 +25,9 @@ returns-3 c =
 pub write-label-spec : {M : Type 1} → statement M
 write-label-spec =
     tie.close (tie.spec
-    (λ c κs. search needs) (λ c κs. search needs)
+    (λ c κs. search rules) (λ c κs. search rules)
     returns
-    (λ c κs. search needs) (λ c κs. search needs)
+    (λ c κs. search rules) (λ c κs. search rules)
     returns-2
-    (λ c κs. search needs) (λ c. search needs)
+    (λ c κs. search rules) (λ c. search rules)
     returns-3)

@@ -1,5 +1,5 @@
 -- `wage_writer::write_order` meets its contract: the sizes, the day, the kind, then the line. Assumes nothing.
-use Rattle.refusal.proofs.Basics.{sym, ◌∙◌, needs, not-true, not-false}
+use Rattle.refusal.proofs.Basics.{sym, ◌∙◌, rules, not-true, not-false}
 use Rattle.line_room.proofs.Laws.{day_wrong, day_right, kind-wrong, kind-right}
 use Rattle.wage_writer.proofs.Laws.{sizes_wrong, sizes_right}
 use Rattle.wage_writer.specs.Writer.{order_answer}
@@ -33,11 +33,11 @@ returns-4 c =
 pub write-order-spec : {M : Type 1} → statement M
 write-order-spec =
     tie.close (tie.spec
-    (λ c κs. search needs) (λ c κs. search needs)
+    (λ c κs. search rules) (λ c κs. search rules)
     returns
-    (λ c κs. search needs) (λ c κs. search needs)
+    (λ c κs. search rules) (λ c κs. search rules)
     returns-2
-    (λ c κs. search needs) (λ c κs. search needs)
+    (λ c κs. search rules) (λ c κs. search rules)
     returns-3
-    (λ c κs. search needs) (λ c. search needs)
+    (λ c κs. search rules) (λ c. search rules)
     returns-4)

@@ -1,5 +1,5 @@
 -- `wet::aimed` meets its contract: the filled text stands at the front of the array. Assumes nothing.
-use Rattle.refusal.proofs.Basics.{sym, ◌∙◌, needs, arith, length-take-le}
+use Rattle.refusal.proofs.Basics.{sym, ◌∙◌, rules, arith, length-take-le}
 use Rattle.filling.proofs.Laws.{filled_front}
 use Rattle.wet.proofs.aimed.Statement.{statement}
 use Rattle.wet.proofs.aimed.Tie as tie
@@ -22,8 +22,8 @@ returns-2 c =
 pub aimed-spec : {M : Type 1} → statement M
 aimed-spec =
     tie.close (tie.spec
-    (λ c. search needs) (λ c κs. search needs) (λ c. search needs)
+    (λ c. search rules) (λ c κs. search rules) (λ c. search rules)
     slice-aggregate-parts
-    (λ c κs. search needs) (λ c. search needs) (λ c. search needs)
+    (λ c κs. search rules) (λ c. search rules) (λ c. search rules)
     returns
     returns-2)

@@ -1,5 +1,5 @@
 -- `wet::is_wet_iban` meets its contract: each return is the definition's choice on the tests that led there. Assumes nothing.
-use Rattle.refusal.proofs.Basics.{ap, ◌∙◌, needs, ne_eqb, eq-eqb, and_first, and_second}
+use Rattle.refusal.proofs.Basics.{ap, ◌∙◌, rules, ne_eqb, eq-eqb, and_first, and_second}
 use Rattle.text.specs.Bytes.{all_of}
 use Rattle.classes.specs.declared.Class.TheVariants.{WetAccount}
 use Rattle.text.proofs.Laws.{to_the_end}
@@ -25,9 +25,9 @@ pub is-wet-iban-spec : {M : Type 1} → statement M
 is-wet-iban-spec =
     tie.close (tie.spec
     returns
-    (λ c. search needs)
+    (λ c. search rules)
     returns-2
-    (λ c. search needs)
+    (λ c. search rules)
     returns-3
-    (λ c. search needs) (λ c. search needs) (λ c. search needs) (λ c κs. search needs)
+    (λ c. search rules) (λ c. search rules) (λ c. search rules) (λ c κs. search rules)
     returns-4)

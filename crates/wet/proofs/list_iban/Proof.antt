@@ -1,6 +1,6 @@
 -- `wet::list_iban` meets its contract: each refusal is the definition's choice on the tests that led there, and the listing over what is
 -- asked of each filling is that over all that the rules ask. Assumes nothing.
-use Rattle.refusal.proofs.Basics.{refl, sym, ◌∙◌, needs, ne_eqb, eq-eqb, not-true, not-false, left, entered}
+use Rattle.refusal.proofs.Basics.{refl, sym, ◌∙◌, rules, ne_eqb, eq-eqb, not-true, not-false, left, entered}
 use Rattle.wet.proofs.Accepts.{iban_listed}
 use Rattle.wet.proofs.list_iban.Statement.{statement}
 use Rattle.wet.proofs.list_iban.Tie as tie
@@ -24,9 +24,9 @@ returns-3 c =
 pub list-iban-spec : {M : Type 1} → statement M
 list-iban-spec =
     tie.close (tie.spec
-    (λ c κs. search needs)
+    (λ c κs. search rules)
     returns
-    (λ c κs. search needs) (λ c κs. search needs)
+    (λ c κs. search rules) (λ c κs. search rules)
     returns-2
-    (λ c κs. search needs) (λ c κs. search needs) (λ c. search needs)
+    (λ c κs. search rules) (λ c κs. search rules) (λ c. search rules)
     returns-3)

@@ -1,5 +1,5 @@
 -- `wet::list_model` meets its contract: 7, else the listing by what is found of one filling. Assumes nothing.
-use Rattle.refusal.proofs.Basics.{refl, needs, not-true, not-false}
+use Rattle.refusal.proofs.Basics.{refl, rules, not-true, not-false}
 use Rattle.wet.proofs.Accepts.{reference_listed}
 use Rattle.wet.proofs.list_model.Statement.{statement}
 use Rattle.wet.proofs.list_model.Tie as tie
@@ -16,7 +16,7 @@ returns-2 c =
 pub list-model-spec : {M : Type 1} → statement M
 list-model-spec =
     tie.close (tie.spec
-    (λ c κs. search needs)
+    (λ c κs. search rules)
     returns
-    (λ c κs. search needs) (λ c κs. search needs) (λ c. search needs)
+    (λ c κs. search rules) (λ c κs. search rules) (λ c. search rules)
     returns-2)

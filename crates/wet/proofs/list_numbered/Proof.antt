@@ -1,5 +1,5 @@
 -- `wet::list_numbered` meets its contract: the arm says the number. Assumes nothing.
-use Rattle.refusal.proofs.Basics.{refl, sym, needs}
+use Rattle.refusal.proofs.Basics.{refl, sym, rules}
 use Rattle.wet.proofs.list_numbered.Statement.{statement}
 use Rattle.wet.proofs.list_numbered.Tie as tie
 
@@ -12,6 +12,6 @@ returns-2 c = rw c.before.enum_told.given.1 (rw c.nowhere.ensures, refl)
 pub list-numbered-spec : {M : Type 1} → statement M
 list-numbered-spec =
     tie.close (tie.spec
-    (λ c. search needs) (λ c κs. search needs) (λ c κs. search needs) (λ c. search needs) (λ c κs. search needs) (λ c. search needs)
+    (λ c. search rules) (λ c κs. search rules) (λ c κs. search rules) (λ c. search rules) (λ c κs. search rules) (λ c. search rules)
     returns
     returns-2)

@@ -1,5 +1,5 @@
 -- `wet::list_reference` meets its contract: each refusal is the definition's choice on the tests that led there. Assumes nothing.
-use Rattle.refusal.proofs.Basics.{refl, sym, ◌∙◌, needs, arith, length, not-true, not-false, lt-leb, le-leb, left, entered}
+use Rattle.refusal.proofs.Basics.{refl, sym, ◌∙◌, rules, arith, length, not-true, not-false, lt-leb, le-leb, left, entered}
 use Rattle.text.specs.Bytes.{marks}
 use Rattle.wet.proofs.list_reference.Statement.{statement}
 use Rattle.wet.proofs.list_reference.Tie as tie
@@ -36,11 +36,11 @@ returns-4 c =
 pub list-reference-spec : {M : Type 1} → statement M
 list-reference-spec =
     tie.close (tie.spec
-    (λ c κs. search needs)
+    (λ c κs. search rules)
     returns
-    (λ c κs. search needs) (λ c κs. search needs)
+    (λ c κs. search rules) (λ c κs. search rules)
     returns-2
-    (λ c κs. search needs) (λ c κs. search needs)
+    (λ c κs. search rules) (λ c κs. search rules)
     returns-3
-    (λ c κs. search needs) (λ c κs. search needs) (λ c. search needs)
+    (λ c κs. search rules) (λ c κs. search rules) (λ c. search rules)
     returns-4)

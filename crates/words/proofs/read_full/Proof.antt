@@ -1,5 +1,5 @@
 -- `words::read_full` is safe and ends: each turn reads at least a byte more. Assumes nothing.
-use Rattle.refusal.proofs.Basics.{◌≡◌, refl, ◌∙◌, needs, arith, ◌-◌, ◌≤◌, length}
+use Rattle.refusal.proofs.Basics.{◌≡◌, refl, ◌∙◌, rules, arith, ◌-◌, ◌≤◌, length}
 use Rattle.words.proofs.read_full.Statement.{statement}
 use Rattle.words.proofs.read_full.Tie as tie
 
@@ -15,7 +15,7 @@ read-full-spec =
     invariant-loop
     decreases-loop
     (λ c. (refl, omega arith))
-    (λ c κs. search needs) (λ c κs. search needs)
+    (λ c κs. search rules) (λ c κs. search rules)
     (λ c. c.before.before.before.before.before.read_behind.auto.0 ∙ c.before.before.before.before.before.before.before.before.loop.invariant.0)
     (λ c. tt)
     (λ c. let k = c.before.before.before.before.before.read_behind.auto.0 in omega arith)

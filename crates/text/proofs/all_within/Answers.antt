@@ -1,0 +1,28 @@
+-- `text::all_within` meets its contract. The loop's invariant: for a class that permits just the bytes between the two, the answer is the
+-- test so far and that of what is left from `i` on. Assumes nothing.
+use Rattle.refusal.proofs.Basics.{◌≡◌, refl, sym, ◌∙◌, arith, ℕ, ◌≤◌, ◌-◌, length, drop, get_or, lt-leb, le-leb, ◌&&◌, leb}
+use Rattle.classes.specs.Classes.{permits}
+use Rattle.text.specs.Bytes.{all_of}
+use Rattle.classes.specs.declared.Class.{Class}
+use Rattle.text.proofs.Laws.{all_empty, first_wrong_lem, tested_on, tested_all}
+use Rattle.text.proofs.all_within.Goals as goal
+
+pub returns-then-s-eq0 : goal.returns-then-s-eq0
+returns-then-s-eq0 c = λ k e. all_empty k _ c.if-s-eq0.true
+
+pub returns-then-s-least : goal.returns-then-s-least
+returns-then-s-least c = let s = c.args.s.now in
+    λ k e. first_wrong_lem k s c.if-s-eq0.false (e (get_or s 0 0) ∙ rw (lt-leb _ _ c.if-s-least.true))
+
+pub returns-then-most-s : goal.returns-then-most-s
+returns-then-most-s c = let s = c.args.s.now in
+    λ k e. first_wrong_lem k s c.if-s-eq0.false (e (get_or s 0 0) ∙ rw (le-leb _ _ c.if-s-least.false, lt-leb _ _ c.if-most-s.true))
+
+pub loop-i-preserved : goal.loop-i-preserved
+loop-i-preserved c = let s = c.args.s.now in
+    let l = c.loop-i in
+    (omega arith, λ k e. l.invariant.1 k e ∙ tested_on k s l.i (omega arith) l.right _ (sym (e (get_or s l.i 0))))
+
+pub returns : goal.returns
+returns c = let l = c.loop-i in
+    λ k e. tested_all k c.args.s.now l.i (omega arith) (omega arith) l.right ∙ sym (l.invariant.1 k e)
