@@ -78,7 +78,7 @@ standing_text_exactly κs a z w call =
     let farm = a.1.0.now in
     let association = a.1.1.0.now in
     let h = asked_zero (standing_of n farm association) z call in
-    let g = standing.asked-exactly n farm association in (
+    let g = standing.asked_exactly n farm association in (
       λ e. let x = g.0 (h.0 e) in (x.0, ((right_exactly farm).0 x.1.0, (right_exactly association).0 x.1.1)),
       λ x. h.1 (g.1 (x.0, ((right_exactly farm).1 x.1.0, (right_exactly association).1 x.1.1))),
     )
@@ -94,8 +94,8 @@ standing_text_is κs a z w call e =
     let n = a.0 in
     let farm = a.1.0.now in
     let association = a.1.1.0.now in
-    let x = (standing.asked-exactly n farm association).0 ((asked_zero (standing_of n farm association) z call).0 e) in
-    rw call (bytes_told (standing_of n farm association) farm association ∙ standing.standing-text-is n farm association x.0 x.1.0 x.1.1)
+    let x = (standing.asked_exactly n farm association).0 ((asked_zero (standing_of n farm association) z call).0 e) in
+    rw call (bytes_told (standing_of n farm association) farm association ∙ standing.standing_text_is n farm association x.0 x.1.0 x.1.1)
 
 -- and the sheet that is told is the one that has the line
 pub standing_sheet_is :
@@ -106,8 +106,8 @@ standing_sheet_is κs a z w call e =
     let n = a.0 in
     let farm = a.1.0.now in
     let association = a.1.1.0.now in
-    let x = (standing.asked-exactly n farm association).0 ((asked_zero (standing_of n farm association) z call).0 e) in
-    rw call (ap sheet_number (standing.standing-sheet-is n farm association x.0 x.1.0 x.1.1) ∙ go (is_among n (fields_in farm)) (is_among n (fields_in association)))
+    let x = (standing.asked_exactly n farm association).0 ((asked_zero (standing_of n farm association) z call).0 e) in
+    rw call (ap sheet_number (standing.standing_sheet_is n farm association x.0 x.1.0 x.1.1) ∙ go (is_among n (fields_in farm)) (is_among n (fields_in association)))
   where
     go : (t u : Bool) → sheet_number (cond t Farm (cond u Association Neither)) ≡ cond t 1 (cond u 2 0)
     go true u = refl
@@ -177,7 +177,7 @@ refused-told n farm association z call h = go (is_standing n) refl (both_judged 
     go false e x f c =
         (field e (ap (λ (t : StandingTold). t.told) c) (ap (λ (t : StandingTold). t.sheet) c), (ap (λ (t : StandingTold). t.start) c, ap (λ (t : StandingTold). t.length) c))
     go true e answer.Accepted f c =
-        absurd (h ((asked_zero (standing_of n farm association) z call).1 ((standing.asked-exactly n farm association).1 (e, neither_bad (bad_line farm) (bad_line association) f))))
+        absurd (h ((asked_zero (standing_of n farm association) z call).1 ((standing.asked_exactly n farm association).1 (e, neither_bad (bad_line farm) (bad_line association) f))))
     go true e (answer.Refused r) f c =
         (line e (sheets_refused farm association r z.told z.sheet f (ap (λ (t : StandingTold). t.told) c) (ap (λ (t : StandingTold). t.sheet) c)), (ap (λ (t : StandingTold). t.start) c, ap (λ (t : StandingTold). t.length) c))
 
@@ -227,7 +227,7 @@ standing-text-writable κs a z w call h κs' a' z' w' call' given =
     let is : get_or (eleven_of sizes text) (n - 4) [] ≡ standing_text n farm association =
     given_at sizes text (n - 4) (omega (arith, b.0, b.1)) ∙ (given ∙ (ap (λ (t : StandingTold). told_text t farm association) call ∙ bytes_told (standing_of n farm association) farm association)) in
     rw call'.answers
-    (go (lent_whole 11 sizes text) _ (written-elsewhere a'.0 (eleven_of sizes text) (length a'.1.1.1.0.now) n b.0 b.1 refl (λ m. rw is (standing.standing-obeys n m farm association h))))
+    (go (lent_whole 11 sizes text) _ (written-elsewhere a'.0 (eleven_of sizes text) (length a'.1.1.1.0.now) n b.0 b.1 refl (λ m. rw is (standing.standing_obeys n m farm association h))))
   where
     go : (t : Bool) (x : Valued) → (x.told.field ≡ a.0 → ⊥) → (cond t x (valued (refusal (Size none)) 0)).told.field ≡ a.0 → ⊥
     go true x f e = f e

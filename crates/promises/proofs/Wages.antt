@@ -174,42 +174,42 @@ label-stands :
     (day : ℕ) (fs : List (List ℕ)) (sizes text : List ℕ) {out : List ℕ} {z : Told} {after : List ℕ}
     → WritesLine (for_sizes 8 sizes text (label_answer day fs (length out))) (label_draft day fs).line out z after → z.number ≡ 0
     → (label_answer day fs (length out) ≡ Accepted) × Front (label_draft day fs).line out after
-label-stands day fs sizes text call h = lent-stands 8 sizes text _ _ _ _ _ call h (λ e. typed_whole Label _ (round.written-label-right day _ fs e).typed)
+label-stands day fs sizes text call h = lent-stands 8 sizes text _ _ _ _ _ call h (λ e. typed_whole Label _ (round.written_label_right day _ fs e).typed)
 
 -- a 309
 order-stands :
     (day kind : ℕ) (fs : List (List ℕ)) (sizes text : List ℕ) {out : List ℕ} {z : Told} {after : List ℕ}
     → WritesLine (for_sizes 16 sizes text (order_answer day kind fs (length out))) (order_draft day kind fs).line out z after → z.number ≡ 0
     → (order_answer day kind fs (length out) ≡ Accepted) × Front (order_draft day kind fs).line out after
-order-stands day kind fs sizes text call h = lent-stands 16 sizes text _ _ _ _ _ call h (λ e. typed_whole Order _ (round.written-order-right day _ kind fs e).typed)
+order-stands day kind fs sizes text call h = lent-stands 16 sizes text _ _ _ _ _ call h (λ e. typed_whole Order _ (round.written_order_right day _ kind fs e).typed)
 
 -- a 301
 group-stands :
     (day kind : ℕ) (fs : List (List ℕ)) (sizes text orders : List ℕ) {out : List ℕ} {z : Told} {after : List ℕ}
     → WritesLine (for_sizes 5 sizes text (group_answer day kind fs orders (length out))) (group_draft day kind fs orders).line out z after → z.number ≡ 0
     → (group_answer day kind fs orders (length out) ≡ Accepted) × Front (group_draft day kind fs orders).line out after
-group-stands day kind fs sizes text orders call h = lent-stands 5 sizes text _ _ _ _ _ call h (λ e. typed_whole Group _ (round.written-group-right day _ kind fs orders e).head.typed)
+group-stands day kind fs sizes text orders call h = lent-stands 5 sizes text _ _ _ _ _ call h (λ e. typed_whole Group _ (round.written_group_right day _ kind fs orders e).head.typed)
 
 -- what the writer of a 300 writes is right, and the room behind the line stays
 pub written_label : EveryWriteLabel (λ day text sizes out r after. r.number ≡ 0 → RightLine day 0 Label (take 1002 after) × (drop 1002 after ≡ drop 1002 out))
-written_label κs a z w call h = let l = label-stands _ _ _ _ call h in (rw l.1.front (round.written-label-right _ _ _ l.0), l.1.behind)
+written_label κs a z w call h = let l = label-stands _ _ _ _ call h in (rw l.1.front (round.written_label_right _ _ _ l.0), l.1.behind)
 
 -- so of a 309
 pub written_order : EveryWriteOrder (λ day kind text sizes out r after. r.number ≡ 0 → RightLine day kind Order (take 1002 after) × (drop 1002 after ≡ drop 1002 out))
-written_order κs a z w call h = let l = order-stands _ _ _ _ _ call h in (rw l.1.front (round.written-order-right _ _ _ _ l.0), l.1.behind)
+written_order κs a z w call h = let l = order-stands _ _ _ _ _ call h in (rw l.1.front (round.written_order_right _ _ _ _ l.0), l.1.behind)
 
 -- a 301 heads a right group of the lent orders
 pub written-group :
     EveryWriteGroup
     (λ day kind text sizes orders out r after.
     r.number ≡ 0 → RightGroup day kind (record { head = take 1002 after; orders = pieces orders }) × (drop 1002 after ≡ drop 1002 out))
-written-group κs a z w call h = let l = group-stands _ _ _ _ _ _ call h in (rw l.1.front (round.written-group-right _ _ _ _ _ l.0), l.1.behind)
+written-group κs a z w call h = let l = group-stands _ _ _ _ _ _ call h in (rw l.1.front (round.written_group_right _ _ _ _ _ l.0), l.1.behind)
 
 -- and a 399 is one
 pub written_closing : EveryWriteClosing (λ day out r after. r.number ≡ 0 → (typed_of (take 1002 after) ≡ Line Closing) × (drop 1002 after ≡ drop 1002 out))
 written_closing κs a z w call h =
-    let l = stands call ((told_zero (closing_answer a.0 (length a.1.0.now)) z call.answers).0 h) (typed_whole Closing (bare_line Closing) round.written-closing-right) in
-    (rw l.front round.written-closing-right, l.behind)
+    let l = stands call ((told_zero (closing_answer a.0 (length a.1.0.now)) z call.answers).0 h) (typed_whole Closing (bare_line Closing) round.written_closing_right) in
+    (rw l.front round.written_closing_right, l.behind)
 
 -- ---------------------------------------------------------------------------
 -- Read back
@@ -230,7 +230,7 @@ pub label-reads-back :
     EveryWagePlace (λ line n part. line ≡ take 1002 after → n ≡ (place_at Label k).field → take part.length (drop part.start line) ≡ get_or (fields_of sizes text) k []))
 label-reads-back κs a z w call h k small κs1 a1 part w1 told sameLine sameField =
     let l = label-stands _ _ _ _ call h in
-    part-read _ _ _ _ part told (sameLine ∙ l.1.front) sameField ∙ round.written-label-reads-back _ _ _ l.0 k small
+    part-read _ _ _ _ part told (sameLine ∙ l.1.front) sameField ∙ round.written_label_reads_back _ _ _ l.0 k small
 
 -- so does a 309
 pub order-reads-back :
@@ -238,7 +238,7 @@ pub order-reads-back :
     EveryWagePlace (λ line n part. line ≡ take 1002 after → n ≡ (place_at Order k).field → take part.length (drop part.start line) ≡ get_or (fields_of sizes text) k []))
 order-reads-back κs a z w call h k small κs1 a1 part w1 told sameLine sameField =
     let l = order-stands _ _ _ _ _ call h in
-    part-read _ _ _ _ part told (sameLine ∙ l.1.front) sameField ∙ round.written-order-reads-back _ _ _ _ l.0 k small
+    part-read _ _ _ _ part told (sameLine ∙ l.1.front) sameField ∙ round.written_order_reads_back _ _ _ _ l.0 k small
 
 -- and a 301 as the five that were lent, and the number and the sum of its orders
 pub group-reads-back :
@@ -257,7 +257,7 @@ pub right-lines-accepted :
     EveryWageFile (λ day bytes r. (f : File) → RightFile day f → bytes ≡ joined (lines_of f) →
     (r.told.number ≡ 0) × ((r.lines ≡ length (lines_of f)) × ((r.groups ≡ length f.groups) × ((r.orders ≡ orders_in f.groups) × (r.total ≡ sum_of 1000 (amounts_in f.groups))))))
 right-lines-accepted κs a z w call f right e =
-    counts-told (file_answer a.0 a.1.0.now) (counts_in f) z call (ap (file_answer a.0) e ∙ round.right-file-accepted a.0 f right)
+    counts-told (file_answer a.0 a.1.0.now) (counts_in f) z call (ap (file_answer a.0) e ∙ round.right_file_accepted a.0 f right)
 
 -- ---------------------------------------------------------------------------
 -- Read, and written again
@@ -278,8 +278,8 @@ pub label_again :
     text ≡ joined (parts_of_line Label s) → sizes ≡ sizes_of Label → (r.number ≡ 0) × (take 1002 after ≡ s))
 label_again κs a z w call s dated room right plain sameText sameSizes =
     let whole = typed_whole Label s right.typed in
-    again 8 a.1.1.0.now a.1.0.now _ _ _ _ _ s call (rw (sameText, sameSizes) (round.read-label-lent-whole s whole))
-    (rw (sameText, sameSizes) (round.label-again a.0 (length a.1.1.1.0.now) dated room s right plain)) whole
+    again 8 a.1.1.0.now a.1.0.now _ _ _ _ _ s call (rw (sameText, sameSizes) (round.read_label_lent_whole s whole))
+    (rw (sameText, sameSizes) (round.label_again a.0 (length a.1.1.1.0.now) dated room s right plain)) whole
 
 -- so is a 309 under kind 4 or 5
 pub order-again :
@@ -287,7 +287,7 @@ pub order-again :
     PlainElsewhere Order s → text ≡ joined (parts_of_line Order s) → sizes ≡ sizes_of Order → (r.number ≡ 0) × (take 1002 after ≡ s))
 order-again κs a z w call s dated known room right plain sameText sameSizes =
     let whole = typed_whole Order s right.typed in
-    again 16 a.1.1.1.0.now a.1.1.0.now _ _ _ _ _ s call (rw (sameText, sameSizes) (round.read-order-lent-whole s whole))
+    again 16 a.1.1.1.0.now a.1.1.0.now _ _ _ _ _ s call (rw (sameText, sameSizes) (round.read_order_lent_whole s whole))
     (rw (sameText, sameSizes) (round.order-again a.0 (length a.1.1.1.1.0.now) dated room s a.1.0 known right plain)) whole
 
 -- and the 301 of a right group, from its five parts and its orders
@@ -296,5 +296,5 @@ pub group-again :
     RightGroup day kind (record { head = s; orders = pieces orders }) → PlainElsewhere Group s → text ≡ joined (five_parts s) → sizes ≡ five_sizes → (r.number ≡ 0) × (take 1002 after ≡ s))
 group-again κs a z w call s dated known room lines right plain sameText sameSizes =
     let whole = typed_whole Group s right.head.typed in
-    again 5 a.1.1.1.0.now a.1.1.0.now _ _ _ _ _ s call (rw (sameText, sameSizes) (round.read-five-lent-whole s whole))
+    again 5 a.1.1.1.0.now a.1.1.0.now _ _ _ _ _ s call (rw (sameText, sameSizes) (round.read_five_lent_whole s whole))
     (rw (sameText, sameSizes) (round.group-again a.0 (length a.1.1.1.1.1.0.now) dated room a.1.0 known s a.1.1.1.1.0.now lines right plain)) whole

@@ -73,7 +73,7 @@ module _ (c : Currency) (s : List ℕ) where
 
   -- a text field is right exactly when it is permitted characters, and not too many
   text_field : (n : ℕ) → ((4 ≤ n) × (n ≤ 9)) ⊎ (n ≡ 14) → RightField n ↔ ((first_wrong (field_text s n) ≡ Nothing) × (characters (field_text s n) ≤ most_of n))
-  text_field n h = field.text-exactly c (text_before s n) (field_text s n) n h
+  text_field n h = field.text_exactly c (text_before s n) (field_text s n) n h
 
   right_plain : Right c s → PlainSlip c s
   unfolding piece_of
@@ -83,19 +83,19 @@ module _ (c : Currency) (s : List ℕ) where
         short = w.short;
         ends = w.ends;
         last = w.last;
-        first = (field.first-exactly _ _ _).0 (f 1 (omega arith) (omega arith));
-        second = (field.second-exactly _ _ _).0 (f 2 (omega arith) (omega arith));
-        third = (field.third-exactly _ _ _).0 (f 3 (omega arith) (omega arith));
+        first = (field.first_exactly _ _ _).0 (f 1 (omega arith) (omega arith));
+        second = (field.second_exactly _ _ _).0 (f 2 (omega arith) (omega arith));
+        third = (field.third_exactly _ _ _).0 (f 3 (omega arith) (omega arith));
         fourth = (text_field 4 (inl (omega arith, omega arith))).0 (f 4 (omega arith) (omega arith));
         fifth = (text_field 5 (inl (omega arith, omega arith))).0 (f 5 (omega arith) (omega arith));
         sixth = (text_field 6 (inl (omega arith, omega arith))).0 (f 6 (omega arith) (omega arith));
         seventh = (text_field 7 (inl (omega arith, omega arith))).0 (f 7 (omega arith) (omega arith));
         eighth = (text_field 8 (inl (omega arith, omega arith))).0 (f 8 (omega arith) (omega arith));
         ninth = (text_field 9 (inl (omega arith, omega arith))).0 (f 9 (omega arith) (omega arith));
-        tenth = (field.tenth-exactly _ _ _).0 (f 10 (omega arith) (omega arith));
-        eleventh = (field.eleventh-exactly _ _ _).0 (f 11 (omega arith) (omega arith));
-        twelfth = (field.twelfth-exactly _ _ _).0 (f 12 (omega arith) (omega arith));
-        thirteenth = (field.thirteenth-exactly _ _ _).0 (f 13 (omega arith) (omega arith));
+        tenth = (field.tenth_exactly _ _ _).0 (f 10 (omega arith) (omega arith));
+        eleventh = (field.eleventh_exactly _ _ _).0 (f 11 (omega arith) (omega arith));
+        twelfth = (field.twelfth_exactly _ _ _).0 (f 12 (omega arith) (omega arith));
+        thirteenth = (field.thirteenth_exactly _ _ _).0 (f 13 (omega arith) (omega arith));
         fourteenth = (text_field 14 (inr refl)).0 (f 14 (omega arith) (omega arith));
       }
 
@@ -107,19 +107,19 @@ module _ (c : Currency) (s : List ℕ) where
         ends = w.ends;
         last = w.last;
         fields =
-            from_on RightField 1 ((field.first-exactly _ _ _).1 w.first)
-            (from_on RightField 2 ((field.second-exactly _ _ _).1 w.second)
-            (from_on RightField 3 ((field.third-exactly _ _ _).1 w.third)
+            from_on RightField 1 ((field.first_exactly _ _ _).1 w.first)
+            (from_on RightField 2 ((field.second_exactly _ _ _).1 w.second)
+            (from_on RightField 3 ((field.third_exactly _ _ _).1 w.third)
             (from_on RightField 4 ((text_field 4 (inl (omega arith, omega arith))).1 w.fourth)
             (from_on RightField 5 ((text_field 5 (inl (omega arith, omega arith))).1 w.fifth)
             (from_on RightField 6 ((text_field 6 (inl (omega arith, omega arith))).1 w.sixth)
             (from_on RightField 7 ((text_field 7 (inl (omega arith, omega arith))).1 w.seventh)
             (from_on RightField 8 ((text_field 8 (inl (omega arith, omega arith))).1 w.eighth)
             (from_on RightField 9 ((text_field 9 (inl (omega arith, omega arith))).1 w.ninth)
-            (from_on RightField 10 ((field.tenth-exactly _ _ _).1 w.tenth)
-            (from_on RightField 11 ((field.eleventh-exactly _ _ _).1 w.eleventh)
-            (from_on RightField 12 ((field.twelfth-exactly _ _ _).1 w.twelfth)
-            (from_on RightField 13 ((field.thirteenth-exactly _ _ _).1 w.thirteenth)
+            (from_on RightField 10 ((field.tenth_exactly _ _ _).1 w.tenth)
+            (from_on RightField 11 ((field.eleventh_exactly _ _ _).1 w.eleventh)
+            (from_on RightField 12 ((field.twelfth_exactly _ _ _).1 w.twelfth)
+            (from_on RightField 13 ((field.thirteenth_exactly _ _ _).1 w.thirteenth)
             (from_on RightField 14 ((text_field 14 (inr refl)).1 w.fourteenth)
             (λ n l u. absurd (omega arith)))))))))))))));
       }

@@ -192,8 +192,8 @@ reference_is m s e = let w = (reference_accepted_exactly m s).0 e in (all_passes
 
 -- an accepted text has at most two bytes for each of its most characters
 pub text_size : (most : ℕ) (s : List ℕ) → characters_verdict most s ≡ 0 → length s ≤ 2 * most
-text_size most s e = let h = (texts.accepted-exactly most s).0 e in omega (arith, h.1, texts.bytes-at-most-twice s h.0)
+text_size most s e = let h = (texts.accepted_exactly most s).0 e in omega (arith, h.1, texts.bytes_at_most_twice s h.0)
 
 -- and no line feed
 pub text_free : (most : ℕ) (s : List ℕ) → characters_verdict most s ≡ 0 → all_of Line s ≡ true
-text_free most s e = free_by_places s (texts.no-line-feed s ((texts.accepted-exactly most s).0 e).0)
+text_free most s e = free_by_places s (texts.no_line_feed s ((texts.accepted_exactly most s).0 e).0)

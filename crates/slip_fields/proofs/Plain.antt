@@ -51,7 +51,7 @@ module _ (c : Currency) (m s : List ℕ) where
   unfolding field_verdict
   text_exactly n h =
       rw (below 1 (omega arith), below 2 (omega arith), below 3 (omega arith), between 10 (omega arith) (omega arith), between 11 (omega arith) (omega arith), between 12 (omega arith) (omega arith), between 13 (omega arith) (omega arith))
-      (texts.accepted-exactly (most_of n) s)
+      (texts.accepted_exactly (most_of n) s)
     where
       below : (k : ℕ) → k < 4 → eqb n k ≡ false
       below k l = ne_eqb n k (λ e. ⊎_elim (λ (w : (4 ≤ n) × (n ≤ 9)). omega (arith, w.0)) (λ (w : n ≡ 14). omega arith) h)

@@ -25,7 +25,7 @@ use Rattle.slip_fields.proofs.Accepted as accepted
 
 -- an amount or a purpose has none
 sized_free : (k : Class) → permits k 10 ≡ false → (a b : ℕ) (s : List ℕ) → sized_verdict k a b s ≡ 0 → all_of Line s ≡ true
-sized_free k n a b s e = accepted.class-free k n s (accepted.sized-is k a b s e).0
+sized_free k n a b s e = accepted.class_free k n s (accepted.sized_is k a b s e).0
 
 -- nor has the word of a currency
 currency_free : (c : Currency) → all_of Line (currency_text c) ≡ true
@@ -37,14 +37,14 @@ currency_free Kuna = refl
 pub no_line_feed : (c : Currency) (n : ℕ) (m s : List ℕ) → field_verdict c n m s ≡ 0 → all_of Line s ≡ true
 unfolding field_verdict all_of
 no_line_feed c n m s =
-    accepted.either (eqb n 1) _ _ (accepted.word-free hrvhub30 s refl)
-    (accepted.either (eqb n 2) _ _ (accepted.word-free (currency_text c) s (currency_free c))
+    accepted.either (eqb n 1) _ _ (accepted.word_free hrvhub30 s refl)
+    (accepted.either (eqb n 2) _ _ (accepted.word_free (currency_text c) s (currency_free c))
     (accepted.either (eqb n 3) _ _ (sized_free Digits refl 15 15 s)
-    (accepted.either (eqb n 10) _ _ (λ e. (accepted.payee-is c s e).0)
-    (accepted.either (eqb n 11) _ _ (accepted.model-free s)
-    (accepted.either (eqb n 12) _ _ (λ e. accepted.class-free Reference refl s (accepted.reference-is m s e).0)
+    (accepted.either (eqb n 10) _ _ (λ e. (accepted.payee_is c s e).0)
+    (accepted.either (eqb n 11) _ _ (accepted.model_free s)
+    (accepted.either (eqb n 12) _ _ (λ e. accepted.class_free Reference refl s (accepted.reference_is m s e).0)
     (accepted.either (eqb n 13) _ _ (sized_free Letters refl 0 4 s)
-    (accepted.text-free (most_of n) s)))))))
+    (accepted.text_free (most_of n) s)))))))
 
 -- ---------------------------------------------------------------------------
 -- The first three fields
@@ -52,27 +52,27 @@ no_line_feed c n m s =
 -- "1 is `HRVHUB30`"
 pub first_is_hrvhub30 : (c : Currency) (m s : List ℕ) → field_verdict c 1 m s ≡ 0 → s ≡ hrvhub30
 unfolding field_verdict
-first_is_hrvhub30 c m s e = accepted.word-is hrvhub30 s e
+first_is_hrvhub30 c m s e = accepted.word_is hrvhub30 s e
 
 -- and that is accepted
 pub hrvhub30_accepted : (c : Currency) (m : List ℕ) → field_verdict c 1 m hrvhub30 ≡ 0
 unfolding field_verdict
-hrvhub30_accepted c m = rw (accepted.same-itself hrvhub30)
+hrvhub30_accepted c m = rw (accepted.same_itself hrvhub30)
 
 -- "2 is `EUR`"; in a kuna slip `HRK`
 pub second_is_currency : (c : Currency) (m s : List ℕ) → field_verdict c 2 m s ≡ 0 → s ≡ currency_text c
 unfolding field_verdict
-second_is_currency c m s e = accepted.word-is (currency_text c) s e
+second_is_currency c m s e = accepted.word_is (currency_text c) s e
 
 -- and that is accepted
 pub currency_accepted : (c : Currency) (m : List ℕ) → field_verdict c 2 m (currency_text c) ≡ 0
 unfolding field_verdict
-currency_accepted c m = rw (accepted.same-itself (currency_text c))
+currency_accepted c m = rw (accepted.same_itself (currency_text c))
 
 -- "3: exactly fifteen digits"
 pub third_is_digits : (c : Currency) (m s : List ℕ) → field_verdict c 3 m s ≡ 0 → (all_of Digits s ≡ true) × (length s ≡ 15)
 unfolding field_verdict
-third_is_digits c m s e = accepted.sized-alone Digits 15 s e
+third_is_digits c m s e = accepted.sized_alone Digits 15 s e
 
 -- and those are accepted
 pub digits_accepted : (c : Currency) (m s : List ℕ) → all_of Digits s ≡ true → length s ≡ 15 → field_verdict c 3 m s ≡ 0
@@ -121,14 +121,14 @@ currency_size Kuna = refl
 pub field_size : (c : Currency) (n : ℕ) (m s : List ℕ) → field_verdict c n m s ≡ 0 → length s ≤ size_of n
 unfolding field_verdict size_of
 field_size c n m s =
-    within (eqb n 1) _ _ _ _ _ (λ e. as_long s hrvhub30 (accepted.word-is hrvhub30 s e))
-    (within (eqb n 2) _ _ _ _ _ (λ e. omega (arith, as_long s (currency_text c) (accepted.word-is (currency_text c) s e), currency_size c))
-    (within (eqb n 3) _ _ _ _ _ (λ e. (accepted.sized-is Digits 15 15 s e).1 15 (omega arith) (omega arith))
-    (within (eqb n 10) _ _ _ _ _ (λ e. (accepted.payee-is c s e).1)
+    within (eqb n 1) _ _ _ _ _ (λ e. as_long s hrvhub30 (accepted.word_is hrvhub30 s e))
+    (within (eqb n 2) _ _ _ _ _ (λ e. omega (arith, as_long s (currency_text c) (accepted.word_is (currency_text c) s e), currency_size c))
+    (within (eqb n 3) _ _ _ _ _ (λ e. (accepted.sized_is Digits 15 15 s e).1 15 (omega arith) (omega arith))
+    (within (eqb n 10) _ _ _ _ _ (λ e. (accepted.payee_is c s e).1)
     (within (eqb n 11) _ _ _ _ _ (λ e. omega (arith, (accepted.model_is s e).four))
-    (within (eqb n 12) _ _ _ _ _ (λ e. (accepted.reference-is m s e).1)
-    (within (eqb n 13) _ _ _ _ _ (λ e. (accepted.sized-is Letters 0 4 s e).1 4 (omega arith) (omega arith))
-    (accepted.text-size (most_of n) s)))))))
+    (within (eqb n 12) _ _ _ _ _ (λ e. (accepted.reference_is m s e).1)
+    (within (eqb n 13) _ _ _ _ _ (λ e. (accepted.sized_is Letters 0 4 s e).1 4 (omega arith) (omega arith))
+    (accepted.text_size (most_of n) s)))))))
 
 -- all fourteen with their line feeds are at most 483 bytes
 pub total_size : size_of 1 + size_of 2 + size_of 3 + size_of 4 + size_of 5 + size_of 6 + size_of 7 + size_of 8 + size_of 9 + size_of 10 + size_of 11 + size_of 12 + size_of 13 + size_of 14 + 14 ≡ 483

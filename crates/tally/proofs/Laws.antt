@@ -35,7 +35,7 @@ fits_without s cents e = go (fits 1000 s) refl
   where
     go : (b : Bool) → fits 1000 s ≡ b → b ≡ true
     go true f = refl
-    go false f = absurd (false≢true (sym (sums.beyond-stays 1000 cents s f) ∙ e))
+    go false f = absurd (false≢true (sym (sums.beyond_stays 1000 cents s f) ∙ e))
 
 -- a tally that is within its limits with what a line adds is so without it
 pub within_without : (t : Tally) (more : Growth) → is_within (grown t more) ≡ true → is_within t ≡ true

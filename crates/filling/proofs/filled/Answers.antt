@@ -1,0 +1,17 @@
+-- `filling::filled` meets its contract. The loop's invariant: the bytes from `i` on are written. Assumes nothing.
+use Rattle.refusal.proofs.Basics.{◌≡◌, refl, rules, arith, ◌≤◌, ◌-◌, length, length-set}
+use Rattle.filling.proofs.Laws.{WrittenFrom, from_end, from_mark, from_byte, from_front, short_refused, enough_accepted}
+use Rattle.filling.proofs.filled.Goals as goal
+
+pub loop-i-init : goal.loop-i-init
+loop-i-init c = let a = c.args in (omega arith, (refl, from_end a.s.now a.out.now a.number))
+
+pub loop-i-preserved-then-s-i-eq63 : goal.loop-i-preserved-then-s-i-eq63
+loop-i-preserved-then-s-i-eq63 c = let l = c.loop-i in
+    let a = c.args in
+    (omega arith, (simp length-set l.invariant.1.0, from_mark a.s.now a.out.now a.number l.i (l.i - 1) l.k l.out (omega arith) l.invariant.0 c.if-n-out.false l.invariant.1.1 c.if-s-i-eq63.true))
+
+pub loop-i-preserved : goal.loop-i-preserved
+loop-i-preserved c = let l = c.loop-i in
+    let a = c.args in
+    (omega arith, (simp length-set l.invariant.1.0, from_byte a.s.now a.out.now a.number l.i (l.i - 1) l.k l.out (omega arith) l.invariant.0 c.if-n-out.false l.invariant.1.1 c.if-s-i-eq63.false))

@@ -1,0 +1,12 @@
+-- `sums::number` meets its contract. The loop's invariant: the number of the first eighteen bytes is that of `v` and the rest from here. Assumes nothing.
+use Rattle.refusal.proofs.Basics.{◌≡◌, refl, sym, ◌∙◌, rules, arith, ◌≤◌, ◌<◌, ◌-◌, ◌^◌, length, take, drop, get_or, length-take, get_or-take}
+use Rattle.text.specs.Digits.{digits_of, value_from}
+use Rattle.sums.specs.Sums.{number_in}
+use Rattle.text.proofs.Values.{value_grows, value_small, value_on, value_ends}
+use Rattle.sums.proofs.number.Given as goal
+
+abbrev pub invariant-loop-i : goal.invariant-loop-i
+invariant-loop-i l = (l.i ≤ length (take 18 l.s)) × ((l.v < 10 ^ l.i) × (number_in l.s ≡ value_from l.v (digits_of (drop l.i (take 18 l.s)))))
+
+abbrev pub decreases-loop-i : goal.decreases-loop-i
+decreases-loop-i l = length l.s - l.i

@@ -1,0 +1,11 @@
+-- `wage_places::find` meets its contract. The loop's invariant: the place is the one among what is left from `k` on. Assumes nothing.
+use Rattle.refusal.proofs.Basics.{◌≡◌, refl, sym, ◌∙◌, arith, ◌≤◌, ◌-◌, drop}
+use Rattle.wage_places.specs.Places.{spots, spot_in}
+use Rattle.wage_places.proofs.Laws.{find_on, find_stops, find_ends}
+use Rattle.wage_places.proofs.find.Given as goal
+
+abbrev pub invariant-loop-k : goal.invariant-loop-k
+invariant-loop-k l = (l.k ≤ l.n) × (spot_in l.field (spots l.t) ≡ spot_in l.field (drop l.k (spots l.t)))
+
+abbrev pub decreases-loop-k : goal.decreases-loop-k
+decreases-loop-k l = l.n - l.k
