@@ -21,7 +21,7 @@ EDITS = sorted(glob.glob("crates/*/must-fail/*.edit"))
 PAGES = sorted(glob.glob("*.md") + glob.glob("docs/*.md") + glob.glob("docs/changes/*.md") + ["crates.txt"])
 DELIM = "\\s(){}\\[\\].;,«»`\""
 TOKEN = re.compile(f"[^{DELIM}]+")
-HEAD = re.compile(r"^(\s*)((?:abbrev |unfoldable |ruleset |data |record |pub )*)([^\s:(){}]+)((?: [({].*)?) : (.*)$")
+HEAD = re.compile(r"^(\s*)((?:abbrev |unfoldable |ruleset |data |record |pub )*)([^\s:(){}]+)((?: [({].*)?) :(?: (.*))?$")
 CAMEL = re.compile(r"[a-z]\w*[A-Z]")
 # names that the words of the kit have, under the name that it gives them
 ALIASES = {
@@ -30,6 +30,8 @@ ALIASES = {
     "List-as-Memᴰ": "Memᴰ", "List·Memᴰ·cases-cons": "mem_cases_cons", "List·Memᴰ·head": "mem_head",
     "List·Memᴰ·not-nil": "mem_not_nil", "List·Memᴰ·tail": "mem_tail",
 }
+# names that the kit has too: turned only in the file that declares them here
+KIT = {"add-one": "crates/sums/proofs/One.antt"}
 # lemmas whose name a definition gets
 LEMMAS = {"digits_of": "digits_of_lem", "told_of": "told_of_lem"}
 TYPES = {"andLast": "AndLast", "andLasts": "AndLasts", "plainElsewhere": "PlainElsewhere"}
@@ -153,7 +155,7 @@ def main():
     for path in ANTT + RT + EDITS + PAGES:
         old = read(path)
         if path.endswith(".antt"):
-            new = antt(old, turned, fields)
+            new = antt(old, {k: v for k, v in turned.items() if KIT.get(k, path) == path}, fields)
         elif path.endswith(".rt"):
             new = rust(old, turned, fields)
         elif path.endswith(".edit"):

@@ -5,4 +5,4 @@ use Rattle.condition.proofs.is_sound.Goals as goal
 
 pub returns : goal.returns
 unfolding is_sound
-returns c = rw (c.UNKNOWN-fits3.ensures-at-After-fits2, c.fits-2.ensures, c.is_within.ensures)
+returns c = rw (c.fits-2.ensures, c.fits.ensures, c.is_within.ensures)

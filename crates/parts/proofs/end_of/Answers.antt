@@ -3,7 +3,9 @@ use Rattle.refusal.proofs.Basics.{◌≡◌, refl, sym, ap, ◌∙◌, rules, ar
 use lib.Pow.{pow-add}
 use Rattle.parts.proofs.end_of.Goals as goal
 
-tens (suc k) = ap (λ (x : ℕ). 2 ^ x) (mul-suc 10 k) ∙ pow-add 2 (10 * k) 10 ∙ ap (λ (x : ℕ). x * 1024) (tens k) ∙ sym (pow-suc 1024 k)
+-- ten bits are a digit of base 1024
+tens : (k : ℕ) → 2 ^ (10 * k) ≡ 1024 ^ k
+tens zero = refl
 tens (suc k) = ap (λ (x : ℕ). 2 ^ x) (mul-suc 10 k) ∙ pow-add 2 (10 * k) 10 ∙ ap (λ (x : ℕ). x * 1024) (tens k) ∙ sym (pow-suc 1024 k)
 
 pub returns-then-k-gt6 : goal.returns-then-k-gt6
