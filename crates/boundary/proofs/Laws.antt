@@ -12,7 +12,7 @@ pub told_by : (r : Refusal) (n : ℕ) (p : Place) (m : ℕ) → n ≡ refusal_nu
 told_by r n p m e f g = rw (e, f, g)
 
 -- an answer r told as t, and what r leaves: told and left by what r is
-pub told-and-left :
+pub told_and_left :
     {A B : Type 0} (told : A → B) (left : A → List ℕ) (a r : A) (t : B) (after : List ℕ)
     → t ≡ told r → (r ≡ a) × (after ≡ left r) → (t ≡ told a) × (after ≡ left a)
-told-and-left told left a r t after e w = (e ∙ ap told w.0, w.1 ∙ ap left w.0)
+told_and_left told left a r t after e w = (e ∙ ap told w.0, w.1 ∙ ap left w.0)

@@ -26,11 +26,11 @@ not_closed Closed f = absurd (f refl)
 not_closed (Refused r) f = refl
 
 -- "The end gives 14, at the next line number, unless the 399 was read"
-pub unfinished-is-14 :
+pub unfinished_is_14 :
     (j : Judge) → is_refused j.condition ≡ false → is_sound j ≡ true → (j.condition ≡ Closed → ⊥) →
     ended j ≡ ending.Refused (Unfinished (record { line = next_line j; field = 0; byte = 0 }))
 unfolding ended
-unfinished-is-14 j unrefused sound unclosed = rw (unrefused, sound, not_closed j.condition unclosed)
+unfinished_is_14 j unrefused sound unclosed = rw (unrefused, sound, not_closed j.condition unclosed)
 
 -- "Acceptance tells lines, groups and orders"
 pub closed_accepts : (j : Judge) → is_sound j ≡ true → j.condition ≡ Closed → ended j ≡ ending.Accepted j.read

@@ -26,8 +26,7 @@ fn tell_made(m: Made) -> Valued
 }
 
 // Checks digits that end in their check digit, by rule 0 (INI) or 1 (MOD 11,10); another rule is 5.
-#[unsafe(no_mangle)]
-pub extern "C" fn lanecockle_check_digits(rule: u32, digits: &[u8]) -> Told
+pub fn lanecockle_check_digits(rule: u32, digits: &[u8]) -> Told
     ensures { result ≡ cond (eqb rule 0) (told_of (check_answer Rule.Ini digits.now)) (cond (eqb rule 1) (told_of (check_answer Rule.Mod1110 digits.now)) no_rule) }
 {
     if rule == 0 {
@@ -40,8 +39,7 @@ pub extern "C" fn lanecockle_check_digits(rule: u32, digits: &[u8]) -> Told
 }
 
 // Makes the check digit of one to nineteen digits, by rule 0 (INI) or 1 (MOD 11,10); another rule is 5.
-#[unsafe(no_mangle)]
-pub extern "C" fn lanecockle_make_digit(rule: u32, digits: &[u8]) -> Valued
+pub fn lanecockle_make_digit(rule: u32, digits: &[u8]) -> Valued
     ensures { result ≡ cond (eqb rule 0) (made_of (make_answer Rule.Ini digits.now)) (cond (eqb rule 1) (made_of (make_answer Rule.Mod1110 digits.now)) (valued no_rule 0)) }
 {
     if rule == 0 {
@@ -54,24 +52,21 @@ pub extern "C" fn lanecockle_make_digit(rule: u32, digits: &[u8]) -> Valued
 }
 
 // An IBAN.
-#[unsafe(no_mangle)]
-pub extern "C" fn lanecockle_iban(text: &[u8]) -> Told
+pub fn lanecockle_iban(text: &[u8]) -> Told
     ensures { result ≡ verdict_told (iban_verdict text.now) }
 {
     boundary::tell_verdict(account::iban(text))
 }
 
 // An OIB.
-#[unsafe(no_mangle)]
-pub extern "C" fn lanecockle_oib(text: &[u8]) -> Told
+pub fn lanecockle_oib(text: &[u8]) -> Told
     ensures { result ≡ verdict_told (oib_verdict text.now) }
 {
     boundary::tell_verdict(account::oib(text))
 }
 
 // A reference under its model.
-#[unsafe(no_mangle)]
-pub extern "C" fn lanecockle_reference(model: &[u8], text: &[u8]) -> Told
+pub fn lanecockle_reference(model: &[u8], text: &[u8]) -> Told
     ensures { result ≡ verdict_told (reference_verdict model.now text.now) }
 {
     boundary::tell_verdict(reference::reference(model, text))

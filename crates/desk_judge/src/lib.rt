@@ -75,48 +75,42 @@ fn place_part(line: &[u8], field: usize) -> Part
 }
 
 // A fresh judge for a day, YYYYMMDD.
-#[unsafe(no_mangle)]
-pub extern "C" fn lanecockle_judge_begin(day: u64) -> Record
+pub fn lanecockle_judge_begin(day: u64) -> Record
     ensures { result ≡ record_of (begun day) }
 {
     desk_record::record_from(condition::begin(day))
 }
 
 // One line: the record after it.
-#[unsafe(no_mangle)]
-pub extern "C" fn lanecockle_judge_step(record: Record, line: &[u8]) -> Record
+pub fn lanecockle_judge_step(record: Record, line: &[u8]) -> Record
     ensures { result ≡ record_of (stepped (judge_of «record») line.now) }
 {
     desk_record::record_from(judge::step(desk_record::judge_from(record), line))
 }
 
 // The lines of a part of a file: the record after them.
-#[unsafe(no_mangle)]
-pub extern "C" fn lanecockle_judge_lines(record: Record, bytes: &[u8]) -> Record
+pub fn lanecockle_judge_lines(record: Record, bytes: &[u8]) -> Record
     ensures { result ≡ record_of (steps (judge_of «record») (pieces bytes.now)) }
 {
     desk_record::record_from(wage_file::lines(desk_record::judge_from(record), bytes))
 }
 
 // What the file comes to.
-#[unsafe(no_mangle)]
-pub extern "C" fn lanecockle_judge_end(record: Record) -> Ended
+pub fn lanecockle_judge_end(record: Record) -> Ended
     ensures { result ≡ ended_of (ended (judge_of «record»)) }
 {
     tell_ending(condition::end(desk_record::judge_from(record)))
 }
 
 // A whole wage file.
-#[unsafe(no_mangle)]
-pub extern "C" fn lanecockle_wage_file(day: u64, bytes: &[u8]) -> Ended
+pub fn lanecockle_wage_file(day: u64, bytes: &[u8]) -> Ended
     ensures { result ≡ ended_of (file_answer day bytes.now) }
 {
     tell_ending(wage_file::whole(day, bytes))
 }
 
 // Where a place of a wage line stands; else no part.
-#[unsafe(no_mangle)]
-pub extern "C" fn lanecockle_wage_place(line: &[u8], field: usize) -> Part
+pub fn lanecockle_wage_place(line: &[u8], field: usize) -> Part
     ensures { result ≡ place_part line.now field }
 {
     place_part(line, field)

@@ -70,24 +70,21 @@ fn tell(slip: LedgerSlip) -> Ledger
 }
 
 // Reads a slip of either currency.
-#[unsafe(no_mangle)]
-pub extern "C" fn lanecockle_ledger_read(slip: &[u8]) -> Ledger
+pub fn lanecockle_ledger_read(slip: &[u8]) -> Ledger
     ensures { result ≡ ledger_told (ledger_of slip.now) }
 {
     tell(ledger_slip::read(slip))
 }
 
 // Where a field of an accepted slip of either currency stands, 4 to 14; else no part.
-#[unsafe(no_mangle)]
-pub extern "C" fn lanecockle_ledger_field(slip: &[u8], number: usize) -> Part
+pub fn lanecockle_ledger_field(slip: &[u8], number: usize) -> Part
     ensures { result ≡ ledger_part slip.now number }
 {
     ledger_slip::part(slip, number)
 }
 
 // So many lipa in cents, the nearest.
-#[unsafe(no_mangle)]
-pub extern "C" fn lanecockle_lipa_in_cents(lipa: u64) -> u64
+pub fn lanecockle_lipa_in_cents(lipa: u64) -> u64
     ensures { result ≡ lipa_in_cents lipa }
 {
     converted(lipa)

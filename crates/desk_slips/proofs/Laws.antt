@@ -9,18 +9,18 @@ use Rattle.lent_fields.specs.Fields.{lent_whole}
 use Rattle.standing_text.specs.declared.Sheet.{Sheet}
 use Rattle.standing_slip.specs.declared.StandingSlip.{StandingSlip}
 use Rattle.standing_slip.specs.Filled.{eleven_of, WritesStanding}
-use Rattle.standing_slip.proofs.Theorems.{with_empty_sheets, slip-of-empty-sheets}
+use Rattle.standing_slip.proofs.Theorems.{with_empty_sheets, slip_of_empty_sheets}
 use Rattle.boundary.specs.declared.Valued.{Valued}
 use Rattle.boundary.specs.Told.{refusal, valued}
 use Rattle.desk_slips.specs.Slips.{written_of, WritesSlipGiven}
 
 -- a slip written from two empty sheets is the writer's slip of the fields that are given
-pub slip-told :
+pub slip_told :
     (cents : ℕ) (sizes text out : List ℕ) (r : StandingSlip) (t : Valued) (after : List ℕ)
     → t ≡ written_of r.written → WritesStanding cents sizes text [] [] out r after → WritesSlipGiven cents sizes text out t after
-slip-told cents sizes text out r t after e w =
+slip_told cents sizes text out r t after e w =
     let f = eleven_of sizes text in
-    let is : r ≡ answered (lent_whole 11 sizes text) = w.answers ∙ slip-of-empty-sheets cents sizes text (length out) in
+    let is : r ≡ answered (lent_whole 11 sizes text) = w.answers ∙ slip_of_empty_sheets cents sizes text (length out) in
     record {
       answers = e ∙ (ap (λ (x : StandingSlip). written_of x.written) is ∙ told (lent_whole 11 sizes text));
       leaves = w.leaves ∙ (rw (with_empty_sheets sizes text) (ap (λ (x : StandingSlip). slip.left_by_slip x.written (slip.slip_text cents f) out) is ∙ left (lent_whole 11 sizes text)));

@@ -36,24 +36,21 @@ pub fn tell_written(w: Written) -> Valued
 }
 
 // Reads a slip.
-#[unsafe(no_mangle)]
-pub extern "C" fn lanecockle_slip_read(slip: &[u8]) -> Told
+pub fn lanecockle_slip_read(slip: &[u8]) -> Told
     ensures { result ≡ told_of (slip_answer slip.now) }
 {
     boundary::tell(slip::read(slip))
 }
 
 // Where a field of an accepted slip stands, 4 to 14; else no part.
-#[unsafe(no_mangle)]
-pub extern "C" fn lanecockle_slip_field(slip: &[u8], number: usize) -> Part
+pub fn lanecockle_slip_field(slip: &[u8], number: usize) -> Part
     ensures { result ≡ field_part slip.now number }
 {
     slip_handed::part(slip, number)
 }
 
 // The amount of an accepted slip in cents.
-#[unsafe(no_mangle)]
-pub extern "C" fn lanecockle_slip_cents(slip: &[u8]) -> Valued
+pub fn lanecockle_slip_cents(slip: &[u8]) -> Valued
     ensures { result ≡ cents_told (slip_cents slip.now) }
 {
     tell_amount(slip_handed::cents(slip))
@@ -62,8 +59,7 @@ pub extern "C" fn lanecockle_slip_cents(slip: &[u8]) -> Valued
 // Writes a slip of an amount in cents and the fields 4 to 14, which stand one behind the other in `text`; the value is how
 // many bytes were written. It is a slip with standing text from two empty sheets. Sizes that are not the text's are refused
 // with 1, so that no field is shortened without a word.
-#[unsafe(no_mangle)]
-pub extern "C" fn lanecockle_slip_write(
+pub fn lanecockle_slip_write(
     cents: u64,
     text: &[u8],
     sizes: &[usize],

@@ -77,8 +77,7 @@ fn tell_slip(s: StandingSlip) -> StandingWritten
 }
 
 // Where the standing text of a field stands.
-#[unsafe(no_mangle)]
-pub extern "C" fn lanecockle_standing_text(
+pub fn lanecockle_standing_text(
     field: usize,
     farm: &[u8],
     association: &[u8],
@@ -90,8 +89,7 @@ pub extern "C" fn lanecockle_standing_text(
 
 // Writes a slip as `lanecockle_slip_write` does, each of the fields 4 to 9, 13 and 14 that is given empty taken from the
 // sheets.
-#[unsafe(no_mangle)]
-pub extern "C" fn lanecockle_slip_write_standing<'a>(
+pub fn lanecockle_slip_write_standing<'a>(
     cents: u64,
     text: &'a [u8],
     sizes: &[usize],

@@ -33,8 +33,7 @@ fn by_value(record: Record, line: &[u8], t: Tally) -> Tallied
 }
 
 // One line: the record after it, and the lent tally brought up to date.
-#[unsafe(no_mangle)]
-pub extern "C" fn lanecockle_judge_step_tally(
+pub fn lanecockle_judge_step_tally(
     record: Record,
     line: &[u8],
     tally: &mut Tally,

@@ -16,8 +16,7 @@ use boundary::Told;
 use wage_places::LineType;
 
 // Writes a 300 for a day.
-#[unsafe(no_mangle)]
-pub extern "C" fn lanecockle_write_label(
+pub fn lanecockle_write_label(
     day: u64,
     text: &[u8],
     sizes: &[usize],
@@ -29,8 +28,7 @@ pub extern "C" fn lanecockle_write_label(
 }
 
 // Writes a 309 for a day and a kind.
-#[unsafe(no_mangle)]
-pub extern "C" fn lanecockle_write_order(
+pub fn lanecockle_write_order(
     day: u64,
     kind: u64,
     text: &[u8],
@@ -43,8 +41,7 @@ pub extern "C" fn lanecockle_write_order(
 }
 
 // Writes a 301 for a day and a kind, of its group's lent 309 lines.
-#[unsafe(no_mangle)]
-pub extern "C" fn lanecockle_write_group(
+pub fn lanecockle_write_group(
     day: u64,
     kind: u64,
     text: &[u8],
@@ -58,8 +55,7 @@ pub extern "C" fn lanecockle_write_group(
 }
 
 // Writes a 399, for a day.
-#[unsafe(no_mangle)]
-pub extern "C" fn lanecockle_write_closing(day: u64, out: &mut [u8]) -> Told
+pub fn lanecockle_write_closing(day: u64, out: &mut [u8]) -> Told
     ensures { WritesLine (closing_answer day (length out.old)) (bare_line LineType.Closing) out.old result out.new }
 {
     boundary::tell(line_room::write_closing(day, out))

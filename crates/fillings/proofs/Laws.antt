@@ -133,12 +133,12 @@ pub digits_of_lem : (x m k : ℕ) → x * 10 ^ m ≤ k → k < x * 10 ^ m + 10 ^
 digits_of_lem x m k l u = div-eq_of_lt-le (10 ^ m) l (rw (add-mul, one-mul) u)
 
 -- the digits below d of the first mark, and then d itself
-pub block-digit :
+pub block_digit :
     (p : List ℕ → Bool) {s : List ℕ} {i : ℕ} (m number d : ℕ) → FirstMark s i → marks s ≡ suc m → d < 10
     → between p s (number * 10 ^ suc m) (suc d * 10 ^ m)
     ≡ between p s (number * 10 ^ suc m) (d * 10 ^ m) ++ block p (set s i (48 + d)) (number * 10 + d)
 unfolding between
-block-digit p {s} {i} m number d f g h =
+block_digit p {s} {i} m number d f g h =
     let z : marks (set s i (48 + d)) ≡ m = omega (arith, marks_first f d h) in
     let a = (number * 10 + d) * 10 ^ m in
     let digit : (k : ℕ) → a ≤ k → k < a + 10 ^ m → (k / 10 ^ m) % 10 ≡ d = λ k l u. rw (digits_of_lem (number * 10 + d) m k l u) (omega arith) in
@@ -215,7 +215,7 @@ module _ {t : List ℕ} {n i left : ℕ} (o : Open t n i left) where
         → Stands after next (block p (take n (set t i (48 + d))) (number * 10 + d)) next' after'
         → Stands b at (digits_below p (take n t) left number (d + 1)) next' after'
     digits_more h v w =
-        rw (add-one d, block-digit p (left - 1) number d o.first some_left h) (stands_append v (rw (take-set-lt n t i (48 + d) first_before) at w))
+        rw (add-one d, block_digit p (left - 1) number d o.first some_left h) (stands_append v (rw (take-set-lt n t i (48 + d) first_before) at w))
 
     -- after the last digit
     pub digits_all :
@@ -223,10 +223,10 @@ module _ {t : List ℕ} {n i left : ℕ} (o : Open t n i left) where
     digits_all l u w = let e : d ≡ 10 = omega arith in rw (← block_ten p (take n t) (left - 1) number some_left) (rw e at w)
 
     -- the place of the next number is at most that number
-    pub digits-place :
+    pub digits_place :
         at ≤ number * 10 ^ left → Stands b at (digits_below p (take n t) left number d) next after → next ≤ (number * 10 + d) * 10 ^ (left - 1)
     unfolding between
-    digits-place u w =
+    digits_place u w =
         let e : left ≡ suc (left - 1) = omega (arith, o.some) in
         let l : at ≤ number * 10 ^ suc (left - 1) = rw (← e) u in
         omega (arith, w.counted, digit_more number d (left - 1), among_length (λ (k : ℕ). p (fill (take n t) k)) (number * 10 ^ suc (left - 1)) (d * 10 ^ (left - 1)))

@@ -17,7 +17,7 @@ use Rattle.lent_fields.specs.Fields.{fields_of, behind}
 use Rattle.lent_fields.proofs.Laws.{fields_behind}
 use Rattle.wage_draft.specs.Draft.{Draft, drafted, going_on, in_scratch, Drafts, DraftsRight}
 use Rattle.wage_draft.proofs.Laws.{drafts_right}
-use Rattle.wage_draft.proofs.Theorems.{drafted-append, drafted-by-fields}
+use Rattle.wage_draft.proofs.Theorems.{drafted_append, drafted_by_fields}
 
 -- what stands up to the end of what was just written
 written_up_to : (s : List ℕ) (at : ℕ) (f : List ℕ) (end : ℕ) → at + length f ≡ end → end ≤ length s → take end (sets s at f) ≡ take at s ++ f
@@ -26,9 +26,9 @@ written_up_to s at f end e h =
     rw (sets-eq f s at (omega arith)) (take_at (take at s ++ f) (drop (at + length f) s) end l)
 
 -- five digits, two and eighteen, one behind the other
-pub three-written :
+pub three_written :
     (s a b c : List ℕ) → length s ≡ 25 → length a ≡ 5 → length b ≡ 2 → length c ≡ 18 → sets (sets (sets s 0 a) 5 b) 7 c ≡ a ++ (b ++ c)
-three-written s a b c l e f g =
+three_written s a b c l e f g =
     let s1 = sets s 0 a in
     let s2 = sets s1 5 b in
     let l1 : length s1 ≡ 25 = length-sets s 0 a ∙ l in
@@ -44,13 +44,13 @@ sum_digits n s h e =
     rw (e, ← (sum_small 100 n h)) (sym (digits_two_limbs (n / limb) (n % limb) (low_small n)) ∙ ap (digits_text 20) (in_limbs n))
 
 -- the number and the sum of a group's orders, one behind the other
-pub worked-digits :
+pub worked_digits :
     (digits : List ℕ) (m n : ℕ) (s : Sum) (k : ℕ) (first second third : List ℕ) → length digits ≡ 25 → n < 100 * limb → k ≡ m → s ≡ sum_of 100 n
     → first ≡ sets digits 0 (digits_text 5 k) → second ≡ sets first 5 (digits_text 2 s.high) → third ≡ sets second 7 (digits_text 18 s.low)
     → third ≡ digits_text 5 m ++ digits_text 20 n
-worked-digits digits m n s k first second third l h i e w1 w2 w3 =
+worked_digits digits m n s k first second third l h i e w1 w2 w3 =
     w3 ∙ rw (w2, w1, i)
-    (three-written digits (digits_text 5 m) (digits_text 2 s.high) (digits_text 18 s.low) l (digits_length 5 m) (digits_length 2 s.high) (digits_length 18 s.low) ∙
+    (three_written digits (digits_text 5 m) (digits_text 2 s.high) (digits_text 18 s.low) l (digits_length 5 m) (digits_length 2 s.high) (digits_length 18 s.low) ∙
     ap (λ (x : List ℕ). digits_text 5 m ++ x) (sum_digits n s h e))
 
 -- two texts, one behind the other, are two fields
@@ -65,10 +65,10 @@ run_stops d next r line w q e =
     rw f (record { answers = refl; leaves = λ (h : Refused q ≡ Accepted). w.leaves (e ∙ h) })
 
 -- one run was accepted, and the next goes on from its line
-run-goes-on :
+run_goes_on :
     (d : Draft) (next : List ℕ → Draft) (r : Answer) (line : List ℕ) → DraftsRight d r line → r ≡ Accepted
     → (s : Answer) (after : List ℕ) → DraftsRight (next line) s after → DraftsRight (going_on d.answer d (next d.line)) s after
-run-goes-on d next r line w e s after p =
+run_goes_on d next r line w e s after p =
     let f : d.answer ≡ Accepted = sym w.answers ∙ e in
     rw (f, ← (w.leaves e)) p
 
@@ -107,12 +107,12 @@ last_one fs zero h = sym (get_or-drop 4 fs 0 [])
 last_one fs (suc k) h = absurd (omega arith)
 
 -- the whole is the three runs
-group-runs :
+group_runs :
     (day kind : ℕ) (fs : List (List ℕ)) (a b line : List ℕ)
     → drafted day kind Group (spots Group) (seven_fields fs a b) line
     ≡ going_on (first_run day kind fs line).answer (first_run day kind fs line) (later_runs day kind fs a b (first_run day kind fs line).line)
 unfolding spots
-group-runs day kind fs a b line =
+group_runs day kind fs a b line =
     let ps = take 4 (spots Group) in
     let qs = take 2 (drop 4 (spots Group)) in
     let os = drop 6 (spots Group) in
@@ -120,11 +120,11 @@ group-runs day kind fs a b line =
     let later = a ∷ (b ∷ (get_or fs 4 [] ∷ [])) in
     let f = first_run day kind fs line in
     let w = worked_run day kind a b f.line in
-    drafted-append day kind Group ps (drop 4 (spots Group)) four later line refl ∙
-    ap (λ (d : Draft). going_on d.answer d (drafted day kind Group (drop 4 (spots Group)) later d.line)) (drafted-by-fields day kind Group ps four fs line (first_four fs)) ∙
+    drafted_append day kind Group ps (drop 4 (spots Group)) four later line refl ∙
+    ap (λ (d : Draft). going_on d.answer d (drafted day kind Group (drop 4 (spots Group)) later d.line)) (drafted_by_fields day kind Group ps four fs line (first_four fs)) ∙
     ap (going_on f.answer f)
-    (drafted-append day kind Group qs os (a ∷ (b ∷ [])) (get_or fs 4 [] ∷ []) f.line refl ∙
-    ap (going_on w.answer w) (drafted-by-fields day kind Group os (get_or fs 4 [] ∷ []) (drop 4 fs) w.line (last_one fs)))
+    (drafted_append day kind Group qs os (a ∷ (b ∷ [])) (get_or fs 4 [] ∷ []) f.line refl ∙
+    ap (going_on w.answer w) (drafted_by_fields day kind Group os (get_or fs 4 [] ∷ []) (drop 4 fs) w.line (last_one fs)))
 
 module _
     (day kind : ℕ) (sizes text a b start line₁ : List ℕ) (r₁ : Answer) (bared : start ≡ bare_line Group)
@@ -142,7 +142,7 @@ module _
     pub group_first : (q : Refusal) → r₁ ≡ Refused q → DraftsRight (drafted day kind Group (spots Group) (seven_fields (fields_of sizes text) a b) (bare_line Group)) (Refused q) line₁
     group_first q e =
         let fs = fields_of sizes text in
-        rw (← bared, group-runs day kind fs a b start) (run_stops (first_run day kind fs start) (later_runs day kind fs a b (first_run day kind fs start).line) r₁ line₁ first q e)
+        rw (← bared, group_runs day kind fs a b start) (run_stops (first_run day kind fs start) (later_runs day kind fs a b (first_run day kind fs start).line) r₁ line₁ first q e)
 
     module _
         (taken₁ : r₁ ≡ Accepted) (size₁ : length line₁ ≡ length start) (line₂ : List ℕ) (r₂ : Answer)
@@ -156,19 +156,19 @@ module _
         pub group_worked : (q : Refusal) → r₂ ≡ Refused q → DraftsRight (drafted day kind Group (spots Group) (seven_fields (fields_of sizes text) a b) (bare_line Group)) (Refused q) line₂
         group_worked q e =
             let fs = fields_of sizes text in
-            rw (← bared, group-runs day kind fs a b start)
-            (run-goes-on (first_run day kind fs start) (later_runs day kind fs a b) r₁ line₁ first taken₁ (Refused q) line₂
+            rw (← bared, group_runs day kind fs a b start)
+            (run_goes_on (first_run day kind fs start) (later_runs day kind fs a b) r₁ line₁ first taken₁ (Refused q) line₂
             (run_stops (worked_run day kind a b line₁) (last_run day kind (drop 4 fs) (worked_run day kind a b line₁).line) r₂ line₂ worked q e))
 
         -- the last field says what the whole says
-        pub group-last :
+        pub group_last :
             r₂ ≡ Accepted → length line₂ ≡ length line₁ → (ns rest : List ℕ) → ns ≡ drop 4 sizes → rest ≡ behind (take 4 sizes) text
             → (r₃ : Answer) (line₃ : List ℕ) → Drafts (in_scratch line₂ (last_run day kind (fields_of ns rest) line₂)) r₃ line₃
             → DraftsRight (drafted day kind Group (spots Group) (seven_fields (fields_of sizes text) a b) (bare_line Group)) r₃ line₃
-        group-last taken₂ size₂ ns rest n e r₃ line₃ made₃ =
+        group_last taken₂ size₂ ns rest n e r₃ line₃ made₃ =
             let fs = fields_of sizes text in
             let g : fields_of ns rest ≡ drop 4 fs = rw (n, e) (sym (fields_behind 4 sizes text)) in
             let last = drafts_right line₂ (last_run day kind (fields_of ns rest) line₂) (size₂ ∙ size₁ ∙ start_size) r₃ line₃ made₃ in
-            rw (← bared, group-runs day kind fs a b start)
-            (run-goes-on (first_run day kind fs start) (later_runs day kind fs a b) r₁ line₁ first taken₁ r₃ line₃
-            (run-goes-on (worked_run day kind a b line₁) (last_run day kind (drop 4 fs)) r₂ line₂ worked taken₂ r₃ line₃ (rw g at last)))
+            rw (← bared, group_runs day kind fs a b start)
+            (run_goes_on (first_run day kind fs start) (later_runs day kind fs a b) r₁ line₁ first taken₁ r₃ line₃
+            (run_goes_on (worked_run day kind a b line₁) (last_run day kind (drop 4 fs)) r₂ line₂ worked taken₂ r₃ line₃ (rw g at last)))

@@ -17,11 +17,11 @@ use Rattle.group_writer.proofs.Refusals.{orders_no_room}
 
 module _ (day room : ℕ) (fs : List (List ℕ)) (kind : ℕ) where
   -- for a 301
-  pub room-exactly-group :
+  pub room_exactly_group :
       (orders : List ℕ) → (group_answer day kind fs orders room ≡ no_room)
       ↔ ((is_date day ≡ true) × ((eqb kind 4 || eqb kind 5) ≡ true) × (group_orders day kind orders ≡ Accepted) × ((group_draft day kind fs orders).answer ≡ Accepted) × (room < 1002))
   unfolding group_answer
-  room-exactly-group orders = (
+  room_exactly_group orders = (
     (λ (e : group_answer day kind fs orders room ≡ no_room).
         let d = day_before day _ e in
         let k = kind_before kind _ d.1 in

@@ -14,7 +14,7 @@ use Rattle.parts.specs.Mirror.{ends_from, ends_of, end_of}
 use Rattle.parts.proofs.Pieces.{bound, span_of, Solid}
 use Rattle.parts.proofs.Ends.{bound_some, end_gone, end_some, solid_take}
 use Rattle.stretches.specs.Mirror.{stretch}
-use Rattle.stretches.proofs.Laws.{stretch-parts, every-at}
+use Rattle.stretches.proofs.Laws.{stretch_parts, every_at}
 use Rattle.part_contents.proofs.Laws.{contents_at_lem}
 use Rattle.groups.specs.Groups.{present, group_right, groups_right, parts_right}
 use Rattle.groups.specs.Mirror.{group_at, groups_at, obeys_at}
@@ -75,7 +75,7 @@ group_right_lem g ps s h = go g.skipped g.joins
         there true e =
             let l = ltb-true k (length ps) e in
             let x : k + suc j - 1 ≡ k + j = omega arith in
-            rw (eqb-suc-zero j, ne_eqb _ 0 (end_some k 0 ps s (omega arith) l), x, stretch-parts k j ps s h l)
+            rw (eqb-suc-zero j, ne_eqb _ 0 (end_some k 0 ps s (omega arith) l), x, stretch_parts k j ps s h l)
             (group_there g (take (suc j) (drop k ps)) (solid_take (suc j) (drop k ps) (solid_drop k ps s)) (omega (arith, length-take (suc j) (drop k ps), length-drop k ps)))
         there false e =
             let l = ltb-false k (length ps) e in
@@ -87,7 +87,7 @@ group_right_lem g ps s h = go g.skipped g.joins
 module _ (model : Model) (s : List ℕ) (h : length s < 1024) (e : formed model s ≡ true) where
   -- of its groups
   pub groups_at_lem : groups_at model.groups (ends_of s) s ≡ groups_right model.groups (parts_of s)
-  groups_at_lem = every-at group_at (λ (g : Group) (ps : List (List ℕ)). group_right g (present g ps)) group_right_lem model s h e model.groups
+  groups_at_lem = every_at group_at (λ (g : Group) (ps : List (List ℕ)). group_right g (present g ps)) group_right_lem model s h e model.groups
 
   -- of all
   pub obeys_at_lem : obeys_at model (ends_of s) s ≡ parts_right model (parts_of s)

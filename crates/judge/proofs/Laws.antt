@@ -32,10 +32,10 @@ pub record Taken (j : Judge) (s : List ℕ) : Type 0 where
 
 module _ (j : Judge) (s : List ℕ) where
   -- of a record that is not refused, and sound, and below the limit of lines: the line has a type, which may come, and right fields
-  taken-typed :
+  taken_typed :
       is_refused j.condition ≡ false → is_sound j ≡ true → j.read.lines < 1000000 → is_refused (typed_step j s (typed_of s)).condition ≡ false → Taken j s
   unfolding type_step
-  taken-typed unrefused sound limit e = typed_as (typed_of s) refl e
+  taken_typed unrefused sound limit e = typed_as (typed_of s) refl e
     where
       placed :
           (t : LineType) (a : Answer) → typed_of s ≡ typed.Line t → stand_verdict (stage_of j.condition) j.group t ≡ 0 → places_answer j.day j.kind t s ≡ a →
@@ -70,4 +70,4 @@ module _ (j : Judge) (s : List ℕ) where
           is_refused (cond a j (cond b (typed_step j s (typed_of s)) (refused_with beyond j))).condition ≡ false → Taken j s
       go true b f g h = absurd (false≢true (sym h ∙ f))
       go false false f g h = absurd (false≢true (sym h))
-      go false true f g h = let both = both_true (is_sound j) (ltb j.read.lines 1000000) g in taken-typed f both.0 (ltb-true _ _ both.1) h
+      go false true f g h = let both = both_true (is_sound j) (ltb j.read.lines 1000000) g in taken_typed f both.0 (ltb-true _ _ both.1) h

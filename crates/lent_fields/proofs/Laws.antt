@@ -85,11 +85,11 @@ module _ (sizes : List ℕ) (fields i : ℕ) (text : List ℕ) (at : ℕ) where
   behind_past h = rw (drop_of_length-le sizes h, take-nil (fields - i))
 
 -- one field further on
-pub behind-on :
+pub behind_on :
     (sizes : List ℕ) (fields i : ℕ) (text : List ℕ) (at end : ℕ) → FieldEnd text at (get_or sizes i 0) end → i < fields → i < length sizes
     → Behind sizes fields i text at ≡ Behind sizes fields (i + 1) text end
 unfolding behind
-behind-on sizes fields i text at end ended more known =
+behind_on sizes fields i text at end ended more known =
     let e : fields - i ≡ suc (fields - (i + 1)) = omega arith in
     rw (drop-cons sizes i 0 known, e, ended.rest, ← (add-one i))
 

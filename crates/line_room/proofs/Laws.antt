@@ -32,15 +32,15 @@ module _ (line out : List ℕ) where
   day_right day rest r after e w = rw e w
 
   -- the kind is neither 4 nor 5
-  pub kind-wrong :
+  pub kind_wrong :
       (kind : ℕ) (rest : Answer) (p : Place) → (eqb kind 4 || eqb kind 5) ≡ false → p ≡ none → Writes (for_kind kind rest) line out (Refused (Form p)) out
-  kind-wrong kind rest p e n = rw (e, n) (record { answers = refl; leaves = refl })
+  kind_wrong kind rest p e n = rw (e, n) (record { answers = refl; leaves = refl })
 
   -- the kind is one of them
-  pub kind-right :
+  pub kind_right :
       (kind : ℕ) (rest r : Answer) (after : List ℕ) → (eqb kind 4 || eqb kind 5) ≡ true → Writes rest line out r after
       → Writes (for_kind kind rest) line out r after
-  kind-right kind rest r after e w = rw e w
+  kind_right kind rest r after e w = rw e w
 
   -- there is too little room
   pub room_short : (p : Place) → length out < 1002 → p ≡ none → Writes (for_room (length out)) line out (Refused (Room p 1002)) out

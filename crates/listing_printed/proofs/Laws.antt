@@ -72,10 +72,10 @@ line_count ended false h t room n e = iban_count h room n (counts_on ended _ _ n
 
 module _ (text : List ℕ) (k : ℕ) {out after : List ℕ} where
   -- there is room for it: it stands at the front, and the line feed behind it
-  pub line-put :
+  pub line_put :
       {mid : List ℕ} {r : ℕ} → filled_answer text (length out) ≡ Answer.Accepted → mid ≡ fill text k ++ drop (length text) out → Puts (10 ∷ []) (length text) mid r after
       → Puts (line_in_room text k (length out)) 0 out r after
-  line-put {mid} {r} e f p = go (ltb (length out) (length text)) refl
+  line_put {mid} {r} e f p = go (ltb (length out) (length text)) refl
     where
       l : length (fill text k) ≡ length text
       l = fill_length text k

@@ -135,10 +135,10 @@ unfolding line_listing wet_text
 wet_at_most s room n e = (line_count (has 10 s) (has 32 (line_of s)) (head_of s) (tail_of s) room n e).0
 
 -- so its line stands whole in a room of 23
-pub filled-printed-whole :
+pub filled_printed_whole :
     (text : List ℕ) (k : ℕ) (out : List ℕ) (n : ℕ) (after : List ℕ) → length text ≤ 22 → Puts (line_in_room text k (length out)) 0 out n after → 23 ≤ length out
     → take n after ≡ filled_line text k
-filled-printed-whole text k out n after g p h =
+filled_printed_whole text k out n after g p h =
     let l : length (filled_line text k) ≤ 23 = both_at_most (fill text k) (10 ∷ []) 22 1 (omega (arith, fill_length text k)) (omega arith) in
     printed_whole (filled_line text k) out n after (rw (le-ltb (length out) (length text) (omega arith)) at p) (omega arith)
 

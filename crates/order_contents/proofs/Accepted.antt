@@ -58,11 +58,11 @@ model_accepted f = go (all_of Blanks f)
     )
 
 -- "Trailing blanks end a reference. A blank model needs a blank reference": m is the place of the reference's model
-pub reference-accepted :
+pub reference_accepted :
     (m f : List ℕ) →
     (reference_held (held_in m) f ≡ 0) ↔ ((all_of Blanks m ≡ true → all_of Blanks f ≡ true) × (all_of Blanks m ≡ false → RightReference m (trimmed f)))
 unfolding held_in reference_held
-reference-accepted m f = go (all_of Blanks m)
+reference_accepted m f = go (all_of Blanks m)
   where
     by_number : (n : Found) → reference_held (held_from n) f ≡ number_verdict (trimmed f) n
     by_number (At n) = refl
@@ -96,6 +96,6 @@ held_blank_lem m = go (all_of Blanks m) (model_number m)
     go false Nothing = refl
 
 -- "For kind 5, code 500 with a blank recipient's model is 5": m is the place of the recipient's model
-pub code-modelled-accepted :
+pub code_modelled_accepted :
     (kind : ℕ) (m f : List ℕ) → Exactly (code_verdict kind (held_blank (held_in m)) f) (all_of Digits f && (is_code (number_in f) && not (eqb kind 5 && (eqb (number_in f) 500 && all_of Blanks m))))
-code-modelled-accepted kind m f = rw (← held_blank_lem m) (code_accepted kind (held_blank (held_in m)) f)
+code_modelled_accepted kind m f = rw (← held_blank_lem m) (code_accepted kind (held_blank (held_in m)) f)

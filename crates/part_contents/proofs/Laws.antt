@@ -9,7 +9,7 @@ use Rattle.parts.specs.Mirror.{ends_from, ends_of}
 use Rattle.parts.proofs.Pieces.{bound, span_of, Solid, formed_solid}
 use Rattle.parts.proofs.Ends.{count_ends, parts_span}
 use Rattle.stretches.specs.Mirror.{stretch}
-use Rattle.stretches.proofs.Laws.{stretch-parts, every-at}
+use Rattle.stretches.proofs.Laws.{stretch_parts, every_at}
 use Rattle.part_contents.specs.Contents.{holds, first_holds, asked_right, contents_right}
 use Rattle.part_contents.specs.Mirror.{asked_at, contents_at}
 
@@ -17,7 +17,7 @@ use Rattle.part_contents.specs.Mirror.{asked_at, contents_at}
 part_stretch : (k : ℕ) (ps : List (List ℕ)) → Solid ps → span_of ps ≤ 1024 → (p : List ℕ) (qs : List (List ℕ)) → drop k ps ≡ p ∷ qs → k < length ps → stretch k k (ends_from 0 ps) (bound ps) ≡ p
 unfolding bound
 part_stretch k ps s h p qs e l =
-    ap (λ (last : ℕ). stretch k last (ends_from 0 ps) (bound ps)) (sym (add-zero k)) ∙ stretch-parts k 0 ps s h l ∙ rw e
+    ap (λ (last : ℕ). stretch k last (ends_from 0 ps) (bound ps)) (sym (add-zero k)) ∙ stretch_parts k 0 ps s h l ∙ rw e
 
 -- so it holds what its stretch does; with none there nothing is asked
 asked_right_lem : (a : Asked) (ps : List (List ℕ)) → Solid ps → span_of ps ≤ 1024 → asked_at a (ends_from 0 ps) (bound ps) ≡ asked_right a ps
@@ -42,7 +42,7 @@ fewer m n = go (ltb m (suc n)) refl
 -- all that is asked
 pub contents_at_lem : (model : Model) (s : List ℕ) → length s < 1024 → formed model s ≡ true → contents_at model (ends_of s) s ≡ contents_right model (parts_of s)
 contents_at_lem model s h e =
-    rw (count_ends (model.from - 1) (parts_of s) (formed_solid model s e) (parts_span s h), every-at asked_at asked_right asked_right_lem model s h e model.asked)
+    rw (count_ends (model.from - 1) (parts_of s) (formed_solid model s e) (parts_span s h), every_at asked_at asked_right asked_right_lem model s h e model.asked)
     (go model.from (every (λ (a : Asked). asked_right a (parts_of s)) model.asked))
   where
     go : (n : ℕ) (b : Bool) → (eqb n 0 || (leb (length (parts_of s)) (n - 1) || b)) ≡ (eqb n 0 || (ltb (length (parts_of s)) n || b))

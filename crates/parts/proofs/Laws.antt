@@ -24,12 +24,12 @@ module _ (model : Model) where
   found_empty (b ∷ s) h = absurd (omega arith)
 
   -- the ends that were read, where there are as many parts as the model asks
-  pub found-read :
+  pub found_read :
       (s : List ℕ) (ends : ℕ) → (length s ≡ 0 → ⊥) → length s < 1024 → ends ≡ part_read model.lengths 0 (split 45 s) →
       cond (eqb ends 0) Nothing (cond (count_fits model.fewest model.most ends) (At ends) Nothing) ≡ parts_found model s
   unfolding formed parts_of
-  found-read [] ends h g e = absurd (h refl)
-  found-read (b ∷ s) ends h g e = go (parts_fit model.lengths ps) refl e
+  found_read [] ends h g e = absurd (h refl)
+  found_read (b ∷ s) ends h g e = go (parts_fit model.lengths ps) refl e
     where
       ps : List (List ℕ)
       ps = split 45 (b ∷ s)

@@ -72,13 +72,13 @@ unread (l ∷ []) at s h = rw (first_part s).2
 unread (l ∷ (m ∷ ls)) at s h = absurd (omega arith)
 
 -- what the digit reader read, judged by the end of its part
-pub part-judged :
+pub part_judged :
     (ls : List ℕ) (at : ℕ) (s : List ℕ) (ends : ℕ) → 1 < length ls → at + length s < 1024 → ends ≡ digit_read (take (length ls - 2) (drop 2 ls)) at (split 45 s) →
     cond (ltb at (ends % 1024) && (leb (get_or ls 0 0) (ends % 1024 - at) && leb (ends % 1024 - at) (get_or ls 1 0))) ends 0 ≡ part_read ls at (split 45 s)
 unfolding span_of parts_fit ends_from
-part-judged [] at s ends h g e = absurd (omega arith)
-part-judged (l ∷ []) at s ends h g e = absurd (omega arith)
-part-judged (l ∷ (m ∷ ls)) at s ends h g e = let w = first_part s in rw w.2 (go (length w.0) (ends_from (at + length w.0 + 1) w.1) (all_of Digits w.0) (parts_fit ls w.1) (omega (arith, rw w.2 at (short_span s at g))) (rw (to_the_end 2 (l ∷ (m ∷ ls)), w.2) at e))
+part_judged [] at s ends h g e = absurd (omega arith)
+part_judged (l ∷ []) at s ends h g e = absurd (omega arith)
+part_judged (l ∷ (m ∷ ls)) at s ends h g e = let w = first_part s in rw w.2 (go (length w.0) (ends_from (at + length w.0 + 1) w.1) (all_of Digits w.0) (parts_fit ls w.1) (omega (arith, rw w.2 at (short_span s at g))) (rw (to_the_end 2 (l ∷ (m ∷ ls)), w.2) at e))
   where
     go : (n x : ℕ) (t u : Bool) → at + n < 1024 → ends ≡ cond (t && u) (at + n + 1024 * x) 0 →
         cond (ltb at (ends % 1024) && (leb l (ends % 1024 - at) && leb (ends % 1024 - at) m)) ends 0 ≡ cond (t && (length_fits l m n && u)) (at + n + 1024 * x) 0

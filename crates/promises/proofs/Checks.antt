@@ -140,28 +140,28 @@ reference_byte_within κs a z w call = byte_told _ _ z call (number_tells a.1.0.
 -- Made and checked
 
 -- by one rule
-made-checked :
+made_checked :
     (rule : Rule) (s : List ℕ) (m : Made) → make_answer rule s ≡ m → (z : Valued) → z ≡ made_of m → z.told.number ≡ 0
     → (c : ℕ) (r : Told) → r ≡ told_of (check_answer rule (s ++ (c ∷ []))) → (r.number ≡ 0) ↔ (c ≡ 48 + z.value)
 unfolding made_of
-made-checked rule s (made.Digit d) m z e h c r q =
+made_checked rule s (made.Digit d) m z e h c r q =
     let exactly = made_is_checked rule s d m c in
     let zero = told_zero _ r q in
     rw e (λ k. exactly.0 (zero.0 k), λ k. zero.1 (exactly.1 k))
-made-checked rule s (made.Refused x) m z e h c r q = let k : refusal_number x ≡ 0 = rw e at h in absurd (omega (arith, number_not_zero x))
+made_checked rule s (made.Refused x) m z e h c r q = let k : refusal_number x ≡ 0 = rw e at h in absurd (omega (arith, number_not_zero x))
 
 -- by the rule of a number
-rule-checked :
+rule_checked :
     (b₀ b₁ : Bool) (s : List ℕ) (z : Valued) → z ≡ cond b₀ (made_of (make_answer Ini s)) (cond b₁ (made_of (make_answer Mod1110 s)) (valued no_rule 0)) → z.told.number ≡ 0
     → (c : ℕ) (r : Told) → r ≡ cond b₀ (told_of (check_answer Ini (s ++ (c ∷ [])))) (cond b₁ (told_of (check_answer Mod1110 (s ++ (c ∷ [])))) no_rule)
     → (r.number ≡ 0) ↔ (c ≡ 48 + z.value)
-rule-checked true b₁ s z e h c r q = made-checked Ini s (make_answer Ini s) refl z e h c r q
-rule-checked false true s z e h c r q = made-checked Mod1110 s (make_answer Mod1110 s) refl z e h c r q
-rule-checked false false s z e h c r q = let k : ◌≡◌ {A = ℕ} 5 0 = rw e at h in absurd (omega arith)
+rule_checked true b₁ s z e h c r q = made_checked Ini s (make_answer Ini s) refl z e h c r q
+rule_checked false true s z e h c r q = made_checked Mod1110 s (make_answer Mod1110 s) refl z e h c r q
+rule_checked false false s z e h c r q = let k : ◌≡◌ {A = ℕ} 5 0 = rw e at h in absurd (omega arith)
 
 -- of the digit that was made: the digits with it behind them are accepted under the same rule, and with no other byte
-pub made-is-accepted :
+pub made_is_accepted :
     EveryMakeDigit (λ rule digits made. made.told.number ≡ 0 →
     EveryCheckDigits (λ rule' text r. rule' ≡ rule → (c : ℕ) → text ≡ digits ++ (c ∷ []) → (r.number ≡ 0) ↔ (c ≡ 48 + made.value)))
-made-is-accepted κs a z w call h κs' a' z' w' call' same c e =
-    rule-checked (eqb a.0 0) (eqb a.0 1) a.1.0.now z call h c z' (rw (same, e) at call')
+made_is_accepted κs a z w call h κs' a' z' w' call' same c e =
+    rule_checked (eqb a.0 0) (eqb a.0 1) a.1.0.now z call h c z' (rw (same, e) at call')

@@ -62,11 +62,11 @@ module _ (p : List ℕ → Bool) (text out : List ℕ) where
           untouched = λ h. absurd (h (rw e refl));
         }
 
-    refused-listing :
+    refused_listing :
         (q : Refusal) → (refusal_number q ≡ 15 → (length out < length xs) × (needed_of q ≡ length xs))
         → r ≡ listed_of (listed.Refused q) → after ≡ left_by_listing (listed.Refused q) xs out → Listing p text out r after
     unfolding listed_of
-    refused-listing q told e w =
+    refused_listing q told e w =
         record {
           lists = λ h. let z : refusal_number q ≡ 0 = rw e at h in absurd (omega (arith, number_not_zero q));
           small = λ h. let z : refusal_number q ≡ 15 = rw e at h in let t = told z in (rw (counted p text) at t.0, rw e (t.1 ∙ counted p text));
@@ -74,12 +74,12 @@ module _ (p : List ℕ → Bool) (text out : List ℕ) where
         }
 
     in_room : (b : Bool) → ltb (length out) (length xs) ≡ b → (l : Listed) → l ≡ cond b (listed.Refused (refused.Room none (length xs))) (listed.Count (length xs)) → r ≡ listed_of l → after ≡ left_by_listing l xs out → Listing p text out r after
-    in_room true g l z e w = refused-listing (refused.Room none (length xs)) (λ h. (ltb-true (length out) (length xs) g, refl)) (e ∙ ap listed_of z) (w ∙ ap (λ (m : Listed). left_by_listing m xs out) z)
+    in_room true g l z e w = refused_listing (refused.Room none (length xs)) (λ h. (ltb-true (length out) (length xs) g, refl)) (e ∙ ap listed_of z) (w ∙ ap (λ (m : Listed). left_by_listing m xs out) z)
     in_room false g l z e w = accepted_listing (ltb-false (length out) (length xs) g) (e ∙ ap listed_of z) (w ∙ ap (λ (m : Listed). left_by_listing m xs out) z)
 
     listing : (l : Listed) → Answers l → r ≡ listed_of l → after ≡ left_by_listing l xs out → Listing p text out r after
     listing l (inl z) e w = in_room (ltb (length out) (length xs)) refl l z e w
-    listing l (inr (q, (z, n))) e w = refused-listing q (λ h. absurd (n h)) (e ∙ ap listed_of z) (w ∙ ap (λ (m : Listed). left_by_listing m xs out) z)
+    listing l (inr (q, (z, n))) e w = refused_listing q (λ h. absurd (n h)) (e ∙ ap listed_of z) (w ∙ ap (λ (m : Listed). left_by_listing m xs out) z)
 
   -- what is told where the rest is right
   answered : (z : Valued) (l : Listed) → z ≡ listed_of l → l ≡ listed_in_room xs (length out) → z.told.number ≡ cond (ltb (length out) (accepted_fillings p text)) 15 0
@@ -120,9 +120,9 @@ list_iban_lists κs a z w call =
     listing is_iban text out z w.1.0 (iban_listing text (length out)) (iban_answers text out) call.0 call.1
 
 -- a text of an IBAN's form with at most four marks is listed, or the room is too small
-pub list-iban-answers :
+pub list_iban_answers :
     EveryListIban (λ text out r after. length text ≡ 21 → wet_iban text ≡ true → marks text ≤ 4 → r.told.number ≡ cond (ltb (length out) (accepted_fillings is_iban text)) 15 0)
-list-iban-answers κs a z w call long wet few =
+list_iban_answers κs a z w call long wet few =
     let text = a.0.now in
     let out = a.1.0.now in
     answered is_iban text out z (iban_listing text (length out)) call.0 (rw (eq-eqb (length text) 21 long, wet, le-leb (marks text) 4 few))
@@ -164,12 +164,12 @@ list_reference_lists κs a z w call n e =
     listing (obeys (model_of n)) text out z w.1.1.0 _ (reference_answers n text out) (rw e at call.0) (rw e at call.1)
 
 -- a text of digits, hyphens and at most four marks, of at most 22 bytes, is listed under a model that is handled, or the room is too small
-pub list-reference-answers :
+pub list_reference_answers :
     EveryListReference
     (λ model text out r after.
     (m : HandledModel model) → length text ≤ 22 → all_of WetReference text ≡ true → marks text ≤ 4
     → r.told.number ≡ cond (ltb (length out) (accepted_fillings (obeys (model_of m.number)) text)) 15 0)
-list-reference-answers κs a z w call m short wet few =
+list_reference_answers κs a z w call m short wet few =
     let model = a.0.now in
     let text = a.1.0.now in
     let out = a.1.1.0.now in

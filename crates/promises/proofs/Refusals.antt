@@ -266,11 +266,11 @@ one_end : {q r : Refusal} → ending.Refused q ≡ ending.Refused r → r ≡ q
 one_end e = cc
 
 -- an end that refuses where no line was refused
-end-stops :
+end_stops :
     (j : Judge) (q : Refusal) → is_refused j.condition ≡ false → ended j ≡ ending.Refused q
     → (is_sound j ≡ true → stage_of j.condition ≡ 3 → ⊥) × (q ≡ cond (is_sound j) (at_line 14 (next_line j)) beyond)
 unfolding ended
-end-stops j q h e = go (is_sound j) (eqb (stage_of j.condition) 3) refl refl (rw h at e)
+end_stops j q h e = go (is_sound j) (eqb (stage_of j.condition) 3) refl refl (rw h at e)
   where
     go :
         (sound closed : Bool) → is_sound j ≡ sound → eqb (stage_of j.condition) 3 ≡ closed
@@ -291,7 +291,7 @@ file_refused day s q e = day_first (is_date day) refl
         let z = one_end (sym (refusal_ends (steps (begun day) (pieces s)) r.0 r.1) ∙ e) in
         let w = first_line_lem (begun day) (pieces s) q (rw d) (rw z r.1) in
         line d w.order w.known w.before w.here
-    lines false u d = let w = end-stops (steps (begun day) (pieces s)) q u e in end d u w.0 w.1
+    lines false u d = let w = end_stops (steps (begun day) (pieces s)) q u e in end d u w.0 w.1
 
     day_first : (b : Bool) → is_date day ≡ b → FileRefused day s q
     day_first true d = lines (is_refused (steps (begun day) (pieces s)).condition) refl d

@@ -93,9 +93,9 @@ step_tally_refused_leaves κs a z w call e =
     call.1 ∙ (told_tally r line t ∙ refused_leaves (judge_of r) line t (refused_number j (ap (λ (x : Record). x.condition) (sym (call.0 ∙ told_record r line t)) ∙ e)))
 
 -- a line that a step without a tally refuses is refused with one as without, whatever the tally
-pub step-tally-judge-first :
+pub step_tally_judge_first :
     EveryJudgeStepTally (λ r line t r' t'. EveryJudgeStep (λ r₁ line₁ k. r₁ ≡ r → line₁ ≡ line → k.condition ≡ 4 → (r' ≡ k) × (t' ≡ t)))
-step-tally-judge-first κs a z w call κs1 a1 k w1 step sameRecord sameLine e =
+step_tally_judge_first κs a z w call κs1 a1 k w1 step sameRecord sameLine e =
     let r = a.0 in
     let line = a.1.0.now in
     let t = a.1.1.0.now in
@@ -105,12 +105,12 @@ step-tally-judge-first κs a z w call κs1 a1 k w1 step sameRecord sameLine e =
 
 -- any other is 29, the record else as it stood and the tally too, exactly when it would leave the tally beyond its limits; else the record is
 -- that of a step without a tally, and the tally has what the line adds
-pub step-tally-29-exactly :
+pub step_tally_29_exactly :
     EveryJudgeStepTally (λ r line t r' t'. EveryJudgeStep (λ r₁ line₁ k. r₁ ≡ r → line₁ ≡ line → (k.condition ≡ 4 → ⊥) →
     ((r'.told.number ≡ 29) ↔ (is_within (grown t (growth_in line)) ≡ false))
     × ((is_within (grown t (growth_in line)) ≡ false → r' ≡ record_of (refused_with (at_line 29 (next_line (judge_of r))) (judge_of r)))
     × (is_within (grown t (growth_in line)) ≡ true → (r' ≡ k) × (t' ≡ grown t (growth_in line))))))
-step-tally-29-exactly κs a z w call κs1 a1 k w1 step sameRecord sameLine e =
+step_tally_29_exactly κs a z w call κs1 a1 k w1 step sameRecord sameLine e =
     let r = a.0 in
     let line = a.1.0.now in
     let t = a.1.1.0.now in
@@ -138,16 +138,16 @@ step-tally-29-exactly κs a z w call κs1 a1 k w1 step sameRecord sameLine e =
     number_beyond false f none g = f
 
 -- where 29 does not come, the judge is the one of a step without a tally
-pub step-tally-same-judge :
+pub step_tally_same_judge :
     EveryJudgeStepTally (λ r line t r' t'. EveryJudgeStep (λ r₁ line₁ k. r₁ ≡ r → line₁ ≡ line → (r'.told.number ≡ 29 → ⊥) → r' ≡ k))
-step-tally-same-judge κs a z w call κs1 a1 k w1 step sameRecord sameLine not29 =
+step_tally_same_judge κs a z w call κs1 a1 k w1 step sameRecord sameLine not29 =
     let fits = is_within (grown a.1.1.0.now (growth_in a.1.0.now)) in
     go (eqb k.condition 4) fits refl refl
   where
     go : (b c : Bool) → eqb k.condition 4 ≡ b → is_within (grown a.1.1.0.now (growth_in a.1.0.now)) ≡ c → z ≡ k
-    go true c f g = (step-tally-judge-first κs a z w call κs1 a1 k w1 step sameRecord sameLine (eqb-true k.condition 4 f)).0
-    go false true f g = ((step-tally-29-exactly κs a z w call κs1 a1 k w1 step sameRecord sameLine (not_four k.condition f)).1.1 g).0
-    go false false f g = absurd (not29 ((step-tally-29-exactly κs a z w call κs1 a1 k w1 step sameRecord sameLine (not_four k.condition f)).0.1 g))
+    go true c f g = (step_tally_judge_first κs a z w call κs1 a1 k w1 step sameRecord sameLine (eqb-true k.condition 4 f)).0
+    go false true f g = ((step_tally_29_exactly κs a z w call κs1 a1 k w1 step sameRecord sameLine (not_four k.condition f)).1.1 g).0
+    go false false f g = absurd (not29 ((step_tally_29_exactly κs a z w call κs1 a1 k w1 step sameRecord sameLine (not_four k.condition f)).0.1 g))
 
 -- ---------------------------------------------------------------------------
 -- "Begun at zero with a fresh judge": any lines

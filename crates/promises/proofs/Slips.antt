@@ -15,7 +15,7 @@ use Rattle.groups.specs.Groups.{present}
 use Rattle.slip_fields.specs.declared.Currency.TheVariants.{Euro}
 use Rattle.slip.specs.Slip.{slip_answer}
 use Rattle.slip.proofs.Theorems.{field_text}
-use Rattle.slip.proofs.Plain.{PlainSlip, accepted_plainly, accepted-groups-pass}
+use Rattle.slip.proofs.Plain.{PlainSlip, accepted_plainly, accepted_groups_pass}
 use Rattle.slip_handed.specs.Handed.{amount_of, field_of, slip_cents}
 use Rattle.slip_writer.specs.declared.Written.{Written}
 use Rattle.slip_writer.specs.declared.Written.TheVariants as written
@@ -44,10 +44,10 @@ slip_exactly κs a z w call =
     (λ h. plainly.0 (zero.0 h), λ p. zero.1 (plainly.1 p))
 
 -- of an accepted slip's reference each check group that has parts there ends in its check digit
-pub slip-groups-pass :
+pub slip_groups_pass :
     EverySlipRead (λ slip r. r.number ≡ 0 → (n : ℕ) → model_number (field_text slip 11) ≡ At n → (g : Group) → Memᴰ g (model_of n).groups →
     let here = present g (parts_of (field_text slip 12)) in (here ≡ [] → ⊥) → passes g.rule (joined here) ≡ true)
-slip-groups-pass κs a z w call h = accepted-groups-pass Euro a.0.now ((told_zero _ z call).0 h)
+slip_groups_pass κs a z w call h = accepted_groups_pass Euro a.0.now ((told_zero _ z call).0 h)
 
 -- the part that is told of a field is the field
 pub slip_field_handed : EverySlipField (λ slip n part. take part.length (drop part.start slip) ≡ field_of slip n)
@@ -85,15 +85,15 @@ module _ (cents : ℕ) (fields : List (List ℕ)) (all : length fields ≡ 11) (
   answer_wrote (written.Bytes n) q e w = rw e (bytes_wrote n q w)
   answer_wrote (written.Refused r) q e w = let k : refusal_number r ≡ 0 = rw e at h in absurd (omega (arith, number_not_zero r))
 
-  whole-wrote :
+  whole_wrote :
       (b : Bool) → z ≡ cond b (written_of (write_answer cents fields (length out))) (valued (refusal (Size none)) 0)
       → after ≡ cond b (left_by_slip (write_answer cents fields (length out)) (slip_text cents fields) out) out → Wrote cents fields out z.value after
-  whole-wrote true e w = answer_wrote (write_answer cents fields (length out)) refl e w
-  whole-wrote false e w = let k : ◌≡◌ {A = ℕ} 1 0 = rw e at h in absurd (omega arith)
+  whole_wrote true e w = answer_wrote (write_answer cents fields (length out)) refl e w
+  whole_wrote false e w = let k : ◌≡◌ {A = ℕ} 1 0 = rw e at h in absurd (omega arith)
 
 -- by a call that accepted
 wrote : {cents : ℕ} {sizes text out : List ℕ} {z : Valued} {after : List ℕ} → WritesSlipGiven cents sizes text out z after → z.told.number ≡ 0 → Wrote cents (eleven_of sizes text) out z.value after
-wrote {cents} {sizes} {text} {out} {z} {after} call h = whole-wrote cents (eleven_of sizes text) refl out z after h (lent_whole 11 sizes text) call.answers call.leaves
+wrote {cents} {sizes} {text} {out} {z} {after} call h = whole_wrote cents (eleven_of sizes text) refl out z after h (lent_whole 11 sizes text) call.answers call.leaves
 
 -- the slip that was written: at the front of the room, and all behind it as it was
 pub slip_written_in_front : EverySlipWrite (λ cents text sizes out r after. r.told.number ≡ 0 → (r.value ≤ length out) × (drop r.value after ≡ drop r.value out))
@@ -137,10 +137,10 @@ unfolding given_of
 given_at sizes text k h = listed_at (λ (i : ℕ). get_or (fields_of sizes text) i []) 0 11 k h ∙ rw (zero-add k)
 
 -- and the same fields
-pub slip-written-same-fields :
+pub slip_written_same_fields :
     EverySlipWrite (λ cents text sizes out r after. r.told.number ≡ 0 →
     EverySlipField (λ slip n part. slip ≡ take r.value after → 4 ≤ n → n ≤ 14 → take part.length (drop part.start slip) ≡ get_or (fields_of sizes text) (n - 4) []))
-slip-written-same-fields κs a z w call h κs' a' z' w' call' e l u =
+slip_written_same_fields κs a z w call h κs' a' z' w' call' e l u =
     let n = a'.1.0 in
     reads_field (wrote call h) κs' a' z' w' call' e l u ∙ given_at a.1.1.0.now a.1.0.now (n - 4) (omega arith)
 
@@ -153,11 +153,11 @@ unfolding given_of
 fields_again slip = rw (fields_joined (slip_fields slip))
 
 -- by the amount that was read
-written-again :
+written_again :
     (slip out : List ℕ) (z : Valued) (after : List ℕ) → slip_answer slip ≡ Accepted → length slip ≤ length out
     → WritesSlipGiven (amount_of slip) (map length (slip_fields slip)) (joined (slip_fields slip)) out z after → (z ≡ valued accepted (length slip)) × (take (length slip) after ≡ slip)
 unfolding written_of
-written-again slip out z after e fits call =
+written_again slip out z after e fits call =
     let whole = joined_lent_whole (slip_fields slip) in
     let again = accepted_is_written slip (length out) e fits in
     let same = (read_and_written_again slip e).same in
@@ -165,14 +165,14 @@ written-again slip out z after e fits call =
     (rw (whole, fields_again slip, again) at call.answers, rw left (take-append_seam slip (drop (length slip) out)))
 
 -- an accepted slip, written again from its own amount and fields into enough room, has the same bytes
-pub slip-written-again :
+pub slip_written_again :
     EverySlipRead (λ slip r. r.number ≡ 0 →
     EverySlipCents (λ slip' c. slip' ≡ slip →
     EverySlipWrite (λ cents text sizes out q after. cents ≡ c.value → text ≡ joined (slip_fields slip) → sizes ≡ map length (slip_fields slip) → length slip ≤ length out →
     (q ≡ valued accepted (length slip)) × (take (length slip) after ≡ slip))))
-slip-written-again κs a z w call h κs' a' z' w' call' same κs'' a'' z'' w'' call'' cents text sizes fits =
+slip_written_again κs a z w call h κs' a' z' w' call' same κs'' a'' z'' w'' call'' cents text sizes fits =
     let slip = a.0.now in
     let e = (told_zero _ z call).0 h in
     let told : z' ≡ valued accepted (amount_of slip) = call' ∙ (ap (λ (x : List ℕ). cents_told (slip_cents x)) same ∙ cents_told_lem slip e) in
     let amount : a''.0 ≡ amount_of slip = cents ∙ ap (λ (v : Valued). v.value) told in
-    written-again slip a''.1.1.1.0.now z'' w''.1.1.1.0 e fits (rw (amount, text, sizes) at call'')
+    written_again slip a''.1.1.1.0.now z'' w''.1.1.1.0 e fits (rw (amount, text, sizes) at call'')

@@ -32,7 +32,7 @@ use Rattle.standing_text.proofs.Laws.{neither_bad}
 use Rattle.standing_text.proofs.Theorems as standing
 use Rattle.standing_slip.specs.declared.StandingSlip.{StandingSlip}
 use Rattle.standing_slip.specs.Filled.{eleven_of, filled_field, filled_fields, slip_after_sheets, standing_slip}
-use Rattle.standing_slip.proofs.Theorems.{filled_at, slip-of-empty-sheets, with_empty_sheets}
+use Rattle.standing_slip.proofs.Theorems.{filled_at, slip_of_empty_sheets, with_empty_sheets}
 use Rattle.boundary.specs.declared.Told.{Told}
 use Rattle.boundary.specs.declared.Valued.{Valued}
 use Rattle.boundary.specs.Told.{accepted, refusal, told_of, valued}
@@ -129,11 +129,11 @@ standing_text_within κs a z w call =
     go Association h = h
 
 -- "sheets that are written from a list of fields read back as that list"
-pub standing-text-written-back :
+pub standing_text_written_back :
     (fs gs : List FieldLine) → RightLines 0 fs → RightLines 0 gs →
     EveryStandingText (λ n farm association r. farm ≡ sheet_text fs → association ≡ sheet_text gs → is_standing n ≡ true →
     (r.told.number ≡ 0) × (told_text r farm association ≡ cond (is_among n fs) (text_among n fs) (text_among n gs)))
-standing-text-written-back fs gs u v κs a z w call f g h =
+standing_text_written_back fs gs u v κs a z w call f g h =
     let e = (standing_text_exactly κs a z w call).1 (h, ((fs, (u, f)), (gs, (v, g)))) in
     let x = ap fields_in f ∙ written_back fs u in
     let y = ap fields_in g ∙ written_back gs v in
@@ -165,11 +165,11 @@ sheets_refused farm association r t k e told sheet = go (eqb (bad_line farm) 0) 
         farms (bad_line farm) (bad_is_first farm (eqb-false (bad_line farm) 0 p)) (told ∙ same (bad_line farm) is) s
 
 -- what is told of a refused question
-refused-told :
+refused_told :
     (n : ℕ) (farm association : List ℕ) (z : StandingTold) → z ≡ standing_told (standing_of n farm association) → (z.told.number ≡ 0 → ⊥)
     → (StandingRefused n farm association z.told z.sheet) × ((z.start ≡ 0) × (z.length ≡ 0))
 unfolding standing_told standing_of sheet_number told_of
-refused-told n farm association z call h = go (is_standing n) refl (both_judged farm association).answer refl call
+refused_told n farm association z call h = go (is_standing n) refl (both_judged farm association).answer refl call
   where
     go :
         (t : Bool) → is_standing n ≡ t → (x : Answer) → (both_judged farm association).answer ≡ x → z ≡ standing_told (standing.asked t x n farm association)
@@ -183,21 +183,21 @@ refused-told n farm association z call h = go (is_standing n) refl (both_judged 
 
 -- 28, then 20 with the first malformed line, the farm's sheet first
 pub standing_text_refused_first : EveryStandingText (λ n farm association r. (r.told.number ≡ 0 → ⊥) → StandingRefused n farm association r.told r.sheet)
-standing_text_refused_first κs a z w call h = (refused-told a.0 a.1.0.now a.1.1.0.now z call h).0
+standing_text_refused_first κs a z w call h = (refused_told a.0 a.1.0.now a.1.1.0.now z call h).0
 
 -- a refused question gives no part
 pub standing_text_refused_empty : EveryStandingText (λ n farm association r. (r.told.number ≡ 0 → ⊥) → (r.start ≡ 0) × (r.length ≡ 0))
-standing_text_refused_empty κs a z w call h = (refused-told a.0 a.1.0.now a.1.1.0.now z call h).1
+standing_text_refused_empty κs a z w call h = (refused_told a.0 a.1.0.now a.1.1.0.now z call h).1
 
 -- ---------------------------------------------------------------------------
 -- The slip's writer accepts it
 
 -- no refusal of the writer is told of a field that is right whatever stands before it
-written-elsewhere :
+written_elsewhere :
     (cents : ℕ) (fields : List (List ℕ)) (room n : ℕ) → 4 ≤ n → n ≤ 14 → length fields ≡ 11 → ((m : List ℕ) → field_verdict Euro n m (get_or fields (n - 4) []) ≡ 0)
     → (written_of (write_answer cents fields room)).told.field ≡ n → ⊥
 unfolding write_answer written_of
-written-elsewhere cents fields room n l u all right = go (ltb cents (10 ^ 15)) (given_answer 4 [] fields) refl
+written_elsewhere cents fields room n l u all right = go (ltb cents (10 ^ 15)) (given_answer 4 [] fields) refl
   where
     there : 4 + (n - 4) ≡ n
     there = omega arith
@@ -214,10 +214,10 @@ written-elsewhere cents fields room n l u all right = go (ltb cents (10 ^ 15)) (
     go true (answer.Refused r) g e = not_there 4 [] fields r (n - 4) g (omega arith) (rw there right) (e ∙ sym there)
 
 -- "what is answered for a field is accepted by the slip's writer at that field"
-pub standing-text-writable :
+pub standing_text_writable :
     EveryStandingText (λ n farm association r. is_standing n ≡ true →
     EverySlipWrite (λ cents text sizes out q after. get_or (fields_of sizes text) (n - 4) [] ≡ told_text r farm association → q.told.field ≡ n → ⊥))
-standing-text-writable κs a z w call h κs' a' z' w' call' given =
+standing_text_writable κs a z w call h κs' a' z' w' call' given =
     let n = a.0 in
     let farm = a.1.0.now in
     let association = a.1.1.0.now in
@@ -227,7 +227,7 @@ standing-text-writable κs a z w call h κs' a' z' w' call' given =
     let is : get_or (eleven_of sizes text) (n - 4) [] ≡ standing_text n farm association =
     given_at sizes text (n - 4) (omega (arith, b.0, b.1)) ∙ (given ∙ (ap (λ (t : StandingTold). told_text t farm association) call ∙ bytes_told (standing_of n farm association) farm association)) in
     rw call'.answers
-    (go (lent_whole 11 sizes text) _ (written-elsewhere a'.0 (eleven_of sizes text) (length a'.1.1.1.0.now) n b.0 b.1 refl (λ m. rw is (standing.standing_obeys n m farm association h))))
+    (go (lent_whole 11 sizes text) _ (written_elsewhere a'.0 (eleven_of sizes text) (length a'.1.1.1.0.now) n b.0 b.1 refl (λ m. rw is (standing.standing_obeys n m farm association h))))
   where
     go : (t : Bool) (x : Valued) → (x.told.field ≡ a.0 → ⊥) → (cond t x (valued (refusal (Size none)) 0)).told.field ≡ a.0 → ⊥
     go true x f e = f e
@@ -258,18 +258,18 @@ answered cents sizes text farm association room = go (lent_whole 11 sizes text) 
     go true e answer.Accepted f = let b = neither_bad (bad_line farm) (bad_line association) f in writes e b.0 b.1 refl
 
 -- of a right call: the writer's answer
-right-answered :
+right_answered :
     (cents : ℕ) (sizes text farm association : List ℕ) (room : ℕ) → lent_whole 11 sizes text ≡ true → bad_line farm ≡ 0 → bad_line association ≡ 0
     → standing_slip cents sizes text farm association room ≡ record { sheet = Neither; written = write_answer cents (filled_fields sizes text farm association) room }
 unfolding standing_slip sheets_judged
-right-answered cents sizes text farm association room h f a = rw (h, f, a)
+right_answered cents sizes text farm association room h f a = rw (h, f, a)
 
 -- 1, then 20, then the writer's refusals
-pub slip-write-standing-refused-first :
+pub slip_write_standing_refused_first :
     EverySlipWriteStanding (λ cents text sizes farm association out r after. (r.told.number ≡ 0 → ⊥) →
     SlipStandingRefused sizes text farm association (write_answer cents (filled_fields sizes text farm association) (length out)) r.told r.sheet)
 unfolding written_told written_of sheet_number
-slip-write-standing-refused-first κs a z w call h = go (answered cents given text farm association (length out))
+slip_write_standing_refused_first κs a z w call h = go (answered cents given text farm association (length out))
   where
     cents : ℕ
     cents = a.0
@@ -307,16 +307,16 @@ slip-write-standing-refused-first κs a z w call h = go (answered cents given te
         writer p ((right_exactly farm).0 f) ((right_exactly association).0 g) x.0 x.1.0 x.1.1.0 x.1.1.1
 
 -- "It is the composition of the calls above": of right sheets it answers and leaves what the slip's writer does, lent the filled fields
-pub slip-write-standing-is-slip-write :
+pub slip_write_standing_is_slip_write :
     EverySlipWriteStanding (λ cents text sizes farm association out r after. lent_whole 11 sizes text ≡ true → RightSheet farm → RightSheet association →
     EverySlipWrite (λ cents' text' sizes' out' q after'.
     cents' ≡ cents → text' ≡ joined (filled_fields sizes text farm association) → sizes' ≡ map length (filled_fields sizes text farm association) → out' ≡ out →
     (r.told ≡ q.told) × ((r.value ≡ q.value) × (after ≡ after'))))
 unfolding written_told given_of
-slip-write-standing-is-slip-write κs a z w call h f g κs' a' z' w' call' cents text sizes out =
+slip_write_standing_is_slip_write κs a z w call h f g κs' a' z' w' call' cents text sizes out =
     let fields = filled_fields a.1.1.0.now a.1.0.now a.1.1.1.0.now a.1.1.1.1.0.now in
     let room = length a.1.1.1.1.1.0.now in
-    let s = right-answered a.0 a.1.1.0.now a.1.0.now a.1.1.1.0.now a.1.1.1.1.0.now room h ((right_exactly _).1 f) ((right_exactly _).1 g) in
+    let s = right_answered a.0 a.1.1.0.now a.1.0.now a.1.1.1.0.now a.1.1.1.1.0.now room h ((right_exactly _).1 f) ((right_exactly _).1 g) in
     let c = call.answers ∙ ap written_told s in
     let whole : lent_whole 11 (map length fields) (joined fields) ≡ true = joined_lent_whole fields in
     let again : eleven_of (map length fields) (joined fields) ≡ fields = rw (fields_joined fields) in
@@ -330,16 +330,16 @@ slip-write-standing-is-slip-write κs a z w call h f g κs' a' z' w' call' cents
     )
 
 -- of two empty sheets it is the slip's writer
-pub slip-write-standing-of-empty-sheets :
+pub slip_write_standing_of_empty_sheets :
     EverySlipWriteStanding (λ cents text sizes farm association out r after. farm ≡ [] → association ≡ [] →
     EverySlipWrite (λ cents' text' sizes' out' q after'. cents' ≡ cents → text' ≡ text → sizes' ≡ sizes → out' ≡ out →
     (r.told ≡ q.told) × ((r.value ≡ q.value) × (after ≡ after'))))
 unfolding written_told written_of
-slip-write-standing-of-empty-sheets κs a z w call f g κs' a' z' w' call' cents text sizes out =
+slip_write_standing_of_empty_sheets κs a z w call f g κs' a' z' w' call' cents text sizes out =
     let given = a.1.1.0.now in
     let lent = a.1.0.now in
     let old = a.1.1.1.1.1.0.now in
-    let s = slip-of-empty-sheets a.0 given lent (length old) in
+    let s = slip_of_empty_sheets a.0 given lent (length old) in
     let c : z ≡ written_told (standing_slip a.0 given lent [] [] (length old)) = rw (f, g) at call.answers in
     let l : w.1.1.1.1.1.0 ≡ left_by_slip (standing_slip a.0 given lent [] [] (length old)).written (slip_text a.0 (filled_fields given lent [] [])) old = rw (f, g) at call.leaves in
     go (lent_whole 11 given lent) (write_answer a.0 (eleven_of given lent) (length old)) (slip_text a.0 (eleven_of given lent)) old
@@ -355,11 +355,11 @@ slip-write-standing-of-empty-sheets κs a z w call f g κs' a' z' w' call' cents
     go false x slip old c l d m = (ap (λ (y : StandingWritten). y.told) c ∙ sym (ap (λ (v : Valued). v.told) d), (ap (λ (y : StandingWritten). y.value) c ∙ sym (ap (λ (v : Valued). v.value) d), l ∙ sym m))
 
 -- by a call that accepted
-wrote-standing :
+wrote_standing :
     {cents : ℕ} {sizes text farm association out : List ℕ} {z : StandingWritten} {after : List ℕ} → WritesStandingTold cents sizes text farm association out z after → z.told.number ≡ 0
     → Wrote cents (filled_fields sizes text farm association) out z.value after
 unfolding written_told written_of
-wrote-standing {cents} {sizes} {text} {farm} {association} {out} {z} {after} call h = go (answered cents sizes text farm association (length out))
+wrote_standing {cents} {sizes} {text} {farm} {association} {out} {z} {after} call h = go (answered cents sizes text farm association (length out))
   where
     go : Answered cents sizes text farm association (length out) (standing_slip cents sizes text farm association (length out)) → Wrote cents (filled_fields sizes text farm association) out z.value after
     go (unsized p e) = let k : ◌≡◌ {A = ℕ} 0 1 = sym h ∙ ap (λ (t : StandingWritten). t.told.number) (call.answers ∙ ap written_told e) in absurd (omega arith)
@@ -373,25 +373,25 @@ wrote-standing {cents} {sizes} {text} {farm} {association} {out} {z} {after} cal
 
 -- the slip that was written: at the front of the room, and all behind it as it was
 pub slip_standing_in_front : EverySlipWriteStanding (λ cents text sizes farm association out r after. r.told.number ≡ 0 → (r.value ≤ length out) × (drop r.value after ≡ drop r.value out))
-slip_standing_in_front κs a z w call h = let s = wrote-standing call h in (s.within, s.rest)
+slip_standing_in_front κs a z w call h = let s = wrote_standing call h in (s.within, s.rest)
 
 -- is accepted
 pub slip_standing_is_accepted : EverySlipWriteStanding (λ cents text sizes farm association out r after. r.told.number ≡ 0 → EverySlipRead (λ slip q. slip ≡ take r.value after → q.number ≡ 0))
-slip_standing_is_accepted κs a z w call h = reads_accepted (wrote-standing call h)
+slip_standing_is_accepted κs a z w call h = reads_accepted (wrote_standing call h)
 
 -- reads back as the same amount
 pub slip_standing_same_cents : EverySlipWriteStanding (λ cents text sizes farm association out r after. r.told.number ≡ 0 → EverySlipCents (λ slip q. slip ≡ take r.value after → q ≡ valued accepted cents))
-slip_standing_same_cents κs a z w call h = reads_cents (wrote-standing call h)
+slip_standing_same_cents κs a z w call h = reads_cents (wrote_standing call h)
 
 -- and as its fields: those that were given, and where one was empty the standing text
-pub slip-standing-same-fields :
+pub slip_standing_same_fields :
     EverySlipWriteStanding (λ cents text sizes farm association out r after. r.told.number ≡ 0 →
     EverySlipField (λ slip n part. slip ≡ take r.value after → 4 ≤ n → n ≤ 14 →
     take part.length (drop part.start slip) ≡ filled_field n (get_or (fields_of sizes text) (n - 4) []) farm association))
-slip-standing-same-fields κs a z w call h κs' a' z' w' call' e l u =
+slip_standing_same_fields κs a z w call h κs' a' z' w' call' e l u =
     let n = a'.1.0 in
     let sizes = a.1.1.0.now in
     let text = a.1.0.now in
     let there : 4 + (n - 4) ≡ n = omega arith in
-    reads_field (wrote-standing call h) κs' a' z' w' call' e l u
+    reads_field (wrote_standing call h) κs' a' z' w' call' e l u
     ∙ (filled_at 4 (eleven_of sizes text) a.1.1.1.0.now a.1.1.1.1.0.now (n - 4) (omega arith) ∙ rw (there, given_at sizes text (n - 4) (omega arith)))

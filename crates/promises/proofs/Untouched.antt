@@ -47,17 +47,17 @@ slip_kept (written.Bytes n) s out after z e w h = absurd (h (ap (λ (v : Valued)
 slip_kept (written.Refused r) s out after z e w h = w
 
 -- where it is asked first whether the fields are lent whole
-whole-kept :
+whole_kept :
     (b : Bool) (x : Written) (s out after : List ℕ) (z : Valued) → z ≡ cond b (written_of x) (valued (refusal (Size none)) 0) → after ≡ cond b (left_by_slip x s out) out
     → (z.told.number ≡ 0 → ⊥) → after ≡ out
-whole-kept true x s out after z e w h = slip_kept x s out after z e w h
-whole-kept false x s out after z e w h = w
+whole_kept true x s out after z e w h = slip_kept x s out after z e w h
+whole_kept false x s out after z e w h = w
 
 pub slip_write_untouched : EverySlipWrite (λ cents text sizes out r after. (r.told.number ≡ 0 → ⊥) → after ≡ out)
 slip_write_untouched κs a z w call =
     let fields = eleven_of a.1.1.0.now a.1.0.now in
     let out = a.1.1.1.0.now in
-    whole-kept (lent_whole 11 a.1.1.0.now a.1.0.now) (write_answer a.0 fields (length out)) (slip_text a.0 fields) out w.1.1.1.0 z call.answers call.leaves
+    whole_kept (lent_whole 11 a.1.1.0.now a.1.0.now) (write_answer a.0 fields (length out)) (slip_text a.0 fields) out w.1.1.1.0 z call.answers call.leaves
 
 pub slip_write_standing_untouched : EverySlipWriteStanding (λ cents text sizes farm association out r after. (r.told.number ≡ 0 → ⊥) → after ≡ out)
 unfolding written_told
@@ -96,26 +96,26 @@ not_whole fields sizes text h = ne_eqb (together (take fields sizes)) (length te
 pub slip_write_lent_whole : EverySlipWrite (λ cents text sizes out r after. (together (take 11 sizes) ≡ length text → ⊥) → (r ≡ valued (refusal (Size none)) 0) × (after ≡ out))
 slip_write_lent_whole κs a z w call h = let n = not_whole 11 a.1.1.0.now a.1.0.now h in (rw n at call.answers, rw n at call.leaves)
 
-pub slip-write-standing-lent-whole :
+pub slip_write_standing_lent_whole :
     EverySlipWriteStanding (λ cents text sizes farm association out r after. (together (take 11 sizes) ≡ length text → ⊥) →
     (r.told ≡ refusal (Size none)) × ((r.value ≡ 0) × ((r.sheet ≡ 0) × (after ≡ out))))
 unfolding written_told standing_slip sheet_number written_of
-slip-write-standing-lent-whole κs a z w call h =
+slip_write_standing_lent_whole κs a z w call h =
     let n = not_whole 11 a.1.1.0.now a.1.0.now h in
     (rw (call.answers, n), (rw (call.answers, n), (rw (call.answers, n), rw n at call.leaves)))
 
 -- of a line whose fields are not lent whole
-line-not-whole :
+line_not_whole :
     (fields : ℕ) (sizes text : List ℕ) (rest : Answer) (line out : List ℕ) (z : Told) (after : List ℕ) → WritesLine (for_sizes fields sizes text rest) line out z after
     → (together (take fields sizes) ≡ length text → ⊥) → (z ≡ refusal (Size none)) × (after ≡ out)
 unfolding told_of
-line-not-whole fields sizes text rest line out z after call h = let n = not_whole fields sizes text h in (rw n at call.answers, rw n at call.leaves)
+line_not_whole fields sizes text rest line out z after call h = let n = not_whole fields sizes text h in (rw n at call.answers, rw n at call.leaves)
 
 pub write_label_lent_whole : EveryWriteLabel (λ day text sizes out r after. (together (take 8 sizes) ≡ length text → ⊥) → (r ≡ refusal (Size none)) × (after ≡ out))
-write_label_lent_whole κs a z w call = line-not-whole 8 _ _ _ _ _ _ _ call
+write_label_lent_whole κs a z w call = line_not_whole 8 _ _ _ _ _ _ _ call
 
 pub write_order_lent_whole : EveryWriteOrder (λ day kind text sizes out r after. (together (take 16 sizes) ≡ length text → ⊥) → (r ≡ refusal (Size none)) × (after ≡ out))
-write_order_lent_whole κs a z w call = line-not-whole 16 _ _ _ _ _ _ _ call
+write_order_lent_whole κs a z w call = line_not_whole 16 _ _ _ _ _ _ _ call
 
 pub write_group_lent_whole : EveryWriteGroup (λ day kind text sizes orders out r after. (together (take 5 sizes) ≡ length text → ⊥) → (r ≡ refusal (Size none)) × (after ≡ out))
-write_group_lent_whole κs a z w call = line-not-whole 5 _ _ _ _ _ _ _ call
+write_group_lent_whole κs a z w call = line_not_whole 5 _ _ _ _ _ _ _ call

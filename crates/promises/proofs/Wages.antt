@@ -61,11 +61,11 @@ accepted_end (ending.Accepted n) z w h = (n, refl)
 accepted_end (ending.Refused r) z w h = let q : refusal_number r ≡ 0 = ap (λ (t : Ended). t.told.number) (sym w) ∙ h in absurd (omega (arith, number_not_zero r))
 
 -- and tells its counts
-counts-told :
+counts_told :
     (e : Ending) (n : Counts) (z : Ended) → z ≡ ended_of e → e ≡ ending.Accepted n
     → (z.told.number ≡ 0) × ((z.lines ≡ n.lines) × ((z.groups ≡ n.tally.groups) × ((z.orders ≡ n.tally.orders) × (z.total ≡ n.tally.total))))
 unfolding ended_of
-counts-told e n z w a = let q = w ∙ ap ended_of a in rw q (refl, (refl, (refl, (refl, refl))))
+counts_told e n z w a = let q = w ∙ ap ended_of a in rw q (refl, (refl, (refl, (refl, refl))))
 
 -- a right file's answer
 right_answer : (day : ℕ) (bytes : List ℕ) (w : RightBytes day bytes) → file_answer day bytes ≡ ending.Accepted (counts_in w.file)
@@ -80,19 +80,19 @@ file_exactly κs a z w call =
           let e = accepted_end (file_answer day bytes) z call h in
           let l = (file_accepted_exactly day bytes e.0).0 e.1 in
           record { file = l.file; lines = sym l.lines; right = l.right }),
-      (λ (v : RightBytes day bytes). (counts-told (file_answer day bytes) (counts_in v.file) z call (right_answer day bytes v)).0),
+      (λ (v : RightBytes day bytes). (counts_told (file_answer day bytes) (counts_in v.file) z call (right_answer day bytes v)).0),
     )
 
 -- and then its lines, groups and orders are told
 pub file_counts : EveryWageFile (λ day bytes r. (w : RightBytes day bytes) → (r.lines ≡ length (lines_of w.file)) × ((r.groups ≡ length w.file.groups) × (r.orders ≡ orders_in w.file.groups)))
 file_counts κs a z w call v =
-    let c = (counts-told (file_answer a.0 a.1.0.now) (counts_in v.file) z call (right_answer a.0 a.1.0.now v)).1 in
+    let c = (counts_told (file_answer a.0 a.1.0.now) (counts_in v.file) z call (right_answer a.0 a.1.0.now v)).1 in
     (c.0, (c.1.0, c.1.1.0))
 
 -- and its total, exactly
 pub file_total_lem : EveryWageFile (λ day bytes r. (w : RightBytes day bytes) → cents_of r.total ≡ amounts_in w.file.groups)
 file_total_lem κs a z w call v =
-    ap cents_of (counts-told (file_answer a.0 a.1.0.now) (counts_in v.file) z call (right_answer a.0 a.1.0.now v)).1.1.1.1 ∙ total_exact a.0 v.file v.right
+    ap cents_of (counts_told (file_answer a.0 a.1.0.now) (counts_in v.file) z call (right_answer a.0 a.1.0.now v)).1.1.1.1 ∙ total_exact a.0 v.file v.right
 
 -- ---------------------------------------------------------------------------
 -- Whole, in parts and line by line
@@ -102,10 +102,10 @@ stands_for : (r : Record) (j : Judge) → r ≡ record_of j → judge_of r ≡ j
 stands_for r j e = ap judge_of e ∙ record_told_back j
 
 -- begun, its lines judged, and ended, it gets the same answer
-pub file-in-steps :
+pub file_in_steps :
     EveryJudgeBegin (λ day begun. EveryJudgeLines (λ «record» bytes after. «record» ≡ begun → EveryJudgeEnd (λ record' e. record' ≡ after →
     EveryWageFile (λ day' bytes' whole. day' ≡ day → bytes' ≡ bytes → whole ≡ e))))
-file-in-steps κs a z w begins κs1 a1 z1 w1 judges e1 κs2 a2 z2 w2 ends e2 κs3 a3 z3 w3 answers sameDay sameBytes =
+file_in_steps κs a z w begins κs1 a1 z1 w1 judges e1 κs2 a2 z2 w2 ends e2 κs3 a3 z3 w3 answers sameDay sameBytes =
     let day = a.0 in
     let bytes = a1.1.0.now in
     let i : judge_of a1.0 ≡ begun day = stands_for a1.0 (begun day) (e1 ∙ begins) in
@@ -113,10 +113,10 @@ file-in-steps κs a z w begins κs1 a1 z1 w1 judges e1 κs2 a2 z2 w2 ends e2 κs
     rw (answers, ends, sameDay, sameBytes, j) (whole_is_begin_lines_end day bytes)
 
 -- lines judged in two parts, the first of whole lines, are judged as one
-pub lines-in-parts :
+pub lines_in_parts :
     EveryJudgeLines (λ «record» first between. length first % 1002 ≡ 0 → EveryJudgeLines (λ record' rest after. record' ≡ between →
     EveryJudgeLines (λ record'' bytes together. record'' ≡ «record» → bytes ≡ first ++ rest → together ≡ after)))
-lines-in-parts κs a z w judges whole κs1 a1 z1 w1 goes_on e1 κs2 a2 z2 w2 at_once sameRecord sameBytes =
+lines_in_parts κs a z w judges whole κs1 a1 z1 w1 goes_on e1 κs2 a2 z2 w2 at_once sameRecord sameBytes =
     let first = a.1.0.now in
     let rest = a1.1.0.now in
     let j : judge_of a1.0 ≡ steps (judge_of a.0) (pieces first) = stands_for a1.0 (steps (judge_of a.0) (pieces first)) (e1 ∙ judges) in
@@ -157,10 +157,10 @@ stands {a} {line} {out} {z} {after} call e whole =
     record { front = rw l (take_at line (drop 1002 out) 1002 whole); behind = rw l (drop_at line (drop 1002 out) 1002 whole) }
 
 -- from fields that are lent with their sizes
-lent-stands :
+lent_stands :
     (fields : ℕ) (sizes text : List ℕ) (rest : Answer) (line out : List ℕ) (z : Told) (after : List ℕ) → WritesLine (for_sizes fields sizes text rest) line out z after → z.number ≡ 0
     → (rest ≡ Accepted → length line ≡ 1002) → (rest ≡ Accepted) × Front line out after
-lent-stands fields sizes text rest line out z after call h whole =
+lent_stands fields sizes text rest line out z after call h whole =
     let e = (told_zero (for_sizes fields sizes text rest) z call.answers).0 h in
     let r = sized fields sizes text rest e in
     (r, stands call e (whole r))
@@ -170,40 +170,40 @@ typed_whole : (t : LineType) (s : List ℕ) → typed_of s ≡ Line t → length
 typed_whole t s e = ((typed_exactly t s).0 e).whole
 
 -- a 300
-label-stands :
+label_stands :
     (day : ℕ) (fs : List (List ℕ)) (sizes text : List ℕ) {out : List ℕ} {z : Told} {after : List ℕ}
     → WritesLine (for_sizes 8 sizes text (label_answer day fs (length out))) (label_draft day fs).line out z after → z.number ≡ 0
     → (label_answer day fs (length out) ≡ Accepted) × Front (label_draft day fs).line out after
-label-stands day fs sizes text call h = lent-stands 8 sizes text _ _ _ _ _ call h (λ e. typed_whole Label _ (round.written_label_right day _ fs e).typed)
+label_stands day fs sizes text call h = lent_stands 8 sizes text _ _ _ _ _ call h (λ e. typed_whole Label _ (round.written_label_right day _ fs e).typed)
 
 -- a 309
-order-stands :
+order_stands :
     (day kind : ℕ) (fs : List (List ℕ)) (sizes text : List ℕ) {out : List ℕ} {z : Told} {after : List ℕ}
     → WritesLine (for_sizes 16 sizes text (order_answer day kind fs (length out))) (order_draft day kind fs).line out z after → z.number ≡ 0
     → (order_answer day kind fs (length out) ≡ Accepted) × Front (order_draft day kind fs).line out after
-order-stands day kind fs sizes text call h = lent-stands 16 sizes text _ _ _ _ _ call h (λ e. typed_whole Order _ (round.written_order_right day _ kind fs e).typed)
+order_stands day kind fs sizes text call h = lent_stands 16 sizes text _ _ _ _ _ call h (λ e. typed_whole Order _ (round.written_order_right day _ kind fs e).typed)
 
 -- a 301
-group-stands :
+group_stands :
     (day kind : ℕ) (fs : List (List ℕ)) (sizes text orders : List ℕ) {out : List ℕ} {z : Told} {after : List ℕ}
     → WritesLine (for_sizes 5 sizes text (group_answer day kind fs orders (length out))) (group_draft day kind fs orders).line out z after → z.number ≡ 0
     → (group_answer day kind fs orders (length out) ≡ Accepted) × Front (group_draft day kind fs orders).line out after
-group-stands day kind fs sizes text orders call h = lent-stands 5 sizes text _ _ _ _ _ call h (λ e. typed_whole Group _ (round.written_group_right day _ kind fs orders e).head.typed)
+group_stands day kind fs sizes text orders call h = lent_stands 5 sizes text _ _ _ _ _ call h (λ e. typed_whole Group _ (round.written_group_right day _ kind fs orders e).head.typed)
 
 -- what the writer of a 300 writes is right, and the room behind the line stays
 pub written_label : EveryWriteLabel (λ day text sizes out r after. r.number ≡ 0 → RightLine day 0 Label (take 1002 after) × (drop 1002 after ≡ drop 1002 out))
-written_label κs a z w call h = let l = label-stands _ _ _ _ call h in (rw l.1.front (round.written_label_right _ _ _ l.0), l.1.behind)
+written_label κs a z w call h = let l = label_stands _ _ _ _ call h in (rw l.1.front (round.written_label_right _ _ _ l.0), l.1.behind)
 
 -- so of a 309
 pub written_order : EveryWriteOrder (λ day kind text sizes out r after. r.number ≡ 0 → RightLine day kind Order (take 1002 after) × (drop 1002 after ≡ drop 1002 out))
-written_order κs a z w call h = let l = order-stands _ _ _ _ _ call h in (rw l.1.front (round.written_order_right _ _ _ _ l.0), l.1.behind)
+written_order κs a z w call h = let l = order_stands _ _ _ _ _ call h in (rw l.1.front (round.written_order_right _ _ _ _ l.0), l.1.behind)
 
 -- a 301 heads a right group of the lent orders
-pub written-group :
+pub written_group_lem :
     EveryWriteGroup
     (λ day kind text sizes orders out r after.
     r.number ≡ 0 → RightGroup day kind (record { head = take 1002 after; orders = pieces orders }) × (drop 1002 after ≡ drop 1002 out))
-written-group κs a z w call h = let l = group-stands _ _ _ _ _ _ call h in (rw l.1.front (round.written_group_right _ _ _ _ _ l.0), l.1.behind)
+written_group_lem κs a z w call h = let l = group_stands _ _ _ _ _ _ call h in (rw l.1.front (round.written_group_right _ _ _ _ _ l.0), l.1.behind)
 
 -- and a 399 is one
 pub written_closing : EveryWriteClosing (λ day out r after. r.number ≡ 0 → (typed_of (take 1002 after) ≡ Line Closing) × (drop 1002 after ≡ drop 1002 out))
@@ -219,45 +219,45 @@ pub wage_place_handed : EveryWagePlace (λ line n part. take part.length (drop p
 wage_place_handed κs a part w call = rw call (part_is_place a.0.now a.1.0)
 
 -- so of the same line and number
-part-read :
+part_read_lem :
     (line line' : List ℕ) (n n' : ℕ) (part : Part) → part ≡ place_part line n → line ≡ line' → n ≡ n'
     → take part.length (drop part.start line) ≡ place_of line' n'
-part-read line line' n n' part p e f = rw (p, e, f) (part_is_place line' n')
+part_read_lem line line' n n' part p e f = rw (p, e, f) (part_is_place line' n')
 
 -- a written 300 reads back as the same fields
-pub label-reads-back :
+pub label_reads_back :
     EveryWriteLabel (λ day text sizes out r after. r.number ≡ 0 → (k : ℕ) → k < length (spots Label) →
     EveryWagePlace (λ line n part. line ≡ take 1002 after → n ≡ (place_at Label k).field → take part.length (drop part.start line) ≡ get_or (fields_of sizes text) k []))
-label-reads-back κs a z w call h k small κs1 a1 part w1 told sameLine sameField =
-    let l = label-stands _ _ _ _ call h in
-    part-read _ _ _ _ part told (sameLine ∙ l.1.front) sameField ∙ round.written_label_reads_back _ _ _ l.0 k small
+label_reads_back κs a z w call h k small κs1 a1 part w1 told sameLine sameField =
+    let l = label_stands _ _ _ _ call h in
+    part_read_lem _ _ _ _ part told (sameLine ∙ l.1.front) sameField ∙ round.written_label_reads_back _ _ _ l.0 k small
 
 -- so does a 309
-pub order-reads-back :
+pub order_reads_back :
     EveryWriteOrder (λ day kind text sizes out r after. r.number ≡ 0 → (k : ℕ) → k < length (spots Order) →
     EveryWagePlace (λ line n part. line ≡ take 1002 after → n ≡ (place_at Order k).field → take part.length (drop part.start line) ≡ get_or (fields_of sizes text) k []))
-order-reads-back κs a z w call h k small κs1 a1 part w1 told sameLine sameField =
-    let l = order-stands _ _ _ _ _ call h in
-    part-read _ _ _ _ part told (sameLine ∙ l.1.front) sameField ∙ round.written_order_reads_back _ _ _ _ l.0 k small
+order_reads_back κs a z w call h k small κs1 a1 part w1 told sameLine sameField =
+    let l = order_stands _ _ _ _ _ call h in
+    part_read_lem _ _ _ _ part told (sameLine ∙ l.1.front) sameField ∙ round.written_order_reads_back _ _ _ _ l.0 k small
 
 -- and a 301 as the five that were lent, and the number and the sum of its orders
-pub group-reads-back :
+pub group_reads_back :
     EveryWriteGroup (λ day kind text sizes orders out r after. r.number ≡ 0 → (k : ℕ) → k < length (spots Group) →
     EveryWagePlace (λ line n part. line ≡ take 1002 after → n ≡ (place_at Group k).field →
     take part.length (drop part.start line) ≡ get_or (group_fields (fields_of sizes text) (length orders / 1002) (amounts (pieces orders))) k []))
-group-reads-back κs a z w call h k small κs1 a1 part w1 told sameLine sameField =
-    let l = group-stands _ _ _ _ _ _ call h in
-    part-read _ _ _ _ part told (sameLine ∙ l.1.front) sameField ∙ round.written-group-reads-back _ _ _ _ _ l.0 k small
+group_reads_back κs a z w call h k small κs1 a1 part w1 told sameLine sameField =
+    let l = group_stands _ _ _ _ _ _ call h in
+    part_read_lem _ _ _ _ part told (sameLine ∙ l.1.front) sameField ∙ round.written-group-reads-back _ _ _ _ _ l.0 k small
 
 -- ---------------------------------------------------------------------------
 -- One behind the other
 
 -- right lines in order, one behind the other, are an accepted file with its counts told
-pub right-lines-accepted :
+pub right_lines_accepted :
     EveryWageFile (λ day bytes r. (f : File) → RightFile day f → bytes ≡ joined (lines_of f) →
     (r.told.number ≡ 0) × ((r.lines ≡ length (lines_of f)) × ((r.groups ≡ length f.groups) × ((r.orders ≡ orders_in f.groups) × (r.total ≡ sum_of 1000 (amounts_in f.groups))))))
-right-lines-accepted κs a z w call f right e =
-    counts-told (file_answer a.0 a.1.0.now) (counts_in f) z call (ap (file_answer a.0) e ∙ round.right_file_accepted a.0 f right)
+right_lines_accepted κs a z w call f right e =
+    counts_told (file_answer a.0 a.1.0.now) (counts_in f) z call (ap (file_answer a.0) e ∙ round.right_file_accepted a.0 f right)
 
 -- ---------------------------------------------------------------------------
 -- Read, and written again
@@ -282,19 +282,19 @@ label_again κs a z w call s dated room right plain sameText sameSizes =
     (rw (sameText, sameSizes) (round.label_again a.0 (length a.1.1.1.0.now) dated room s right plain)) whole
 
 -- so is a 309 under kind 4 or 5
-pub order-again :
+pub order_again :
     EveryWriteOrder (λ day kind text sizes out r after. (s : List ℕ) → is_date day ≡ true → (eqb kind 4 || eqb kind 5) ≡ true → 1002 ≤ length out → RightLine day kind Order s →
     PlainElsewhere Order s → text ≡ joined (parts_of_line Order s) → sizes ≡ sizes_of Order → (r.number ≡ 0) × (take 1002 after ≡ s))
-order-again κs a z w call s dated known room right plain sameText sameSizes =
+order_again κs a z w call s dated known room right plain sameText sameSizes =
     let whole = typed_whole Order s right.typed in
     again 16 a.1.1.1.0.now a.1.1.0.now _ _ _ _ _ s call (rw (sameText, sameSizes) (round.read_order_lent_whole s whole))
     (rw (sameText, sameSizes) (round.order-again a.0 (length a.1.1.1.1.0.now) dated room s a.1.0 known right plain)) whole
 
 -- and the 301 of a right group, from its five parts and its orders
-pub group-again :
+pub group_again :
     EveryWriteGroup (λ day kind text sizes orders out r after. (s : List ℕ) → is_date day ≡ true → (eqb kind 4 || eqb kind 5) ≡ true → 1002 ≤ length out → length orders % 1002 ≡ 0 →
     RightGroup day kind (record { head = s; orders = pieces orders }) → PlainElsewhere Group s → text ≡ joined (five_parts s) → sizes ≡ five_sizes → (r.number ≡ 0) × (take 1002 after ≡ s))
-group-again κs a z w call s dated known room lines right plain sameText sameSizes =
+group_again κs a z w call s dated known room lines right plain sameText sameSizes =
     let whole = typed_whole Group s right.head.typed in
     again 5 a.1.1.1.0.now a.1.1.0.now _ _ _ _ _ s call (rw (sameText, sameSizes) (round.read_five_lent_whole s whole))
     (rw (sameText, sameSizes) (round.group-again a.0 (length a.1.1.1.1.1.0.now) dated room a.1.0 known s a.1.1.1.1.0.now lines right plain)) whole

@@ -74,15 +74,15 @@ unfolding all_of
 digits_first b s e = both_true (is_digit b) (all_of Digits s) e
 
 -- what digits write behind those of v
-pub value-bounds :
+pub value_bounds :
     (s : List ℕ) (v : ℕ) → all_of Digits s ≡ true
     → (v * 10 ^ length s ≤ value_from v (digits_of s)) × (value_from v (digits_of s) < (v + 1) * 10 ^ length s)
 unfolding digits_of value_from
-value-bounds [] v e = (omega arith, omega arith)
-value-bounds (b ∷ s) v e =
+value_bounds [] v e = (omega arith, omega arith)
+value_bounds (b ∷ s) v e =
     let h = digits_first b s e in
     let d = digit_bounds b h.0 in
-    let i = value-bounds s (v * 10 + (b - 48)) h.1 in
+    let i = value_bounds s (v * 10 + (b - 48)) h.1 in
     let p : v * (10 * 10 ^ length s) ≡ v * 10 * 10 ^ length s = sym (mul_assoc v 10 (10 ^ length s)) in
     let q : (v + 1) * (10 * 10 ^ length s) ≡ (v + 1) * 10 * 10 ^ length s = sym (mul_assoc (v + 1) 10 (10 ^ length s)) in
     let l : v * 10 * 10 ^ length s ≤ (v * 10 + (b - 48)) * 10 ^ length s = mul-le-mul_right (10 ^ length s) (omega arith) in
@@ -91,7 +91,7 @@ value-bounds (b ∷ s) v e =
 
 -- n digits write a number below 10 ^ n
 pub value_below : (n : ℕ) (s : List ℕ) → all_of Digits s ≡ true → length s ≡ n → value_of (digits_of s) < 10 ^ n
-value_below n s e l = let h : value_from 0 (digits_of s) < (0 + 1) * 10 ^ n = rw l at (value-bounds s 0 e).1 in omega (arith, h)
+value_below n s e l = let h : value_from 0 (digits_of s) < (0 + 1) * 10 ^ n = rw l at (value_bounds s 0 e).1 in omega (arith, h)
 
 -- digits are those of the number that they write behind v
 pub text_value : (s : List ℕ) (v : ℕ) → all_of Digits s ≡ true → digits_text (length s) (value_from v (digits_of s)) ≡ s
@@ -100,7 +100,7 @@ text_value [] v e = refl
 text_value (b ∷ s) v e =
     let h = digits_first b s e in
     let d = digit_bounds b h.0 in
-    let i = value-bounds s (v * 10 + (b - 48)) h.1 in
+    let i = value_bounds s (v * 10 + (b - 48)) h.1 in
     rw (h.0, text_value s (v * 10 + (b - 48)) h.1, div-eq_of_lt-le (10 ^ length s) i.0 i.1) (ap (λ (x : ℕ). x ∷ s) (omega arith))
 
 -- digits are written again

@@ -49,10 +49,10 @@ part_end [] (suc start) size = rw suc-add (take-nil size)
 part_end (b ∷ s) (suc start) size = rw suc-add (part_end s start size)
 
 -- a place that does not overlap keeps its bytes
-pub place-apart :
+pub place_apart :
     (s : List ℕ) (at : ℕ) (f : List ℕ) (start size : ℕ) → (at + length f ≤ start) ⊎ (start + size ≤ at)
     → take size (drop start (sets s at f)) ≡ take size (drop start s)
-place-apart s at f start size a =
+place_apart s at f start size a =
     ⊎_elim (λ (h : at + length f ≤ start). ap (take size) (drop_sets s at f start h))
     (λ (h : start + size ≤ at). part_end (sets s at f) start size ∙ ap (drop start) (take_sets s at f (start + size) h) ∙ sym (part_end s start size))
     a
@@ -86,8 +86,8 @@ sets_ahead s at f start (b ∷ g) r =
     ap (λ (l : List ℕ). sets l (suc start) g) (set_aside s at f start b (λ k h e. omega arith)) ∙ sets_ahead (set s start b) at f (suc start) g (omega arith)
 
 -- places that do not overlap are written in any order
-pub sets-apart :
+pub sets_apart :
     (s : List ℕ) (at : ℕ) (f : List ℕ) (start : ℕ) (g : List ℕ) → (at + length f ≤ start) ⊎ (start + length g ≤ at)
     → sets (sets s at f) start g ≡ sets (sets s start g) at f
-sets-apart s at f start g a =
+sets_apart s at f start g a =
     ⊎_elim (λ (h : at + length f ≤ start). sets_ahead s at f start g h) (λ (h : start + length g ≤ at). sym (sets_ahead s start g at f h)) a

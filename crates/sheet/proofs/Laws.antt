@@ -185,9 +185,9 @@ module _ (s : List ℕ) (line last at : ℕ) (starts lengths : List ℕ) (w : Re
     reached_length = let z : at + i - at ≡ i = omega arith in rw z (length-take-le i (drop at s) (omega (arith, reached_ends, length-drop at s)))
 
     -- what is found is what it and the lines behind it add
-    reached-line :
+    reached_line :
         lines_of s ≡ cond (eqb (right_number last (part at (at + i) s)) 0) (malformed_at line) (lines_from (line + 1) (right_number last (part at (at + i) s)) (at + i + 1) (set starts (right_number last (part at (at + i) s)) (at + text_start (right_number last (part at (at + i) s)))) (set lengths (right_number last (part at (at + i) s)) (i - text_start (right_number last (part at (at + i) s)))) (split 10 (drop (at + i + 1) s)))
-    reached-line =
+    reached_line =
         let z : at + i - at ≡ i = omega arith in
         let y : at + (i + 1) ≡ at + i + 1 = omega arith in
         let p = part at (at + i) s in
@@ -197,7 +197,7 @@ module _ (s : List ℕ) (line last at : ℕ) (starts lengths : List ℕ) (w : Re
     module _ (n : ℕ) (j : n ≡ right_number last (part at (at + i) s)) where
       -- malformed: that is found
       pub reached_bad : n ≡ 0 → malformed_at line ≡ lines_of s
-      reached_bad z = sym (reached-line ∙ rw (sym j ∙ z))
+      reached_bad z = sym (reached_line ∙ rw (sym j ∙ z))
 
       -- right: on to the next line
       pub reached_next : (n ≡ 0 → ⊥) → Reached s (line + 1) n (at + i + 1) (set starts n (at + text_start n)) (set lengths n (i - text_start n))
@@ -207,7 +207,7 @@ module _ (s : List ℕ) (line last at : ℕ) (starts lengths : List ℕ) (w : Re
             fewer = omega (arith, w.fewer);
             starting = length-set starts n _ ∙ w.starting;
             sized = length-set lengths n _ ∙ w.sized;
-            whole = reached-line ∙ rw (← j, ne_eqb n 0 h);
+            whole = reached_line ∙ rw (← j, ne_eqb n 0 h);
           }
 
       -- its number fits the table, and its text the line

@@ -128,11 +128,11 @@ module _ (n : ℕ) (high : n ≤ 14) where
       go false = omega arith
 
   -- one line more, of the number m
-  held-step :
+  held_step :
       (m at size : ℕ) (xs ys : List ℕ) (rest : Held) (l : Lines) → length xs ≡ 15 → length ys ≡ 15 → (m ≡ n → rest ≡ Nothing)
       → entry n l.starts l.lengths ≡ or_else rest (entry n (set xs m (at + text_start m)) (set ys m (size - text_start m)))
       → entry n l.starts l.lengths ≡ or_else (cond (eqb m n) (At (record { start = at + text_start n; length = size - text_start n })) rest) (entry n xs ys)
-  held-step m at size xs ys rest l f g none ih = go (eqb m n) refl
+  held_step m at size xs ys rest l f g none ih = go (eqb m n) refl
     where
       go : (t : Bool) → eqb m n ≡ t → entry n l.starts l.lengths ≡ or_else (cond t (At (record { start = at + text_start n; length = size - text_start n })) rest) (entry n xs ys)
       go true z =
@@ -141,20 +141,20 @@ module _ (n : ℕ) (high : n ≤ 14) where
       go false z = ih ∙ ap (or_else rest) (entry_other m (at + text_start m) (size - text_start m) xs ys (eqb-false m n z))
 
   -- the table holds what the lines hold, or what it held before them
-  held-from :
+  held_from_lem :
       (k last at : ℕ) (xs ys : List ℕ) (ps : List (List ℕ)) → 0 < k → length xs ≡ 15 → length ys ≡ 15 → bad_from k last ps ≡ 0
       → entry n (lines_from k last at xs ys ps).starts (lines_from k last at xs ys ps).lengths ≡ or_else (held_from n at (lines_among ps)) (entry n xs ys)
   unfolding lines_from held_from
-  held-from k last at xs ys [] j f g e = refl
-  held-from k last at xs ys (p ∷ []) j f g e = rw (right_last k last p j e)
-  held-from k last at xs ys (p ∷ (q ∷ ps)) j f g e =
+  held_from_lem k last at xs ys [] j f g e = refl
+  held_from_lem k last at xs ys (p ∷ []) j f g e = rw (right_last k last p j e)
+  held_from_lem k last at xs ys (p ∷ (q ∷ ps)) j f g e =
       let r = right_on k last p q ps j e in
       let m = line_number p in
       let xs' = set xs m (at + text_start m) in
       let ys' = set ys m (length p - text_start m) in
-      let ih = held-from (k + 1) m (at + length p + 1) xs' ys' (q ∷ ps) (omega arith) (length-set xs m _ ∙ f) (length-set ys m _ ∙ g) r.1 in
+      let ih = held_from_lem (k + 1) m (at + length p + 1) xs' ys' (q ∷ ps) (omega arith) (length-set xs m _ ∙ f) (length-set ys m _ ∙ g) r.1 in
       rw (lines_on k last at xs ys p q ps r.0)
-      (held-step m at (length p) xs ys (held_from n (at + length p + 1) (lines_among (q ∷ ps))) (lines_from (k + 1) m (at + length p + 1) xs' ys' (q ∷ ps)) f g
+      (held_step m at (length p) xs ys (held_from n (at + length p + 1) (lines_among (q ∷ ps))) (lines_from (k + 1) m (at + length p + 1) xs' ys' (q ∷ ps)) f g
       (λ z. none_later n (k + 1) m (at + length p + 1) (q ∷ ps) (omega (arith, z)) (omega arith) r.1) ih)
 
 -- a table of no text holds none
@@ -168,4 +168,4 @@ pub held_told : (s : List ℕ) (n : ℕ) → is_standing n ≡ true → bad_line
 unfolding held_in lines_of
 held_told s n h e =
     let w = standing_within n h in
-    rw (le-ltb 14 n w.1) (held-from n w.1 1 0 0 no_texts no_texts (split 10 s) (omega arith) refl refl e ∙ (rw (no_entry 15 n) (or_nothing (line_held n s))))
+    rw (le-ltb 14 n w.1) (held_from_lem n w.1 1 0 0 no_texts no_texts (split 10 s) (omega arith) refl refl e ∙ (rw (no_entry 15 n) (or_nothing (line_held n s))))

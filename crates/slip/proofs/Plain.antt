@@ -133,10 +133,10 @@ module _ (c : Currency) (s : List ℕ) where
 
   -- "A check group joins those of its parts that are present and ends in its check digit; with none present it is not checked": so does every
   -- group of an accepted slip's model, over the parts of field 12
-  pub accepted-groups-pass :
+  pub accepted_groups_pass :
       slip_answer_in c s ≡ Accepted → (n : ℕ) → model_number (field_text s 11) ≡ At n → (g : Group) → Memᴰ g (model_of n).groups →
       let here = present g (parts_of (field_text s 12)) in (here ≡ [] → ⊥) → passes g.rule (joined here) ≡ true
-  accepted-groups-pass e n q g m =
+  accepted_groups_pass e n q g m =
       let w = (accepted_plainly.0 e).twelfth in
       let z : w.model.number ≡ n = same_number (sym w.model.named ∙ q) in
       let o = both_true (formed (model_of n) (field_text s 12)) (parts_right (model_of n) (parts_of (field_text s 12))) (rw z at w.obeyed) in

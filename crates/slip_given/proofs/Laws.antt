@@ -21,14 +21,14 @@ last_of m [] = m
 last_of m (p ∷ ps) = last_of p ps
 
 -- fields after fields
-pub given-append :
+pub given_append :
     (n : ℕ) (m : List ℕ) (ps qs : List (List ℕ))
     → given_answer n m (ps ++ qs) ≡ first_of (given_answer n m ps) (given_answer (n + length ps) (last_of m ps) qs)
 unfolding given_answer
-given-append n m [] qs = rw add-zero
-given-append n m (p ∷ ps) qs =
+given_append n m [] qs = rw add-zero
+given_append n m (p ∷ ps) qs =
     let e : n + suc (length ps) ≡ n + 1 + length ps = omega arith in
-    rw (given-append (n + 1) p ps qs, e) (first_joined (answer_in n (field_verdict Euro n m p)) _ _)
+    rw (given_append (n + 1) p ps qs, e) (first_joined (answer_in n (field_verdict Euro n m p)) _ _)
 
 -- one field
 pub one_given : (n : ℕ) (m s : List ℕ) (x : Answer) → x ≡ answer_in n (field_verdict Euro n m s) → x ≡ given_answer n m (s ∷ [])
@@ -43,11 +43,11 @@ module _ (n : ℕ) (m : List ℕ) {x : Answer} where
   module _ (ps qs : List (List ℕ)) (e : x ≡ given_answer n m ps) where
     -- refused among the first
     pub refused_first : (r : Refusal) → x ≡ Answer.Refused r → Answer.Refused r ≡ given_answer n m (ps ++ qs)
-    refused_first r g = rw (given-append n m ps qs, sym e ∙ g)
+    refused_first r g = rw (given_append n m ps qs, sym e ∙ g)
 
     -- the first accepted: the answer of the others
     pub accepted_next : (y : Answer) → x ≡ Answer.Accepted → y ≡ given_answer (n + length ps) (last_of m ps) qs → y ≡ given_answer n m (ps ++ qs)
-    accepted_next y g h = rw (given-append n m ps qs, sym e ∙ g) h
+    accepted_next y g h = rw (given_append n m ps qs, sym e ∙ g) h
 
 -- ---------------------------------------------------------------------------
 -- A refusal is told of a field that is not right

@@ -48,10 +48,10 @@ piece_on s (suc k) i h e =
 -- the piece that is `left` pieces on from place `at`
 module _ (s : List ℕ) (at left : ℕ) where
   -- a line feed: one piece fewer
-  pub piece-again :
+  pub piece_again :
       (i : ℕ) → 0 < left → first_bad Line (take (length s - at) (drop at s)) ≡ At i
       → behind at (piece_part left (split 10 (drop at s))) ≡ behind (at + (i + 1)) (piece_part (left - 1) (split 10 (drop (at + (i + 1)) s)))
-  piece-again i h e =
+  piece_again i h e =
       let q : at + (i + 1 + piece_start (left - 1) (split 10 (drop (at + (i + 1)) s))) ≡ at + (i + 1) + piece_start (left - 1) (split 10 (drop (at + (i + 1)) s)) = omega arith in
       ap (behind at) (piece_on (drop at s) left i h (rw (to_the_end at s) at e)) ∙ rw (drop-drop (i + 1) at s, q)
 
@@ -63,11 +63,11 @@ module _ (s : List ℕ) (at left : ℕ) where
       base = rw (add-zero at)
 
   -- it is the first
-  pub piece-here :
+  pub piece_here :
       (r : ℕ) → left ≤ 0 → r ≡ length (piece_of 0 (split 10 (take (length s - at) (drop at s))))
       → record { start = at; length = r } ≡ behind at (piece_part left (split 10 (drop at s)))
   unfolding piece_start
-  piece-here r h e = let z : left ≡ 0 = omega arith in rw (z, e, to_the_end at s, add-zero at)
+  piece_here r h e = let z : left ≡ 0 = omega arith in rw (z, e, to_the_end at s, add-zero at)
 
 -- its bytes are the piece's, and lie within the text
 abbrev pub Stands : List ℕ → List ℕ → Part → Type 0

@@ -47,10 +47,10 @@ unfolding join_lines
 line_stands w = stands_append w (record { counted = refl; content = refl })
 
 -- lines behind lines
-pub lines-stand :
+pub lines_stand :
     (ps qs : List (List ℕ)) {b b₁ b₂ : List ℕ} {at n₁ n₂ : ℕ} → Stands b at (join_lines ps) n₁ b₁ → Stands b₁ n₁ (join_lines qs) n₂ b₂
     → Stands b at (join_lines (ps ++ qs)) n₂ b₂
-lines-stand ps qs v w = rw (lines_append ps qs) (stands_append v w)
+lines_stand ps qs v w = rw (lines_append ps qs) (stands_append v w)
 
 -- both sizes
 both_length : (ps qs : List (List ℕ)) → length (join_lines (ps ++ qs)) ≡ length (join_lines ps) + length (join_lines qs)
@@ -92,17 +92,17 @@ module _ (cents : ℕ) (ps qs rs : List (List ℕ)) where
   slip_size = omega (arith, slip_length cents (ps ++ (qs ++ rs)), both_length ps (qs ++ rs), both_length qs rs)
 
   -- room for the slip
-  pub slip-room :
+  pub slip_room :
       (room : ℕ) → 29 + length (join_lines ps) + length (join_lines qs) + length (join_lines rs) ≤ room
       → 0 + length (join_lines (head_of cents ++ (ps ++ (qs ++ rs)))) ≤ room
-  slip-room room h = omega (arith, both_length (head_of cents) (ps ++ (qs ++ rs)), head_length cents, both_length ps (qs ++ rs), both_length qs rs)
+  slip_room room h = omega (arith, both_length (head_of cents) (ps ++ (qs ++ rs)), head_length cents, both_length ps (qs ++ rs), both_length qs rs)
 
   -- the slip stands at the front
-  pub slip-stands :
+  pub slip_stands :
       {b b₁ b₂ b₃ b₄ : List ℕ} {n₁ n₂ n₃ n₄ : ℕ} → Stands b 0 (join_lines (head_of cents)) n₁ b₁ → Stands b₁ n₁ (join_lines ps) n₂ b₂
       → Stands b₂ n₂ (join_lines qs) n₃ b₃ → Stands b₃ n₃ (join_lines rs) n₄ b₄ → Stands b 0 (slip_text cents (ps ++ (qs ++ rs))) n₄ b₄
   unfolding slip_text
-  slip-stands v w x y = lines-stand (head_of cents) (ps ++ (qs ++ rs)) v (lines-stand ps (qs ++ rs) w (lines-stand qs rs x y))
+  slip_stands v w x y = lines_stand (head_of cents) (ps ++ (qs ++ rs)) v (lines_stand ps (qs ++ rs) w (lines_stand qs rs x y))
 
 -- more than there is room for: refused
 pub room_refused :

@@ -14,10 +14,10 @@ use Rattle.slip_writer.specs.Writer.{slip_text}
 use Rattle.slip_writer.proofs.Laws.{lines_length, slip_length}
 
 -- of accepted fields the first is accepted, and so are those after it
-pub given-first :
+pub given_first :
     (n : ℕ) (m p : List ℕ) (ps : List (List ℕ)) → given_answer n m (p ∷ ps) ≡ Accepted → (field_verdict Euro n m p ≡ 0) × (given_answer (n + 1) p ps ≡ Accepted)
 unfolding given_answer
-given-first n m p ps e = let h = first_both (answer_in n (field_verdict Euro n m p)) _ e in (answer_accepted _ _ _ h.0, h.1)
+given_first n m p ps e = let h = first_both (answer_in n (field_verdict Euro n m p)) _ e in (answer_accepted _ _ _ h.0, h.1)
 
 -- the most bytes of k fields from field n on, with their line feeds
 abbrev pub sizes : ℕ → ℕ → ℕ
@@ -28,7 +28,7 @@ sizes n (suc k) = size_of n + 1 + sizes (n + 1) k
 pub given_size : (n : ℕ) (m : List ℕ) (ps : List (List ℕ)) → given_answer n m ps ≡ Accepted → length (join_lines ps) ≤ sizes n (length ps)
 given_size n m [] e = unfold join_lines in omega arith
 given_size n m (p ∷ ps) e =
-    let h = given-first n m p ps e in
+    let h = given_first n m p ps e in
     omega (arith, lines_length p ps, field_size Euro n m p h.0, given_size (n + 1) p ps h.1)
 
 -- the fields 4 to 14

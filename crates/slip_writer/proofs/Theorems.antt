@@ -23,7 +23,7 @@ use Rattle.text.specs.Lines.{join_lines, lines_among, EachLine, none as no_line,
 use Rattle.slip_writer.specs.Writer.{slip_text, after_fields, write_answer}
 use Rattle.slip_writer.specs.Claims.{slip_fields, ReadsBack, WritesBack}
 use Rattle.slip_writer.proofs.Laws.{slip_length}
-use Rattle.slip_writer.proofs.Sizes.{given-first, given_size, sizes, sizes_eleven}
+use Rattle.slip_writer.proofs.Sizes.{given_first, given_size, sizes, sizes_eleven}
 use Rattle.text.proofs.Lines.{split_joined, count_joined, last_joined, joined_split, lines_of_text, line_at}
 
 -- ---------------------------------------------------------------------------
@@ -32,21 +32,21 @@ use Rattle.text.proofs.Lines.{split_joined, count_joined, last_joined, joined_sp
 -- accepted fields have no line feed
 given_lines : (n : ℕ) (m : List ℕ) (ps : List (List ℕ)) → given_answer n m ps ≡ Accepted → EachLine ps
 given_lines n m [] e = no_line
-given_lines n m (p ∷ ps) e = let h = given-first n m p ps e in more (no_line_feed Euro n m p h.0) (given_lines (n + 1) p ps h.1)
+given_lines n m (p ∷ ps) e = let h = given_first n m p ps e in more (no_line_feed Euro n m p h.0) (given_lines (n + 1) p ps h.1)
 
 -- an accepted field, and then accepted ones
-first-given :
+first_given :
     (n : ℕ) (m p : List ℕ) (ps : List (List ℕ)) → field_verdict Euro n m p ≡ 0 → given_answer (n + 1) p ps ≡ Accepted → given_answer n m (p ∷ ps) ≡ Accepted
 unfolding given_answer
-first-given n m p ps e g = rw (e, g)
+first_given n m p ps e g = rw (e, g)
 
 -- what the writer accepts the reader accepts, with nothing behind the last line feed
-given-read :
+given_read :
     (n start : ℕ) (m : List ℕ) (ps : List (List ℕ)) → given_answer n m ps ≡ Accepted → fields_answer Euro n start m (ps ++ ([] ∷ [])) ≡ Accepted
 unfolding fields_answer
-given-read n start m [] e = refl
-given-read n start m (p ∷ []) e = rw (given-first n m p [] e).0
-given-read n start m (p ∷ (q ∷ ps)) e = let h = given-first n m p (q ∷ ps) e in rw h.0 (given-read (n + 1) (start + length p + 1) p (q ∷ ps) h.1)
+given_read n start m [] e = refl
+given_read n start m (p ∷ []) e = rw (given_first n m p [] e).0
+given_read n start m (p ∷ (q ∷ ps)) e = let h = given_first n m p (q ∷ ps) e in rw h.0 (given_read (n + 1) (start + length p + 1) p (q ∷ ps) h.1)
 
 -- what the reader accepts the writer accepts
 read_given : (n start : ℕ) (m : List ℕ) (ps : List (List ℕ)) → fields_answer Euro n start m ps ≡ Accepted → given_answer n m (lines_among ps) ≡ Accepted
@@ -101,9 +101,9 @@ module _ (cents : ℕ) (fields : List (List ℕ)) (given : given_answer 4 [] fie
   all_given : given_answer 1 [] (fourteen cents fields) ≡ Accepted
   all_given =
       let d = digits_text 15 cents in
-      first-given 1 [] hrvhub30 (eur ∷ (d ∷ fields)) (hrvhub30_accepted Euro [])
-      (first-given 2 hrvhub30 eur (d ∷ fields) (currency_accepted Euro hrvhub30)
-      (first-given 3 eur d fields (digits_accepted Euro eur d (text_digits 15 cents) (digits_length 15 cents)) (given_four d [] fields ∙ given)))
+      first_given 1 [] hrvhub30 (eur ∷ (d ∷ fields)) (hrvhub30_accepted Euro [])
+      (first_given 2 hrvhub30 eur (d ∷ fields) (currency_accepted Euro hrvhub30)
+      (first_given 3 eur d fields (digits_accepted Euro eur d (text_digits 15 cents) (digits_length 15 cents)) (given_four d [] fields ∙ given)))
 
   -- no line feed stands in any of them
   all_lines : EachLine (fourteen cents fields)
@@ -127,7 +127,7 @@ module _ (cents : ℕ) (fields : List (List ℕ)) (given : given_answer 4 [] fie
 
   slip_accepted : slip_answer (slip_text cents fields) ≡ Accepted
   unfolding slip_answer_in
-  slip_accepted = rw (le-leb (length (slip_text cents fields)) 483 slip_small, slip_ends_lem, slip_split) (given-read 1 0 [] (fourteen cents fields) all_given)
+  slip_accepted = rw (le-leb (length (slip_text cents fields)) 483 slip_small, slip_ends_lem, slip_split) (given_read 1 0 [] (fourteen cents fields) all_given)
 
   -- its third field
   slip_digits : piece_of 2 (split 10 (slip_text cents fields)) ≡ digits_text 15 cents
@@ -211,30 +211,30 @@ module _ (s : List ℕ) (accepted : slip_answer s ≡ Accepted) (ls : List (List
       rw (le-leb 4 (4 + i) (omega arith), le-leb (4 + i) 14 (omega arith), accepted, e) (piece_line (suc (suc (suc i))) (omega arith))
 
 -- the lines of a slip, from its amount and its fields
-slip-lines :
+slip_lines :
     (p q r s : List ℕ) (cents : ℕ) (fields : List (List ℕ)) → p ≡ hrvhub30 → q ≡ eur → digits_text 15 cents ≡ r → join_lines (p ∷ (q ∷ (r ∷ fields))) ≡ s
     → slip_text cents fields ≡ s
 unfolding slip_text
-slip-lines p q r s cents fields a b d w = rw d (rw (a, b) at w)
+slip_lines p q r s cents fields a b d w = rw d (rw (a, b) at w)
 
 -- from the lines of an accepted slip
-lines-again :
+lines_again :
     (s : List ℕ) → slip_answer s ≡ Accepted → (ls : List (List ℕ)) → lines_among (split 10 s) ≡ ls → length ls ≡ 14 → given_answer 1 [] ls ≡ Accepted
     → join_lines ls ≡ s → WritesBack s
-lines-again s a [] l n g w = absurd (omega arith)
-lines-again s a (p ∷ []) l n g w = absurd (omega arith)
-lines-again s a (p ∷ (q ∷ [])) l n g w = absurd (omega arith)
-lines-again s a (p ∷ (q ∷ (r ∷ fields))) l n g w =
-    let h₁ = given-first 1 [] p (q ∷ (r ∷ fields)) g in
-    let h₂ = given-first 2 p q (r ∷ fields) h₁.1 in
-    let h₃ = given-first 3 q r fields h₂.1 in
+lines_again s a [] l n g w = absurd (omega arith)
+lines_again s a (p ∷ []) l n g w = absurd (omega arith)
+lines_again s a (p ∷ (q ∷ [])) l n g w = absurd (omega arith)
+lines_again s a (p ∷ (q ∷ (r ∷ fields))) l n g w =
+    let h₁ = given_first 1 [] p (q ∷ (r ∷ fields)) g in
+    let h₂ = given_first 2 p q (r ∷ fields) h₁.1 in
+    let h₃ = given_first 3 q r fields h₂.1 in
     let d = third_is_digits Euro q r h₃.0 in
     let amount : piece_of 2 (split 10 s) ≡ r = piece_line s a (p ∷ (q ∷ (r ∷ fields))) l n 2 (omega arith) in
     let texts : slip_fields s ≡ fields =
     listed_ext (field_of s) (λ (i : ℕ). get_or fields i []) 4 0 11 (λ i h. field_line_lem s a (p ∷ (q ∷ (r ∷ fields))) l n i h ∙ rw zero-add)
     ∙ listed_drop fields 0 11 (omega arith) in
     record {
-      same = rw (amount, texts) (slip-lines p q r s (value_of (digits_of r)) fields (first_is_hrvhub30 Euro [] p h₁.0) (second_is_currency Euro p q h₂.0) (rw d.1 at (digits_again r d.0)) w);
+      same = rw (amount, texts) (slip_lines p q r s (value_of (digits_of r)) fields (first_is_hrvhub30 Euro [] p h₁.0) (second_is_currency Euro p q h₂.0) (rw d.1 at (digits_again r d.0)) w);
       small = rw amount (value_below 15 r d.0 d.1);
       given = rw texts (given_four [] r fields ∙ h₃.1);
     }
@@ -244,7 +244,7 @@ pub read_and_written_again : (s : List ℕ) → slip_answer s ≡ Accepted → W
 read_and_written_again s e =
     let h = slip_read s e in
     let b = both_true (eqb (count_of 10 s) 14) (eqb (get_or s (length s - 1) 0) 10) h.ends in
-    lines-again s e (lines_among (split 10 s)) refl (lines_of_text s ∙ eqb-true (count_of 10 s) 14 b.0) (read_given 1 0 [] (split 10 s) h.fields) (joined_split s (eqb-true (get_or s (length s - 1) 0) 10 b.1))
+    lines_again s e (lines_among (split 10 s)) refl (lines_of_text s ∙ eqb-true (count_of 10 s) 14 b.0) (read_given 1 0 [] (split 10 s) h.fields) (joined_split s (eqb-true (get_or s (length s - 1) 0) 10 b.1))
 
 -- so the writer writes that slip wherever it has the room
 pub accepted_is_written : (s : List ℕ) (room : ℕ) → slip_answer s ≡ Accepted → length s ≤ room → write_answer (amount_of s) (slip_fields s) room ≡ Bytes (length s)

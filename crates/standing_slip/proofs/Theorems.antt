@@ -34,11 +34,11 @@ pub with_empty_sheets : (sizes text : List ℕ) → filled_fields sizes text [] 
 with_empty_sheets sizes text = fields_as_given 4 (eleven_of sizes text)
 
 -- and the answer is the writer's
-pub slip-of-empty-sheets :
+pub slip_of_empty_sheets :
     (cents : ℕ) (sizes text : List ℕ) (room : ℕ)
     → standing_slip cents sizes text [] [] room ≡ cond (lent_whole 11 sizes text) (record { sheet = Sheet.Neither; written = write_answer cents (eleven_of sizes text) room }) (record { sheet = Sheet.Neither; written = Written.Refused (Size none) })
 unfolding standing_slip sheets_judged bad_from split
-slip-of-empty-sheets cents sizes text room = rw (with_empty_sheets sizes text)
+slip_of_empty_sheets cents sizes text room = rw (with_empty_sheets sizes text)
 
 -- ---------------------------------------------------------------------------
 -- The fields

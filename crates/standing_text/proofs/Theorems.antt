@@ -65,13 +65,13 @@ module _ (n : ℕ) (farm association : List ℕ) where
 -- Whose text it is
 
 -- the bytes that two sheets supply
-supplied-text :
+supplied_text :
     (h h' : Held) (farm association t t' : List ℕ) → StandsAs h farm t → StandsAs h' association t'
     → standing_bytes (supplied_by h h') farm association ≡ cond (is_held h) t t'
 unfolding supplied_by bytes_from
-supplied-text (At p) h' farm association t t' w w' = w.1
-supplied-text Nothing (At p) farm association t t' w w' = w'.1
-supplied-text Nothing Nothing farm association t t' w w' = sym w'
+supplied_text (At p) h' farm association t t' w w' = w.1
+supplied_text Nothing (At p) farm association t t' w w' = w'.1
+supplied_text Nothing Nothing farm association t t' w w' = sym w'
 
 -- the sheet that supplies them
 supplied_sheet : (h h' : Held) → (supplied_by h h').sheet ≡ cond (is_held h) Farm (cond (is_held h') Association Neither)
@@ -88,7 +88,7 @@ module _ (n : ℕ) (farm association : List ℕ) (standing : is_standing n ≡ t
   pub standing_text_is : standing_text n farm association ≡ cond (is_among n (fields_in farm)) (text_among n (fields_in farm)) (text_among n (fields_in association))
   standing_text_is =
       rw (standing_supplied n farm association standing f a, ← (held_where n above farm))
-      (supplied-text (line_held n farm) (line_held n association) farm association (text_among n (fields_in farm)) (text_among n (fields_in association)) (held_stands n above farm f) (held_stands n above association a))
+      (supplied_text (line_held n farm) (line_held n association) farm association (text_among n (fields_in farm)) (text_among n (fields_in association)) (held_stands n above farm f) (held_stands n above association a))
 
   pub standing_sheet_is : (standing_of n farm association).sheet ≡ cond (is_among n (fields_in farm)) Farm (cond (is_among n (fields_in association)) Association Neither)
   standing_sheet_is =
@@ -104,19 +104,19 @@ sheet_of Neither farm association = []
 sheet_of Farm farm association = farm
 sheet_of Association farm association = association
 
-supplied-within :
+supplied_within :
     (h h' : Held) (farm association t t' : List ℕ) → StandsAs h farm t → StandsAs h' association t'
     → (supplied_by h h').part.start + (supplied_by h h').part.length ≤ length (sheet_of (supplied_by h h').sheet farm association)
 unfolding supplied_by
-supplied-within (At p) h' farm association t t' w w' = w.0
-supplied-within Nothing (At p) farm association t t' w w' = w'.0
-supplied-within Nothing Nothing farm association t t' w w' = omega arith
+supplied_within (At p) h' farm association t t' w w' = w.0
+supplied_within Nothing (At p) farm association t t' w w' = w'.0
+supplied_within Nothing Nothing farm association t t' w w' = omega arith
 
-pub standing-part-within :
+pub standing_part_within :
     (n : ℕ) (farm association : List ℕ)
     → (standing_of n farm association).part.start + (standing_of n farm association).part.length ≤ length (sheet_of (standing_of n farm association).sheet farm association)
 unfolding standing_of
-standing-part-within n farm association = go (is_standing n) refl (both_judged farm association).answer refl
+standing_part_within n farm association = go (is_standing n) refl (both_judged farm association).answer refl
   where
     go :
         (t : Bool) → is_standing n ≡ t → (x : Answer) → (both_judged farm association).answer ≡ x
@@ -126,7 +126,7 @@ standing-part-within n farm association = go (is_standing n) refl (both_judged f
     go true g Accepted e =
         let w = neither_bad (bad_line farm) (bad_line association) e in
         let z : 0 + 1 ≤ n = omega (arith, (standing_within n g).0) in
-        supplied-within (line_held n farm) (line_held n association) farm association _ _ (held_stands n z farm w.0) (held_stands n z association w.1)
+        supplied_within (line_held n farm) (line_held n association) farm association _ _ (held_stands n z farm w.0) (held_stands n z association w.1)
 
 -- ---------------------------------------------------------------------------
 -- The slip's rule accepts it

@@ -29,12 +29,12 @@ record Stretch (t : List ℕ) (a e : ℕ) (ps : List (List ℕ)) : Type 0 where
   content : take (e - a) (drop a t) ≡ bound ps
 
 -- a part behind another begins where it does without it
-start-next :
+start_next :
     (k at : ℕ) (p : List ℕ) (ps : List (List ℕ)) → at + length p < 1024 →
     cond (eqb (suc k) 0) at (end_of (suc k - 1) (ends_from at (p ∷ ps)) + 1) ≡ cond (eqb k 0) (at + length p + 1) (end_of (k - 1) (ends_from (at + length p + 1) ps) + 1)
 unfolding ends_from
-start-next zero at p ps h = omega arith
-start-next (suc k) at p ps h =
+start_next zero at p ps h = omega arith
+start_next (suc k) at p ps h =
     let x : suc (suc k) - 1 ≡ suc k = omega arith in
     let y : suc k - 1 ≡ k = omega arith in
     rw (x, y, eqb-suc-zero (suc k), eqb-suc-zero k, end_next k (at + length p) (ends_from (at + length p + 1) ps) h)
@@ -63,24 +63,24 @@ stretched (suc k) j at (p ∷ []) t h g s d n = absurd (omega arith)
 stretched (suc k) j at (p ∷ (q ∷ ps)) t h g s d n =
     let m : at + length p + 1 ≡ at + (length p + 1) = omega arith in
     let d' : drop (at + length p + 1) t ≡ bound (q ∷ ps) = rw m (sym (drop-drop (length p + 1) at t) ∙ ap (drop (length p + 1)) d ∙ drop-append-add p (45 ∷ bound (q ∷ ps)) 1) in
-    rw (start-next k at p (q ∷ ps) (omega arith), suc-add k j, end_next (k + j) (at + length p) (ends_from (at + length p + 1) (q ∷ ps)) (omega arith))
+    rw (start_next k at p (q ∷ ps) (omega arith), suc-add k j, end_next (k + j) (at + length p) (ends_from (at + length p + 1) (q ∷ ps)) (omega arith))
     (stretched k j (at + length p + 1) (q ∷ ps) t (omega arith) (omega arith) s.1 d' (omega (arith, length-append p (45 ∷ bound (q ∷ ps)))))
 
 -- from a part that is there on, a stretch of a text is its parts with their hyphens
-pub stretch-parts :
+pub stretch_parts :
     (k j : ℕ) (ps : List (List ℕ)) → Solid ps → span_of ps ≤ 1024 → k < length ps →
     stretch k (k + j) (ends_from 0 ps) (bound ps) ≡ bound (take (suc j) (drop k ps))
 unfolding stretch
-stretch-parts k j ps s h l =
+stretch_parts k j ps s h l =
     let w = stretched k j 0 ps (bound ps) l (omega arith) s refl (omega arith) in
     rw (le-leb _ _ w.forward, le-leb _ _ w.within, w.content)
 
 -- what f asks of a text by the ends of its parts is what g asks of its parts: if so of any solid parts, then of a formed text, for each of a list
-pub every-at :
+pub every_at :
     {A : Type 0} (f : A → ℕ → List ℕ → Bool) (g : A → List (List ℕ) → Bool) →
     ((x : A) (ps : List (List ℕ)) → Solid ps → span_of ps ≤ 1024 → f x (ends_from 0 ps) (bound ps) ≡ g x ps) →
     (model : Model) (s : List ℕ) → length s < 1024 → formed model s ≡ true → (xs : List A) →
     every (λ (x : A). f x (ends_of s) s) xs ≡ every (λ (x : A). g x (parts_of s)) xs
-every-at {A} f g same model s h e xs =
+every_at {A} f g same model s h e xs =
     every_same (λ (x : A). f x (ends_of s) s) (λ (x : A). g x (parts_of s))
     (λ x. ap (f x (ends_of s)) (sym (bound_parts s)) ∙ same x (parts_of s) (formed_solid model s e) (parts_span s h)) xs

@@ -8,7 +8,7 @@ use Rattle.refusal.specs.declared.Answer.TheVariants.{Accepted, Refused}
 use Rattle.refusal.specs.declared.Refusal.{Refusal}
 use Rattle.refusal.specs.declared.Refusal.TheVariants.{Size}
 use Rattle.verdict.proofs.Verdicts.{first_both}
-use Rattle.room.proofs.Places.{sets_length, front, take_sets, drop_sets, place_filled, set_own, sets_over, sets-apart}
+use Rattle.room.proofs.Places.{sets_length, front, take_sets, drop_sets, place_filled, set_own, sets_over, sets_apart}
 use Rattle.wage_places.specs.declared.LineType.{LineType}
 use Rattle.wage_places.specs.declared.Spot.{Spot}
 use Rattle.wage_places.specs.declared.LineType.TheVariants.{Label, Group, Order, Closing}
@@ -31,22 +31,22 @@ module _ (day kind : ℕ) (t : LineType) (p : Spot) (f line : List ℕ) where
   placed_wrong g = rw (ne_eqb (length f) p.size g) (record { answers = refl; leaves = refl })
 
   -- one of the right length is put and judged
-  pub placed-right :
+  pub placed_right :
       length f ≡ p.size → (r : Answer) (after : List ℕ) → after ≡ sets line p.start f → r ≡ place_answer day kind t p after
       → Drafts (placed day kind t p f line) r after
-  placed-right g r after e w = rw (eq-eqb (length f) p.size g, ← e) (record { answers = w; leaves = refl })
+  placed_right g r after e w = rw (eq-eqb (length f) p.size g, ← e) (record { answers = w; leaves = refl })
 
 -- ---------------------------------------------------------------------------
 -- Places from one on
 
 module _ (day kind : ℕ) (t : LineType) where
   -- the first place takes the first field, an empty one if there is none
-  pub drafted-first :
+  pub drafted_first :
       (p : Spot) (ps : List Spot) (fs : List (List ℕ)) (line : List ℕ) → drafted day kind t (p ∷ ps) fs line
       ≡ going_on (placed day kind t p (get_or fs 0 []) line).answer (placed day kind t p (get_or fs 0 []) line) (drafted day kind t ps (drop 1 fs) (placed day kind t p (get_or fs 0 []) line).line)
   unfolding drafted
-  drafted-first p ps [] line = refl
-  drafted-first p ps (f ∷ fs) line = refl
+  drafted_first p ps [] line = refl
+  drafted_first p ps (f ∷ fs) line = refl
 
 module _ (day kind : ℕ) (t : LineType) (ps : List Spot) (last k : ℕ) (sizes : List ℕ) (i : ℕ) (text : List ℕ) (at : ℕ) (line : List ℕ) where
   -- what is left to be drafted from a place on, with the fields from one on
@@ -65,30 +65,30 @@ module _ (day kind : ℕ) (t : LineType) (ps : List Spot) (last k : ℕ) (sizes 
 
   module _ (end : ℕ) (ended : FieldEnd text at (get_or sizes i 0) end) (more : k < last) (known : k < length ps) where
     -- the next place
-    left-next :
+    left_next :
         Left ≡ going_on (placed day kind t (get_or ps k no_spot) (take (end - at) (drop at text)) line).answer (placed day kind t (get_or ps k no_spot) (take (end - at) (drop at text)) line) (drafted day kind t (take (last - (k + 1)) (drop (k + 1) ps)) (fields_of (drop (i + 1) sizes) (drop end text)) (placed day kind t (get_or ps k no_spot) (take (end - at) (drop at text)) line).line)
-    left-next =
+    left_next =
         let e : last - k ≡ suc (last - (k + 1)) = omega arith in
         rw (drop-cons ps k no_spot known, e, ended.field, ended.rest, ← (field_from sizes i (drop at text)), ← (fields_on sizes i (drop at text)), ← (add-one k))
-        (drafted-first day kind t (get_or ps k no_spot) (take (last - (k + 1)) (drop (k + 1) ps)) (fields_of (drop i sizes) (drop at text)) line)
+        (drafted_first day kind t (get_or ps k no_spot) (take (last - (k + 1)) (drop (k + 1) ps)) (fields_of (drop i sizes) (drop at text)) line)
 
     -- it was refused: that is the draft
-    pub draft-stops :
+    pub draft_stops :
         (r : Answer) (after : List ℕ) → Drafts (placed day kind t (get_or ps k no_spot) (take (end - at) (drop at text)) line) r after
         → (q : Refusal) → r ≡ Refused q → Drafts Left (Refused q) after
-    draft-stops r after w q e =
+    draft_stops r after w q e =
         let f : (placed day kind t (get_or ps k no_spot) (take (end - at) (drop at text)) line).answer ≡ Refused q = sym w.answers ∙ e in
-        rw (left-next, f) (record { answers = sym f; leaves = w.leaves })
+        rw (left_next, f) (record { answers = sym f; leaves = w.leaves })
 
 -- the place was accepted: what is left is drafted
-pub draft-on :
+pub draft_on :
     (day kind : ℕ) (t : LineType) (ps : List Spot) (last k : ℕ) (sizes : List ℕ) (i : ℕ) (text : List ℕ) (at : ℕ) (line : List ℕ)
     (end : ℕ) → FieldEnd text at (get_or sizes i 0) end → k < last → k < length ps
     → (r : Answer) (after : List ℕ) → Drafts (placed day kind t (get_or ps k no_spot) (take (end - at) (drop at text)) line) r after
     → r ≡ Accepted → Left day kind t ps last k sizes i text at line ≡ Left day kind t ps last (k + 1) sizes (i + 1) text end after
-draft-on day kind t ps last k sizes i text at line end ended more known r after w e =
+draft_on day kind t ps last k sizes i text at line end ended more known r after w e =
     let f : (placed day kind t (get_or ps k no_spot) (take (end - at) (drop at text)) line).answer ≡ Accepted = sym w.answers ∙ e in
-    left-next day kind t ps last k sizes i text at line end ended more known ∙ rw (f, w.leaves)
+    left_next day kind t ps last k sizes i text at line end ended more known ∙ rw (f, w.leaves)
 
 -- ---------------------------------------------------------------------------
 -- Drafts in scratch room
@@ -112,10 +112,10 @@ module _ (line : List ℕ) (d : Draft) where
         rw (eq-eqb (length line) 1002 whole, f) (record { answers = refl; leaves = refl })
 
     -- an accepted one is put back
-    pub scratch-accepted :
+    pub scratch_accepted :
         Drafts d r after → r ≡ Accepted → length after ≡ 1002 → (back : List ℕ) → back ≡ sets line 0 after → Drafts (in_scratch line d) Accepted back
     unfolding in_scratch
-    scratch-accepted w e l back b =
+    scratch_accepted w e l back b =
         let f : d.answer ≡ Accepted = sym w.answers ∙ e in
         let g : back ≡ d.line = b ∙ put_whole line after (omega arith) ∙ w.leaves in
         rw (eq-eqb (length line) 1002 whole, f) (record { answers = refl; leaves = g })
@@ -145,11 +145,11 @@ later_field [] k = refl
 later_field (f ∷ fs) k = refl
 
 -- going on twice
-pub going-twice :
+pub going_twice :
     (next : Draft → Draft) (d e : Draft) (a : Answer) → d.answer ≡ a
     → going_on a d (going_on e.answer e (next e)) ≡ going_on (going_on a d e).answer (going_on a d e) (next (going_on a d e))
-going-twice next d e Accepted h = refl
-going-twice next d e (Refused r) h = rw h
+going_twice next d e Accepted h = refl
+going_twice next d e (Refused r) h = rw h
 
 module _ (day kind : ℕ) (t : LineType) where
   -- where there are no places, nothing is put
@@ -170,15 +170,15 @@ empty_fields (f ∷ fs) n (suc k) = empty_fields fs n k
 
 module _ (day kind : ℕ) where
   -- no rule looks at a field behind its own
-  pub rule-by-earlier :
+  pub rule_by_earlier :
       (t : LineType) (n : ℕ) (f s u : List ℕ) → ((m : ℕ) → m ≤ n → part_of t m s ≡ part_of t m u) → rule_verdict day kind t n f s ≡ rule_verdict day kind t n f u
-  rule-by-earlier Label n f s u h = go (eqb n 7) refl
+  rule_by_earlier Label n f s u h = go (eqb n 7) refl
     where
       go : (b : Bool) → eqb n 7 ≡ b → label_rule day n f s ≡ label_rule day n f u
       go true e = let z = eqb-true n 7 e in rw (h 5 (omega arith), h 6 (omega arith))
       go false e = rw e
-  rule-by-earlier Group n f s u h = refl
-  rule-by-earlier Order n f s u h = go (ltb n 7) (ltb n 12) refl refl
+  rule_by_earlier Group n f s u h = refl
+  rule_by_earlier Order n f s u h = go (ltb n 7) (ltb n 12) refl refl
     where
       go : (b c : Bool) → ltb n 7 ≡ b → ltb n 12 ≡ c → order_rule kind n f s ≡ order_rule kind n f u
       go true c e g =
@@ -189,7 +189,7 @@ module _ (day kind : ℕ) where
           let m = ltb-true n 12 g in
           rw (h 6 (omega arith), ne_eqb n 12 (λ z. absurd (omega arith)), ne_eqb n 22 (λ z. absurd (omega arith)))
       go false false e g = let l = ltb-false n 12 g in rw (h 6 (omega arith), h 11 (omega arith))
-  rule-by-earlier Closing n f s u h = refl
+  rule_by_earlier Closing n f s u h = refl
 
 -- a part that ends in the first n bytes is one of these
 part_early : (s : List ℕ) (start size n : ℕ) → start + size ≤ n → take size (drop start (take n s)) ≡ take size (drop start s)
@@ -207,13 +207,13 @@ abbrev pub Ahead : LineType → Spot → Type 0
 Ahead t p = (m : ℕ) → m ≤ p.field → (spot_of t m).start + (spot_of t m).size ≤ p.start + p.size
 
 -- a place is judged by the bytes up to its end
-pub place-by-ahead :
+pub place_by_ahead :
     (day kind : ℕ) (t : LineType) (p : Spot) (s u : List ℕ) → Ahead t p → length s ≡ length u → take (p.start + p.size) s ≡ take (p.start + p.size) u
     → place_answer day kind t p s ≡ place_answer day kind t p u
 unfolding place_answer place_verdict
-place-by-ahead day kind t p s u h l e =
+place_by_ahead day kind t p s u h l e =
     let n = p.start + p.size in
-    rw (l, part_ahead p n s u (omega arith) e, rule-by-earlier day kind t p.field (part_at p u) s u (λ m g. let w = h m g in part_ahead (spot_of t m) n s u (omega arith) e))
+    rw (l, part_ahead p n s u (omega arith) e, rule_by_earlier day kind t p.field (part_at p u) s u (λ m g. let w = h m g in part_ahead (spot_of t m) n s u (omega arith) e))
 
 -- ---------------------------------------------------------------------------
 -- Places in their order
@@ -314,7 +314,7 @@ module _ (day kind : ℕ) (t : LineType) where
       let m = p.start + p.size in
       let a = placed_kept n p (get_or fs 0 []) line h.0 (rising_within t m ps h.1.1) in
       let z = h.0 in
-      rw (drafted-first day kind t p ps fs line) (go d e a (kept_both n m line d.line e.line (omega arith) a (drafted_kept m ps h.1.1 (drop 1 fs) d.line)) d.answer)
+      rw (drafted_first day kind t p ps fs line) (go d e a (kept_both n m line d.line e.line (omega arith) a (drafted_kept m ps h.1.1 (drop 1 fs) d.line)) d.answer)
     where
       go : (d e : Draft) → Kept n line d.line → Kept n line e.line → (a : Answer) → Kept n line (going_on a d e).line
       go d e x y Accepted = y
@@ -374,24 +374,24 @@ module _ (day kind : ℕ) (t : LineType) where
       at (suc k) h = w.holds k (omega arith) ∙ later_field fs k
 
   -- an accepted draft holds each field at its place, and each place is right
-  pub drafted-accepted :
+  pub drafted_accepted :
       (n : ℕ) (ps : List Spot) → Rising t n ps → (fs : List (List ℕ)) (line : List ℕ) → length line ≡ 1002 → (drafted day kind t ps fs line).answer ≡ Accepted
       → Written day kind t ps fs (drafted day kind t ps fs line).line
-  drafted-accepted n [] h fs line l e = record { holds = λ k g. absurd (omega arith); right = places_none (drafted day kind t [] fs line).line }
-  drafted-accepted n (p ∷ ps) h fs line l e =
+  drafted_accepted n [] h fs line l e = record { holds = λ k g. absurd (omega arith); right = places_none (drafted day kind t [] fs line).line }
+  drafted_accepted n (p ∷ ps) h fs line l e =
       let f = get_or fs 0 [] in
       let d = placed day kind t p f line in
       let x = drafted day kind t ps (drop 1 fs) d.line in
       let m = p.start + p.size in
-      let w = went_on d.answer d x refl (rw (drafted-first day kind t p ps fs line) at e) in
-      let q : drafted day kind t (p ∷ ps) fs line ≡ x = drafted-first day kind t p ps fs line ∙ w.1 in
+      let w = went_on d.answer d x refl (rw (drafted_first day kind t p ps fs line) at e) in
+      let q : drafted day kind t (p ∷ ps) fs line ≡ x = drafted_first day kind t p ps fs line ∙ w.1 in
       let v = placed_accepted p f line w.0 in
       let r = rising_within t m ps h.1.1 in
       let a = drafted_kept day kind t m ps h.1.1 (drop 1 fs) d.line in
       rw q
       (written_more p ps fs x.line (part_ahead p m x.line d.line (omega arith) a.ahead ∙ ap (part_at p) v.put ∙ place_filled line p.start p.size f v.sized (omega arith))
-      (place-by-ahead day kind t p x.line d.line h.1.0 a.whole a.ahead ∙ v.right)
-      (drafted-accepted m ps h.1.1 (drop 1 fs) d.line (ap length v.put ∙ sets_length line p.start f ∙ l) (rw q at e)))
+      (place_by_ahead day kind t p x.line d.line h.1.0 a.whole a.ahead ∙ v.right)
+      (drafted_accepted m ps h.1.1 (drop 1 fs) d.line (ap length v.put ∙ sets_length line p.start f ∙ l) (rw q at e)))
 
 -- ---------------------------------------------------------------------------
 -- Lines with blanks at some places
@@ -422,7 +422,7 @@ module _ (t : LineType) where
       let m = p.start + p.size in
       let b : List ℕ = replicate p.size 32 in
       let z = h.0 in
-      blanked_apart m ps h.1.1 (sets s p.start b) at f (omega arith) ∙ ap (blanked ps) (sets-apart s p.start b at f (inr (omega arith)))
+      blanked_apart m ps h.1.1 (sets s p.start b) at f (omega arith) ∙ ap (blanked ps) (sets_apart s p.start b at f (inr (omega arith)))
 
   -- a place's own bytes over blanks
   own_back : (n : ℕ) (p : Spot) (ps : List Spot) → Rising t n (p ∷ ps) → (s : List ℕ) → length s ≡ 1002 → sets (blanked (p ∷ ps) s) p.start (part_at p s) ≡ blanked ps s
@@ -459,7 +459,7 @@ module _ (day kind : ℕ) (t : LineType) where
       sym (blanked_apart t m ps h.1.1 x.line p.start b (omega arith)) ∙
       ap (λ (s : List ℕ). sets s p.start b) (drafted_plain m ps h.1.1 (drop 1 fs) d.line) ∙
       blanked_apart t m ps h.1.1 d.line p.start b (omega arith) ∙ o in
-      rw (drafted-first day kind t p ps fs line) (go d x o on d.answer)
+      rw (drafted_first day kind t p ps fs line) (go d x o on d.answer)
     where
       go :
           (d x : Draft) → blanked (p ∷ ps) d.line ≡ blanked (p ∷ ps) line → blanked (p ∷ ps) x.line ≡ blanked (p ∷ ps) line →
@@ -468,22 +468,22 @@ module _ (day kind : ℕ) (t : LineType) where
       go d x e f (Refused r) = e
 
   -- a line's own parts, put at its places over blanks, give it back
-  pub parts-drafted :
+  pub parts_drafted :
       (n : ℕ) (ps : List Spot) → Rising t n ps → (s : List ℕ) → length s ≡ 1002 → places_from day kind t ps s ≡ Accepted
       → drafted day kind t ps (map (λ (p : Spot). part_at p s) ps) (blanked ps s) ≡ record { answer = Accepted; line = s }
-  parts-drafted n [] h s l e = no_places day kind t [] (blanked [] s) ∙ none_blanked
+  parts_drafted n [] h s l e = no_places day kind t [] (blanked [] s) ∙ none_blanked
     where
       none_blanked : ◌≡◌ {A = Draft} (record { answer = Accepted; line = blanked [] s }) (record { answer = Accepted; line = s })
       none_blanked = rw blanked_none
-  parts-drafted n (p ∷ ps) h s l e =
+  parts_drafted n (p ∷ ps) h s l e =
       let m = p.start + p.size in
       let r = rising_within t m ps h.1.1 in
       let w = places_each day kind t p ps s e in
       let f = part_length p s (omega arith) in
       let b = blanked_kept t m ps h.1.1 s in
-      let a = place-by-ahead day kind t p (blanked ps s) s h.1.0 b.whole b.ahead ∙ w.0 in
-      drafted-first day kind t p ps (map (λ (q : Spot). part_at q s) (p ∷ ps)) (blanked (p ∷ ps) s) ∙
-      rw (eq-eqb (length (part_at p s)) p.size f, own_back t n p ps h s l, a) (parts-drafted m ps h.1.1 s l w.1)
+      let a = place_by_ahead day kind t p (blanked ps s) s h.1.0 b.whole b.ahead ∙ w.0 in
+      drafted_first day kind t p ps (map (λ (q : Spot). part_at q s) (p ∷ ps)) (blanked (p ∷ ps) s) ∙
+      rw (eq-eqb (length (part_at p s)) p.size f, own_back t n p ps h s l, a) (parts_drafted m ps h.1.1 s l w.1)
 
 -- ---------------------------------------------------------------------------
 -- Fields from parts

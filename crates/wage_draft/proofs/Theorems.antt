@@ -17,7 +17,7 @@ use Rattle.bare_line.proofs.Theorems.{bare_line_lem}
 use Rattle.lent_fields.specs.Fields.{fields_of}
 use Rattle.lent_fields.proofs.Laws.{fields_joined}
 use Rattle.wage_draft.specs.Draft.{Draft, placed, going_on, drafted, parts_of_line, sizes_of, blanked, PlainElsewhere}
-use Rattle.wage_draft.proofs.Laws.{drafted-first, going-twice, no_places, later_field, empty_fields, places_rising, drafted_kept, drafted-accepted, drafted_plain, parts-drafted, parts_sized}
+use Rattle.wage_draft.proofs.Laws.{drafted_first, going_twice, no_places, later_field, empty_fields, places_rising, drafted_kept, drafted_accepted, drafted_plain, parts_drafted, parts_sized}
 
 -- ---------------------------------------------------------------------------
 -- A line without fields
@@ -35,32 +35,32 @@ bare_plain Closing = refl
 
 module _ (day kind : ℕ) (t : LineType) where
   -- places one behind the other are drafted one behind the other, up to the first refusal
-  pub drafted-append :
+  pub drafted_append :
       (ps qs : List Spot) (fs gs : List (List ℕ)) (line : List ℕ) → length fs ≡ length ps → drafted day kind t (ps ++ qs) (fs ++ gs) line
       ≡ going_on (drafted day kind t ps fs line).answer (drafted day kind t ps fs line) (drafted day kind t qs gs (drafted day kind t ps fs line).line)
   unfolding drafted
-  drafted-append [] qs [] gs line h = refl
-  drafted-append [] qs (f ∷ fs) gs line h = absurd (omega arith)
-  drafted-append (p ∷ ps) qs [] gs line h = absurd (omega arith)
-  drafted-append (p ∷ ps) qs (f ∷ fs) gs line h =
+  drafted_append [] qs [] gs line h = refl
+  drafted_append [] qs (f ∷ fs) gs line h = absurd (omega arith)
+  drafted_append (p ∷ ps) qs [] gs line h = absurd (omega arith)
+  drafted_append (p ∷ ps) qs (f ∷ fs) gs line h =
       let d = placed day kind t p f line in
-      rw (drafted-append ps qs fs gs d.line (omega arith))
-      (going-twice (λ (e : Draft). drafted day kind t qs gs e.line) d (drafted day kind t ps fs d.line) d.answer refl)
+      rw (drafted_append ps qs fs gs d.line (omega arith))
+      (going_twice (λ (e : Draft). drafted day kind t qs gs e.line) d (drafted day kind t ps fs d.line) d.answer refl)
 
   -- as many fields are read as there are places, one that is not there as an empty one
-  pub drafted-by-fields :
+  pub drafted_by_fields :
       (ps : List Spot) (fs gs : List (List ℕ)) (line : List ℕ) → ((k : ℕ) → k < length ps → get_or fs k [] ≡ get_or gs k [])
       → drafted day kind t ps fs line ≡ drafted day kind t ps gs line
-  drafted-by-fields [] fs gs line h = no_places day kind t fs line ∙ sym (no_places day kind t gs line)
-  drafted-by-fields (p ∷ ps) fs gs line h =
+  drafted_by_fields [] fs gs line h = no_places day kind t fs line ∙ sym (no_places day kind t gs line)
+  drafted_by_fields (p ∷ ps) fs gs line h =
       let d = placed day kind t p (get_or gs 0 []) line in
-      drafted-first day kind t p ps fs line ∙
-      rw (h 0 (omega arith), drafted-by-fields ps (drop 1 fs) (drop 1 gs) d.line (λ k g. later_field fs k ∙ h (suc k) (omega arith) ∙ sym (later_field gs k)))
-      (sym (drafted-first day kind t p ps gs line))
+      drafted_first day kind t p ps fs line ∙
+      rw (h 0 (omega arith), drafted_by_fields ps (drop 1 fs) (drop 1 gs) d.line (λ k g. later_field fs k ∙ h (suc k) (omega arith) ∙ sym (later_field gs k)))
+      (sym (drafted_first day kind t p ps gs line))
 
   -- so empty fields behind the others change nothing
   pub missing_is_empty : (ps : List Spot) (fs : List (List ℕ)) (n : ℕ) (line : List ℕ) → drafted day kind t ps fs line ≡ drafted day kind t ps (fs ++ replicate n []) line
-  missing_is_empty ps fs n line = drafted-by-fields ps fs (fs ++ replicate n []) line (λ k h. sym (empty_fields fs n k))
+  missing_is_empty ps fs n line = drafted_by_fields ps fs (fs ++ replicate n []) line (λ k h. sym (empty_fields fs n k))
 
   -- a draft leaves a line as long as it was
   pub drafted_length : (fs : List (List ℕ)) (line : List ℕ) → length (drafted day kind t (spots t) fs line).line ≡ length line
@@ -83,15 +83,15 @@ part_at_lem t s k = get_or-map (λ (p : Spot). part_at p s) (spots t) k no_spot
 
 module _ (day kind : ℕ) (t : LineType) where
   -- an accepted draft is one
-  pub drafted-right :
+  pub drafted_right :
       (fs : List (List ℕ)) → (drafted day kind t (spots t) fs (bare_line t)).answer ≡ Accepted
       → DraftedRight day kind t fs (drafted day kind t (spots t) fs (bare_line t)).line
   unfolding places_answer
-  drafted-right fs e =
+  drafted_right fs e =
       let s = (drafted day kind t (spots t) fs (bare_line t)).line in
       let b = (typed_exactly t (bare_line t)).0 (bare_line_lem t) in
       let k = drafted_kept day kind t 0 (spots t) (places_rising t) fs (bare_line t) in
-      let w = drafted-accepted day kind t 0 (spots t) (places_rising t) fs (bare_line t) b.whole e in
+      let w = drafted_accepted day kind t 0 (spots t) (places_rising t) fs (bare_line t) b.whole e in
       record {
         whole = k.whole ∙ b.whole;
         typed = (typed_exactly t s).1
@@ -106,22 +106,22 @@ module _ (day kind : ℕ) (t : LineType) where
       }
 
   -- "Read and written again, a file is the same where those places held that": of each line
-  pub right-drafted :
+  pub right_drafted :
       (s : List ℕ) → typed_of s ≡ Line t → places_answer day kind t s ≡ Accepted → PlainElsewhere t s
       → drafted day kind t (spots t) (parts_of_line t s) (bare_line t) ≡ record { answer = Accepted; line = s }
   unfolding places_answer
-  right-drafted s e f h = rw (← h) (parts-drafted day kind t 0 (spots t) (places_rising t) s ((typed_exactly t s).0 e).whole f)
+  right_drafted s e f h = rw (← h) (parts_drafted day kind t 0 (spots t) (places_rising t) s ((typed_exactly t s).0 e).whole f)
 
   -- a draft is accepted with a line exactly when the line is as said
-  pub drafted-exactly :
+  pub drafted_exactly :
       (fs : List (List ℕ)) (s : List ℕ)
       → (drafted day kind t (spots t) fs (bare_line t) ≡ record { answer = Accepted; line = s }) ↔ DraftedRight day kind t fs s
-  drafted-exactly fs s = (
+  drafted_exactly fs s = (
     (λ (e : drafted day kind t (spots t) fs (bare_line t) ≡ record { answer = Accepted; line = s }).
-        rw e at (drafted-right fs (ap (λ (d : Draft). d.answer) e))),
+        rw e at (drafted_right fs (ap (λ (d : Draft). d.answer) e))),
     (λ (w : DraftedRight day kind t fs s).
-        drafted-by-fields day kind t (spots t) fs (parts_of_line t s) (bare_line t) (λ k h. sym (w.holds k h) ∙ sym (part_at_lem t s k)) ∙
-        right-drafted s w.typed w.right w.plain),
+        drafted_by_fields day kind t (spots t) fs (parts_of_line t s) (bare_line t) (λ k h. sym (w.holds k h) ∙ sym (part_at_lem t s k)) ∙
+        right_drafted s w.typed w.right w.plain),
   )
 
 -- ---------------------------------------------------------------------------

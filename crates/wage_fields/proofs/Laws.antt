@@ -63,10 +63,10 @@ size_right n a e = go (eqb n 1002) refl e
     go false z h = let z : ◌≡◌ {A = ℕ} 0 1 = cc in absurd (omega arith)
 
 -- the byte that a refusal tells: of a 3 one of the n bytes that were judged, of any other the first of them
-pub told-byte :
+pub told_byte :
     (n v field start : ℕ) (r : Refusal) → Within n v → 0 < n → answer_at field start v ≡ Refused r →
     (refusal_number r ≡ 3 → (start ≤ (refusal_place r).byte) × ((refusal_place r).byte < start + n)) × ((refusal_number r ≡ 3 → ⊥) → (refusal_place r).byte ≡ start)
-told-byte n v field start r w some e = go (leb 32 v) refl
+told_byte n v field start r w some e = go (leb 32 v) refl
   where
     byte : (refusal_place r).byte ≡ start + verdict_byte v
     byte = ap (λ (x : Place). x.byte) (told_place_lem v field (start + verdict_byte v) r e).0

@@ -23,7 +23,7 @@ use Rattle.wage_line.specs.Line.{typed_of}
 use Rattle.wage_line.proofs.Theorems.{typed_exactly}
 use Rattle.wage_contents.specs.Contents.{one_of, two_of}
 use Rattle.wage_contents.proofs.Accepted.{bytes_accepted, among_accepted, oib_accepted, employer_accepted, currency_accepted, zeros_accepted, today_accepted, later_accepted, iban_place_accepted, iban_whole_accepted}
-use Rattle.order_contents.proofs.Accepted.{purpose_accepted, sign_accepted, model_accepted, reference-accepted, description_accepted, code-modelled-accepted}
+use Rattle.order_contents.proofs.Accepted.{purpose_accepted, sign_accepted, model_accepted, reference_accepted, description_accepted, code_modelled_accepted}
 use Rattle.wage_fields.specs.Rules.{rule_verdict, places_from, places_answer, RightLine}
 use Rattle.wage_fields.proofs.Laws.{accept_both}
 use Rattle.wage_fields.proofs.Theorems.{place_right, closing_has_none}
@@ -97,7 +97,7 @@ pub record OrderPlaces (kind : ℕ) (s : List ℕ) : Type 0 where
   -- "and 548 blank or 0, all else 5"
   pub field_21 : one_of 32 48 48 (get_or (part_of Order 21 s) 0 0) ≡ true
   -- "549–551 a code of 004's list (55 codes)"; "For kind 5, code 500 with a blank recipient's model is 5 at field 22"
-  pub field-22 :
+  pub field_22 :
       let f = part_of Order 22 s in
       (all_of Digits f && (is_code (number_in f) && not (eqb kind 5 && (eqb (number_in f) 500 && all_of Blanks (part_of Order 11 s))))) ≡ true
   -- "552–562 OIB or zeros, for kind 5 zeros are 5"
@@ -122,12 +122,12 @@ module _ (day kind : ℕ) (t : LineType) (s : List ℕ) where
       ((λ r e. let h = first_both _ _ e in rest.0 (r (one.0 h.0).1) h.1), (λ f q. rest.1 (λ e. f (accept_both _ _ (one.1 (whole, q)) e))))
 
   -- so a line is right exactly when it has its type and P holds, where P holds by its places' rules and they by P
-  said-exactly :
+  said_exactly :
       let Places = places_answer day kind t s ≡ Accepted in
       (P : Type 0) → (length s ≡ 1002 → Asked P (spots t)) → (length s ≡ 1002 → P → Asked Places (spots t) → Places) →
       RightLine day kind t s ↔ ((typed_of s ≡ Line t) × P)
   unfolding places_answer
-  said-exactly P told made = (
+  said_exactly P told made = (
     (λ w. let whole = ((typed_exactly t s).0 w.typed).whole in (w.typed, (asked_exactly whole P (spots t)).0 (told whole) w.fields)),
     (λ w.
         let whole = ((typed_exactly t s).0 w.0).whole in
@@ -139,7 +139,7 @@ module _ (day kind : ℕ) (s : List ℕ) where
   pub label_exactly : RightLine day kind Label s ↔ ((typed_of s ≡ Line Label) × LabelPlaces day s)
   unfolding spots spot_in
   label_exactly =
-      said-exactly day kind Label s (LabelPlaces day s)
+      said_exactly day kind Label s (LabelPlaces day s)
       (λ whole q1 q2 q3 q4 q5 q6 q7 q8. record {
         field_1 = (today_accepted day _).0 q1;
         field_2 = (among_accepted 4 5 5 _).0 q2;
@@ -161,7 +161,7 @@ module _ (day kind : ℕ) (s : List ℕ) where
   pub group_exactly : RightLine day kind Group s ↔ ((typed_of s ≡ Line Group) × GroupPlaces day s)
   unfolding spots spot_in
   group_exactly =
-      said-exactly day kind Group s (GroupPlaces day s)
+      said_exactly day kind Group s (GroupPlaces day s)
       (λ whole q1 q2 q3 q4 q5 q6 q7. record {
         field_1 = (iban_whole_accepted false _ (field_size Group s whole 1)).0 q1;
         field_2 = (currency_accepted false _).0 q2;
@@ -179,29 +179,29 @@ module _ (day kind : ℕ) (s : List ℕ) where
   pub order_exactly : RightLine day kind Order s ↔ ((typed_of s ≡ Line Order) × OrderPlaces kind s)
   unfolding spots spot_in
   order_exactly =
-      said-exactly day kind Order s (OrderPlaces kind s)
+      said_exactly day kind Order s (OrderPlaces kind s)
       (λ whole q1 _ q5 q6 q7 q8 q9 q10 q11 q12 q18 q19 q20 q21 q22 q23. record {
         field_1 = (iban_place_accepted false _).0 q1;
         field_5 = (among_accepted 0 191 191 _).0 q5;
         field_6 = (model_accepted _).0 q6;
-        field_7 = (reference-accepted _ _).0 q7;
+        field_7 = (reference_accepted _ _).0 q7;
         field_8 = (purpose_accepted _).0 q8;
         field_9 = (description_accepted _).0 q9;
         field_10 = (bytes_accepted Digits _).0 q10;
         field_11 = (model_accepted _).0 q11;
-        field_12 = (reference-accepted _ _).0 q12;
+        field_12 = (reference_accepted _ _).0 q12;
         field_18 = (among_accepted 0 1 2 _).0 q18;
         field_19 = (currency_accepted true _).0 q19;
         field_20 = (sign_accepted 32 48 51 _).0 q20;
         field_21 = (sign_accepted 32 48 48 _).0 q21;
-        field-22 = (code-modelled-accepted kind _ _).0 q22;
+        field_22 = (code_modelled_accepted kind _ _).0 q22;
         field_23 = (oib_accepted (not (eqb kind 5)) _).0 q23;
       })
       (λ whole w all. all ((iban_place_accepted false _).1 w.field_1) refl ((among_accepted 0 191 191 _).1 w.field_5)
-      ((model_accepted _).1 w.field_6) ((reference-accepted _ _).1 w.field_7) ((purpose_accepted _).1 w.field_8)
+      ((model_accepted _).1 w.field_6) ((reference_accepted _ _).1 w.field_7) ((purpose_accepted _).1 w.field_8)
       ((description_accepted _).1 w.field_9) ((bytes_accepted Digits _).1 w.field_10) ((model_accepted _).1 w.field_11)
-      ((reference-accepted _ _).1 w.field_12) ((among_accepted 0 1 2 _).1 w.field_18) ((currency_accepted true _).1 w.field_19)
-      ((sign_accepted 32 48 51 _).1 w.field_20) ((sign_accepted 32 48 48 _).1 w.field_21) ((code-modelled-accepted kind _ _).1 w.field-22)
+      ((reference_accepted _ _).1 w.field_12) ((among_accepted 0 1 2 _).1 w.field_18) ((currency_accepted true _).1 w.field_19)
+      ((sign_accepted 32 48 51 _).1 w.field_20) ((sign_accepted 32 48 48 _).1 w.field_21) ((code_modelled_accepted kind _ _).1 w.field_22)
       ((oib_accepted (not (eqb kind 5)) _).1 w.field_23))
 
   -- a 399 has no places

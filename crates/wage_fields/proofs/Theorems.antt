@@ -18,7 +18,7 @@ use Rattle.wage_places.proofs.Laws.{each, each_at}
 use Rattle.wage_places.proofs.Theorems.{place_at, found_spot, place_size}
 use Rattle.wage_contents.specs.Contents.{among_verdict}
 use Rattle.wage_fields.specs.Rules.{rule_verdict, place_verdict, place_answer, places_from, places_answer}
-use Rattle.wage_fields.proofs.Laws.{size_right, accept_both, rule_within, told-byte, Stops, stops}
+use Rattle.wage_fields.proofs.Laws.{size_right, accept_both, rule_within, told_byte, Stops, stops}
 
 -- ---------------------------------------------------------------------------
 -- Accepted exactly when
@@ -88,21 +88,21 @@ module _ (day kind : ℕ) (s : List ℕ) where
 
 module _ (day k k' : ℕ) (s : List ℕ) where
   -- where the rules are the same under two kinds, so are the answers
-  same-rules :
+  same_rules :
       (t : LineType) → ((n : ℕ) (f : List ℕ) → rule_verdict day k t n f s ≡ rule_verdict day k' t n f s) → (ps : List Spot) → places_from day k t ps s ≡ places_from day k' t ps s
   unfolding places_from place_answer place_verdict
-  same-rules t f [] = refl
-  same-rules t f (p ∷ ps) = rw (f p.field (part_at p s), same-rules t f ps)
+  same_rules t f [] = refl
+  same_rules t f (p ∷ ps) = rw (f p.field (part_at p s), same_rules t f ps)
 
   -- a 300 is judged alike under any kind
   pub label_ignores_kind : places_answer day k Label s ≡ places_answer day k' Label s
   unfolding places_answer
-  label_ignores_kind = same-rules Label (λ n f. refl) (spots Label)
+  label_ignores_kind = same_rules Label (λ n f. refl) (spots Label)
 
   -- so is a 301
   pub group_ignores_kind : places_answer day k Group s ≡ places_answer day k' Group s
   unfolding places_answer
-  group_ignores_kind = same-rules Group (λ n f. refl) (spots Group)
+  group_ignores_kind = same_rules Group (λ n f. refl) (spots Group)
 
 -- ---------------------------------------------------------------------------
 -- What a refusal tells
@@ -144,7 +144,7 @@ module _ (day kind : ℕ) (t : LineType) (s : List ℕ) (r : Refusal) where
       let g = both_true _ _ (each_at (λ x. ltb 0 x.field && ltb 0 x.size) (spots t) (all_numbered t) k w.known) in
       let n : 0 < p.field = ltb-true 0 p.field g.0 in
       let size = place_size t s whole k w.known in
-      let b = told-byte (length (part_at p s)) v p.field p.start r (rule_within day kind t p.field (part_at p s) s) (rw size (ltb-true 0 p.size g.1)) (rw whole at w.here) in
+      let b = told_byte (length (part_at p s)) v p.field p.start r (rule_within day kind t p.field (part_at p s) s) (rw size (ltb-true 0 p.size g.1)) (rw whole at w.here) in
       record {
         no_line = ap (λ (x : Place). x.line) q;
         order = k;

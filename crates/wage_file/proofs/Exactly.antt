@@ -24,7 +24,7 @@ use Rattle.standing.proofs.Laws.{Read}
 use Rattle.judge.specs.Judge.{stepped, steps}
 use Rattle.judge.proofs.Laws.{goes}
 use Rattle.wage_file.specs.Right.{Payments, File, group_lines, lines_of, orders_in, amounts_in, counts_in, kind_of, RightGroup, RightFile}
-use Rattle.wage_file.proofs.RunLaws.{Ends, chosen, came, told, same_counts, no_group, in_group, Rest, right_group, rest-run, run-rest}
+use Rattle.wage_file.proofs.RunLaws.{Ends, chosen, came, told, same_counts, no_group, in_group, Rest, right_group, rest_run, run_rest}
 
 -- ---------------------------------------------------------------------------
 -- The first two lines
@@ -97,11 +97,11 @@ pub record RightLines (day : ℕ) (ls : List (List ℕ)) (n : Counts) : Type 0 w
 
 module _ (day : ℕ) where
   -- a right label, a right 301 and what must follow are a right file
-  file-made :
+  file_made :
       (label head : List ℕ) (ss : List (List ℕ)) (n : Counts) → is_date day ≡ true → RightLine day 0 Label label → RightLine day (kind_of label) Group head →
       Rest day (kind_of label) head two 0 0 ss n → RightLines day (label ∷ (head ∷ ss)) n
   unfolding group_lines orders_in amounts_in
-  file-made label head ss n a b c r =
+  file_made label head ss n a b c r =
       let g : Payments = record { head = head; orders = r.payments } in
       let f : File = record { label = label; groups = g ∷ r.following; closing = r.closing } in
       let e : lines_of f ≡ label ∷ (head ∷ ss) =
@@ -135,7 +135,7 @@ module _ (day : ℕ) where
       let a = begun_told day n (s ∷ (t ∷ ss)) e in
       let b = label_told day n s (t ∷ ss) a.1 in
       let c = head_told day n s t ss b.1 in
-      file-made s t ss n a.0 b.0 c.0 (run-rest day (kind_of s) n ss t two 0 0 c.1)
+      file_made s t ss n a.0 b.0 c.0 (run_rest day (kind_of s) n ss t two 0 0 c.1)
 
   -- the lines of a right file end accepted, with its counts
   right_run : (label : List ℕ) (gs : List Payments) (closing : List ℕ) → let f : File = record { label = label; groups = gs; closing = closing } in RightFile day f → Ends (counts_in f) (lines_of f) (begun day)
@@ -167,7 +167,7 @@ module _ (day : ℕ) where
       ap (λ (j : Judge). ended (steps j (lines_of f))) (begun_made day w.dated) ∙
       (ap (λ (j : Judge). ended (steps j (g.head ∷ ss))) (label_made day label w.label) ∙
       (ap (λ (j : Judge). ended (steps j ss)) (head_made day label g.head x.head) ∙
-      rest-run day (kind_of label) g.head two 0 0 ss (counts_in f) (record { groups = omega arith; orders = omega arith; cents = omega arith }) r))
+      rest_run day (kind_of label) g.head two 0 0 ss (counts_in f) (record { groups = omega arith; orders = omega arith; cents = omega arith }) r))
 
   -- what is right is accepted
   right_accepted : (ls : List (List ℕ)) (n : Counts) → RightLines day ls n → ended (steps (begun day) ls) ≡ ending.Accepted n
@@ -210,30 +210,30 @@ file_of (s ∷ ss) = record { label = s; groups = (parts_of ss).groups; closing 
 
 module _ (day kind : ℕ) (closing : List ℕ) where
   -- right orders are told apart from what follows them
-  orders-parts :
+  orders_parts :
       (gs : List Payments) (ss os : List (List ℕ)) → Each (RightLine day kind Order) [] os → parts_of ss ≡ record { orders = []; groups = gs; closing = closing } →
       parts_of (os ++ ss) ≡ record { orders = os; groups = gs; closing = closing }
   unfolding parts_of
-  orders-parts gs ss [] f e = e
-  orders-parts gs ss (s ∷ os) f e =
+  orders_parts gs ss [] f e = e
+  orders_parts gs ss (s ∷ os) f e =
       let w : RightLine day kind Order s = f 0 (omega arith) in
-      rw (w.typed, orders-parts gs ss os (λ k h. f (suc k) (omega arith)) e)
+      rw (w.typed, orders_parts gs ss os (λ k h. f (suc k) (omega arith)) e)
 
   -- and right groups from one another
-  groups-parts :
+  groups_parts :
       typed_of closing ≡ typed.Line Closing → (gs : List Payments) → Each (RightGroup day kind) no_group gs →
       parts_of (group_lines gs ++ (closing ∷ [])) ≡ record { orders = []; groups = gs; closing = closing }
   unfolding parts_of group_lines
-  groups-parts w [] f = rw w
-  groups-parts w (g ∷ gs) f =
+  groups_parts w [] f = rw w
+  groups_parts w (g ∷ gs) f =
       let x : RightGroup day kind g = f 0 (omega arith) in
       let more = group_lines gs ++ (closing ∷ []) in
-      rw (x.head.typed, append_assoc g.orders (group_lines gs) (closing ∷ []), orders-parts gs more g.orders x.each (groups-parts w gs (λ k h. f (suc k) (omega arith))))
+      rw (x.head.typed, append_assoc g.orders (group_lines gs) (closing ∷ []), orders_parts gs more g.orders x.each (groups_parts w gs (λ k h. f (suc k) (omega arith))))
 
 -- a right file is the file of its lines
 file_told : (day : ℕ) (f : File) → RightFile day f → file_of (lines_of f) ≡ f
 unfolding file_of
-file_told day f w = rw (groups-parts day (kind_of f.label) f.closing w.closing f.groups w.each)
+file_told day f w = rw (groups_parts day (kind_of f.label) f.closing w.closing f.groups w.each)
 
 -- two right files of the same lines are the same
 pub one_file : (day : ℕ) (f g : File) → lines_of f ≡ lines_of g → RightFile day f → RightFile day g → f ≡ g

@@ -175,10 +175,10 @@ module _ (day kind : ℕ) where
     pub total_told : n.tally.total ≡ sum_of 1000 (m.tally.cents + (amounts payments + amounts_in following))
 
   -- within the limit the record is sound
-  group-sound :
+  group_sound :
       (head : List ℕ) (m : Read) (counted total : ℕ) → m.lines ≤ 1000000 → Fair m → counted ≤ declared_in head → total ≤ promised_in head →
       is_sound (in_group head m counted total) ≡ true
-  group-sound head m counted total a b c d =
+  group_sound head m counted total a b c d =
       let small = declared_small head in
       let less = promised_small head in
       sound (in_group head m counted total) a (fair_within m b a) (omega arith) (omega arith) (sum_fits 100 (promised_in head) less) (sum_fits 100 total (omega arith))
@@ -235,27 +235,27 @@ module _ (day kind : ℕ) where
       -- a right order is taken
       order_made : (s : List ℕ) → RightLine day kind Order s → counted < declared_in head → total ≤ promised_in head → stepped here s ≡ with_order s
       unfolding stand_verdict
-      order_made s w d e = goes here s Order refl (group-sound head m counted total (omega arith) b (omega arith) e) a w (rw (lt-ltb counted (declared_in head) d)) ∙ ordered_as s
+      order_made s w d e = goes here s Order refl (group_sound head m counted total (omega arith) b (omega arith) e) a w (rw (lt-ltb counted (declared_in head) d)) ∙ ordered_as s
 
       -- a right 301 is taken after a whole group
       group_made : (s : List ℕ) → RightLine day kind Group s → Whole → stepped here s ≡ with_group s
       unfolding stand_verdict sum_of
-      group_made s w d = goes here s Group refl (group-sound head m counted total (omega arith) b (omega arith) (omega arith)) a w (whole_made d)
+      group_made s w d = goes here s Group refl (group_sound head m counted total (omega arith) b (omega arith) (omega arith)) a w (whole_made d)
 
       -- and a 399, after which the file ends accepted
       closing_made : (s : List ℕ) → typed_of s ≡ typed.Line Closing → Whole → Ends (counts_of (onward (growth_of Closing s) m)) (s ∷ []) here
       unfolding steps stand_verdict is_sound
       closing_made s w d =
-          ap ended (goes here s Closing refl (group-sound head m counted total (omega arith) b (omega arith) (omega arith)) a ((closing_exactly day kind s).1 w) (whole_made d)) ∙
+          ap ended (goes here s Closing refl (group_sound head m counted total (omega arith) b (omega arith) (omega arith)) a ((closing_exactly day kind s).1 w) (whole_made d)) ∙
           closed_accepts (after here s Closing)
-          (group-sound head (onward (growth_of Closing s) m) counted total (omega arith) (fair_on m Closing s b) (omega arith) (omega arith)) refl
+          (group_sound head (onward (growth_of Closing s) m) counted total (omega arith) (fair_on m Closing s b) (omega arith) (omega arith)) refl
 
     module _ (s : List ℕ) (ss : List (List ℕ)) (n : Counts) where
       -- an order that was taken, and what follows it
-      rest-order :
+      rest_order :
           RightLine day kind Order s → Rest head (onward (growth_of Order s) m) (counted + 1) (total + amount_in s) ss n → Rest head m counted total (s ∷ ss) n
       unfolding amounts
-      rest-order w r = record {
+      rest_order w r = record {
         payments = s ∷ r.payments;
         following = r.following;
         closing = r.closing;
@@ -334,36 +334,36 @@ module _ (day kind : ℕ) where
   orders_fair m os f = record { groups = omega (arith, f.groups); orders = omega (arith, f.orders); cents = omega (arith, f.cents, amounts_at_most os) }
 
   -- right orders one after another make the group whole
-  orders-run :
+  orders_run :
       (head : List ℕ) (ss os : List (List ℕ)) (m : Read) (counted total : ℕ) → Each (RightLine day kind Order) [] os →
       counted + length os ≡ declared_in head → total + amounts os ≡ promised_in head → m.lines + length os ≤ 1000000 → Fair m →
       steps (in_group head m counted total) (os ++ ss) ≡
       steps (in_group head (read_on m os) (declared_in head) (promised_in head)) ss
   unfolding steps amounts
-  orders-run head ss [] m counted total f a b c d =
+  orders_run head ss [] m counted total f a b c d =
       let p : counted ≡ declared_in head = omega arith in
       let q : total ≡ promised_in head = omega arith in
       rw (p, q, add-zero m.lines, add-zero m.tally.orders, add-zero m.tally.cents)
-  orders-run head ss (s ∷ os) m counted total f a b c d =
+  orders_run head ss (s ∷ os) m counted total f a b c d =
       let p : m.lines + 1 + length os ≡ m.lines + length (s ∷ os) = omega arith in
       let q : m.tally.orders + 1 + length os ≡ m.tally.orders + length (s ∷ os) = omega arith in
       let o : m.tally.cents + amount_in s + amounts os ≡ m.tally.cents + (amount_in s + amounts os) = omega arith in
       ap (λ (j : Judge). steps j (os ++ ss)) (order_made head m counted total (omega arith) d s (f 0 (omega arith)) (omega arith) (omega arith)) ∙
-      rw (p, q, o) at (orders-run head ss os (onward (growth_of Order s) m) (counted + 1) (total + amount_in s) (λ k h. f (suc k) (omega arith))
+      rw (p, q, o) at (orders_run head ss os (onward (growth_of Order s) m) (counted + 1) (total + amount_in s) (λ k h. f (suc k) (omega arith))
       (omega arith) (omega arith) (omega arith) (fair_on m Order s d))
 
   -- a whole group, right groups behind it, and the 399 end accepted
-  groups-run :
+  groups_run :
       (closing : List ℕ) (n : Counts) → typed_of closing ≡ typed.Line Closing → n.lines ≤ 1000000 → (gs : List Payments) (head : List ℕ) (m : Read) →
       Each (RightGroup day kind) no_group gs → 0 < declared_in head → Fair m →
       n.lines ≡ m.lines + length (group_lines gs ++ (closing ∷ [])) → n.tally.groups ≡ m.tally.groups + length gs → n.tally.orders ≡ m.tally.orders + orders_in gs →
       n.tally.total ≡ sum_of 1000 (m.tally.cents + amounts_in gs) →
       Ends n (group_lines gs ++ (closing ∷ [])) (in_group head m (declared_in head) (promised_in head))
   unfolding group_lines orders_in amounts_in steps
-  groups-run closing n w limit [] head m f some a b c d e =
+  groups_run closing n w limit [] head m f some a b c d e =
       closing_made head m (declared_in head) (promised_in head) (omega arith) a closing w (record { some = some; number = refl; sum = refl }) ∙
       ap ending.Accepted (same_counts (counts_of (onward (growth_of Closing closing) m)) n (omega arith) (omega arith) (omega arith) (sym (e ∙ ap (sum_of 1000) (add-zero m.tally.cents))))
-  groups-run closing n w limit (g ∷ gs) head m f some a b c d e =
+  groups_run closing n w limit (g ∷ gs) head m f some a b c d e =
       let r : RightGroup day kind g = f 0 (omega arith) in
       let os = g.orders in
       let more = group_lines gs ++ (closing ∷ []) in
@@ -374,34 +374,34 @@ module _ (day kind : ℕ) where
       ap (λ (j : Judge). ended (steps j ((os ++ group_lines gs) ++ (closing ∷ []))))
       (group_made head m (declared_in head) (promised_in head) (omega arith) a g.head r.head (record { some = some; number = refl; sum = refl })) ∙
       (ap (λ (ls : List (List ℕ)). ended (steps (in_group g.head k 0 0) ls)) p ∙
-      (ap ended (orders-run g.head more os k 0 0 r.each (omega arith) (omega arith) (omega arith) (fair_on m Group g.head a)) ∙
-      groups-run closing n w limit gs g.head (read_on k os) (λ i h. f (suc i) (omega arith))
+      (ap ended (orders_run g.head more os k 0 0 r.each (omega arith) (omega arith) (omega arith) (fair_on m Group g.head a)) ∙
+      groups_run closing n w limit gs g.head (read_on k os) (λ i h. f (suc i) (omega arith))
       (omega arith) (orders_fair k os (fair_on m Group g.head a)) (omega arith) (omega arith) (omega arith) (e ∙ ap (sum_of 1000) (sym o))))
 
   -- what must follow does end accepted
-  pub rest-run :
+  pub rest_run :
       (head : List ℕ) (m : Read) (counted total : ℕ) (ss : List (List ℕ)) (n : Counts) → Fair m → Rest head m counted total ss n →
       Ends n ss (in_group head m counted total)
-  rest-run head m counted total ss n a r =
+  rest_run head m counted total ss n a r =
       let os = r.payments in
       let more = group_lines r.following ++ (r.closing ∷ []) in
       let size : length ss ≡ length os + length more = ap length (sym r.in_order) ∙ length-append os more in
       ap (λ (ls : List (List ℕ)). ended (steps (in_group head m counted total) ls)) (sym r.in_order) ∙
-      (ap ended (orders-run head more os m counted total r.each r.number r.sum (omega arith) a) ∙
-      groups-run r.closing n r.last (omega arith) r.following head (read_on m os) r.each_group
+      (ap ended (orders_run head more os m counted total r.each r.number r.sum (omega arith) a) ∙
+      groups_run r.closing n r.last (omega arith) r.following head (read_on m os) r.each_group
       (omega arith) (orders_fair m os a) (omega arith) r.groups_told (omega arith) (r.total_told ∙ ap (sum_of 1000) (omega arith)))
 
   -- and nothing else does
-  pub run-rest :
+  pub run_rest :
       (n : Counts) (ss : List (List ℕ)) (head : List ℕ) (m : Read) (counted total : ℕ) → Ends n ss (in_group head m counted total) → Rest head m counted total ss n
   unfolding stand_verdict sum_of
-  run-rest n [] head m counted total e =
+  run_rest n [] head m counted total e =
       let t = (told n (in_group head m counted total) e).last in
       let z : ◌≡◌ {A = ℕ} 0 1 = cc in
       absurd (omega arith)
-  run-rest n (s ∷ ss) head m counted total e =
+  run_rest n (s ∷ ss) head m counted total e =
       let w = came n ss (in_group head m counted total) s e in
-      go w.0.line w.0.typed w.0.stands w.0.fields w.1 (run-rest n ss)
+      go w.0.line w.0.typed w.0.stands w.0.fields w.1 (run_rest n ss)
     where
       go :
           (t : LineType) → typed_of s ≡ typed.Line t → stand_verdict 2 (in_group head m counted total).group t ≡ 0 → places_answer day kind t s ≡ answer.Accepted →
@@ -412,6 +412,6 @@ module _ (day kind : ℕ) where
       go Group w v p e f =
           rest_group head m counted total s ss n (record { typed = w; fields = p }) (whole_told head m counted total v) (f s (onward (growth_of Group s) m) 0 0 e)
       go Order w v p e f =
-          rest-order head m counted total s ss n (record { typed = w; fields = p })
+          rest_order head m counted total s ss n (record { typed = w; fields = p })
           (f head (onward (growth_of Order s) m) (counted + 1) (total + amount_in s) (ap (λ (j : Judge). ended (steps j ss)) (sym (ordered_as head m counted total s)) ∙ e))
       go Closing w v p e f = rest_closing head m counted total s ss n w (whole_told head m counted total v) e

@@ -49,11 +49,11 @@ pub in_parts : (j : Judge) (a b : List ℕ) → length a % 1002 ≡ 0 → steps 
 in_parts j a b e = ap (λ (ss : List (List ℕ)). steps j ss) (pieces_append a b e) ∙ steps_append j (pieces a) (pieces b)
 
 -- a file of whole lines gets the answer of these lines
-pub of-lines :
+pub of_lines :
     (day : ℕ) (ls : List (List ℕ)) → ((k : ℕ) → k < length ls → length (get_or ls k []) ≡ 1002)
     → file_answer day (joined ls) ≡ ended (steps (begun day) ls)
 unfolding file_answer
-of-lines day ls f = ap (λ (ss : List (List ℕ)). ended (steps (begun day) ss)) (pieces_of_lines ls f)
+of_lines day ls f = ap (λ (ss : List (List ℕ)). ended (steps (begun day) ss)) (pieces_of_lines ls f)
 
 -- an empty file is not finished: 14 at line 1
 pub empty_file : (day : ℕ) → is_date day ≡ true → file_answer day [] ≡ Refused (Unfinished (record { line = 1; field = 0; byte = 0 }))

@@ -118,10 +118,10 @@ whole_of (suc n) (b ∷ s) h e =
     (omega (arith, i.0), whole_more (take 1002 (b ∷ s)) (pieces_of n (drop 1002 (b ∷ s))) (length-take-le 1002 (b ∷ s) (omega arith)) i.1)
 
 -- a file whose size is a multiple of 1,002 has whole pieces only, as many as it has 1,002 bytes
-pub whole-pieces :
+pub whole_pieces :
     (s : List ℕ) → length s % 1002 ≡ 0
     → (length (pieces s) ≡ length s / 1002) × ((k : ℕ) → k < length (pieces s) → length (get_or (pieces s) k []) ≡ 1002)
-whole-pieces s e = whole_of (length s) s (omega arith) e
+whole_pieces s e = whole_of (length s) s (omega arith) e
 
 -- ---------------------------------------------------------------------------
 -- What holds of each in a list

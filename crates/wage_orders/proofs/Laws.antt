@@ -12,18 +12,18 @@ use Rattle.wage_orders.specs.Orders.{orders_from}
 
 module _ (day kind n : ℕ) (s : List ℕ) (at : ℕ) where
   -- an accepted line: the answer is that of the lines from the next place on
-  pub orders-on :
+  pub orders_on :
       at < length s → lent_order_answer day kind n (take 1002 (drop at s)) ≡ Accepted →
       orders_from day kind n (pieces (drop at s)) ≡ orders_from day kind (n + 1) (pieces (drop (next_piece (length s) at) s))
   unfolding orders_from
-  orders-on h e = rw (pieces_more s at h, e)
+  orders_on h e = rw (pieces_more s at h, e)
 
   -- a refused one: its refusal
-  pub orders-stop :
+  pub orders_stop :
       (r : Refusal) → at < length s → lent_order_answer day kind n (take 1002 (drop at s)) ≡ Refused r →
       orders_from day kind n (pieces (drop at s)) ≡ Refused r
   unfolding orders_from
-  orders-stop r h e = rw (pieces_more s at h, e)
+  orders_stop r h e = rw (pieces_more s at h, e)
 
   -- at the end all were accepted
   pub orders_end : length s ≤ at → orders_from day kind n (pieces (drop at s)) ≡ Accepted

@@ -63,11 +63,11 @@ module _ (day kind : ℕ) where
 
   module _ (s : List ℕ) where
     -- what is accepted
-    group-told :
+    group_told :
         group_orders day kind s ≡ answer.Accepted →
         (length s % 1002 ≡ 0) × (0 < length s) × (length s / 1002 ≤ 99999) × EachRight (pieces s)
     unfolding group_orders
-    group-told e = go (eqb (length s % 1002) 0) (eqb (length s) 0) (leb (length s / 1002) 99999) refl refl refl e
+    group_told e = go (eqb (length s % 1002) 0) (eqb (length s) 0) (leb (length s / 1002) 99999) refl refl refl e
       where
         go :
             (a b c : Bool) → eqb (length s % 1002) 0 ≡ a → eqb (length s) 0 ≡ b → leb (length s / 1002) 99999 ≡ c →
@@ -93,11 +93,11 @@ module _ (day kind : ℕ) where
         rw (eq-eqb (length s % 1002) 0 p, ne_eqb (length s) 0 n, le-leb (length s / 1002) 99999 r) (orders_made 1 (pieces s) w.3)
 
     -- lent orders are accepted exactly when they are whole lines, at least one and at most 99,999, and each is a right order
-    pub orders-right :
+    pub orders_right :
         (group_orders day kind s ≡ answer.Accepted)
         ↔ ((length s % 1002 ≡ 0) × (0 < length s) × (length s / 1002 ≤ 99999) × ((k : ℕ) → k < length (pieces s) → RightLine day kind Order (get_or (pieces s) k [])))
-    orders-right = (group-told, group_made)
+    orders_right = (group_told, group_made)
 
 -- so the sum of accepted orders has at most twenty digits
 pub accepted_small : (day kind : ℕ) (s : List ℕ) → group_orders day kind s ≡ answer.Accepted → amounts (pieces s) < 100000000000000000000
-accepted_small day kind s e = let h = (orders-right day kind s).0 e in amounts_small s h.2 h.0
+accepted_small day kind s e = let h = (orders_right day kind s).0 e in amounts_small s h.2 h.0

@@ -50,8 +50,8 @@ parts_judged j (p ∷ ps) rest w =
     parts_judged (steps j (pieces p)) ps rest w.1 ∙ sym (in_parts j p (joined ps ++ rest) w.0) ∙ rw (append_assoc p (joined ps) rest)
 
 -- so the program, which reads nine bytes and then such parts, prints the line of its whole input
-pub printed-in-parts :
+pub printed_in_parts :
     (s : List ℕ) (ps : List (List ℕ)) (rest : List ℕ) → WholeLines ps → drop 9 s ≡ joined ps ++ rest
     → ending_printed (ended (steps (steps_over (begun (day_told (take 9 s))) ps) (pieces rest))) ≡ file_printed s
 unfolding file_answer
-printed-in-parts s ps rest w e = rw (e, parts_judged (begun (day_told (take 9 s))) ps rest w)
+printed_in_parts s ps rest w e = rw (e, parts_judged (begun (day_told (take 9 s))) ps rest w)

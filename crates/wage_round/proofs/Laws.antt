@@ -32,7 +32,7 @@ use Rattle.wage_draft.specs.Draft.{parts_of_line, sizes_of}
 use Rattle.lent_fields.specs.Fields.{lent_whole}
 use Rattle.lent_fields.proofs.Laws.{fields_joined, joined_lent_whole}
 use Rattle.wage_draft.proofs.Laws.{places_rising, parts_sized}
-use Rattle.wage_draft.proofs.Theorems.{DraftedRight, drafted-right}
+use Rattle.wage_draft.proofs.Theorems.{DraftedRight, drafted_right}
 use Rattle.wage_orders.specs.Orders.{group_orders}
 use Rattle.wage_writer.specs.Writer.{label_draft, order_draft, label_answer, order_answer}
 use Rattle.group_writer.specs.GroupWriter.{group_fields, group_draft, group_answer}
@@ -65,7 +65,7 @@ module _ (day room : ℕ) where
   label_passed fs e =
       let d = day_passed day (first_of (label_draft day fs).answer (for_room room)) e in
       let f = first_both (label_draft day fs).answer (for_room room) d.1 in
-      (d.0, drafted-right day 0 Label fs f.0)
+      (d.0, drafted_right day 0 Label fs f.0)
 
   -- of a 399: the day
   pub closing_passed : closing_answer day room ≡ Accepted → is_date day ≡ true
@@ -80,20 +80,20 @@ module _ (day room : ℕ) where
         let d = day_passed day (for_kind kind (first_of (order_draft day kind fs).answer (for_room room))) e in
         let k = kind_passed kind (first_of (order_draft day kind fs).answer (for_room room)) d.1 in
         let f = first_both (order_draft day kind fs).answer (for_room room) k.1 in
-        drafted-right day kind Order fs f.0
+        drafted_right day kind Order fs f.0
 
     -- of a 301: accepted orders, and an accepted draft
-    pub group-passed :
+    pub group_passed :
         (orders : List ℕ) → group_answer day kind fs orders room ≡ Accepted
         → (group_orders day kind orders ≡ Accepted) × DraftedRight day kind Group (group_fields fs (length orders / 1002) (amounts (pieces orders))) (group_draft day kind fs orders).line
     unfolding group_answer
-    group-passed orders e =
+    group_passed orders e =
         let a = (group_draft day kind fs orders).answer in
         let d = day_passed day (for_kind kind (first_of (group_orders day kind orders) (first_of a (for_room room)))) e in
         let k = kind_passed kind (first_of (group_orders day kind orders) (first_of a (for_room room))) d.1 in
         let o = first_both (group_orders day kind orders) (first_of a (for_room room)) k.1 in
         let f = first_both a (for_room room) o.1 in
-        (o.0, drafted-right day kind Group (group_fields fs (length orders / 1002) (amounts (pieces orders))) f.0)
+        (o.0, drafted_right day kind Group (group_fields fs (length orders / 1002) (amounts (pieces orders))) f.0)
 
 -- ---------------------------------------------------------------------------
 -- What makes an answer acceptance

@@ -12,7 +12,7 @@ use Rattle.wage_line.specs.declared.Typed.TheVariants.{Line}
 use Rattle.wage_places.specs.Places.{spots, spot_in, part_of}
 use Rattle.wage_line.specs.Line.{typed_of, place_of}
 use Rattle.wage_line.specs.Pieces.{pieces}
-use Rattle.wage_line.proofs.PieceLaws.{Each, AllWhole, whole-pieces, pieces_of_lines, pieces_joined}
+use Rattle.wage_line.proofs.PieceLaws.{Each, AllWhole, whole_pieces, pieces_of_lines, pieces_joined}
 use Rattle.wage_places.proofs.Theorems.{place_at, found_spot}
 use Rattle.wage_line.proofs.Theorems.{place_typed, typed_exactly}
 use Rattle.condition.specs.declared.Counts.{Counts}
@@ -23,20 +23,20 @@ use Rattle.wage_file.specs.Right.{Payments, File, group_lines, lines_of, counts_
 use Rattle.wage_file.specs.File.{file_answer}
 use Rattle.wage_file.proofs.RunLaws.{no_group}
 use Rattle.wage_file.proofs.Exactly.{accepted_exactly}
-use Rattle.wage_file.proofs.Theorems.{of-lines, file_accepted_exactly}
+use Rattle.wage_file.proofs.Theorems.{of_lines, file_accepted_exactly}
 use Rattle.lent_fields.specs.Fields.{lent_whole}
 use Rattle.wage_draft.specs.Draft.{Draft, drafted, parts_of_line, sizes_of, blanked, PlainElsewhere}
 use Rattle.bare_line.specs.Bare.{bare_line}
-use Rattle.wage_draft.proofs.Theorems.{DraftedRight, bare_plain, right-drafted, fields_of_parts}
+use Rattle.wage_draft.proofs.Theorems.{DraftedRight, bare_plain, right_drafted, fields_of_parts}
 use Rattle.bare_line.proofs.Theorems.{bare_line_lem}
 use Rattle.wage_orders.specs.Orders.{group_orders}
-use Rattle.wage_orders.proofs.Theorems.{orders-right}
+use Rattle.wage_orders.proofs.Theorems.{orders_right}
 use Rattle.worked_out.proofs.Theorems.{amounts_small}
 use Rattle.wage_writer.specs.Writer.{label_draft, order_draft, label_answer, order_answer}
 use Rattle.group_writer.specs.GroupWriter.{group_fields, group_draft, group_answer}
 use Rattle.line_room.specs.LineRoom.{closing_answer}
 use Rattle.wage_round.specs.Round.{GivenGroup, Given, no_given, kind_given, written_group, written_file, AllWritten, written_orders, read_fields, five_parts, five_sizes, read_five, read_group, read_file, PlainGroup, PlainFile}
-use Rattle.wage_round.proofs.Laws.{label_passed, closing_passed, order_passed, group-passed, label_passes, closing_passes, order_passes, group_passes, read_number, label_known, five_read, five_sized, all_sized, seven_parts, declared, whole_append, whole_length}
+use Rattle.wage_round.proofs.Laws.{label_passed, closing_passed, order_passed, group_passed, label_passes, closing_passes, order_passes, group_passes, read_number, label_known, five_read, five_sized, all_sized, seven_parts, declared, whole_append, whole_length}
 
 -- ---------------------------------------------------------------------------
 -- A written line reads back as the fields that it was written from
@@ -88,10 +88,10 @@ module _ (day room : ℕ) where
         let line = (group_draft day kind fs orders).line in
         let n = length orders / 1002 in
         let cents = amounts (pieces orders) in
-        let p = group-passed day room kind fs orders e in
+        let p = group_passed day room kind fs orders e in
         let w = p.1 in
-        let o = (orders-right day kind orders).0 p.0 in
-        let l : length (pieces orders) ≡ n = (whole-pieces orders o.0).0 in
+        let o = (orders_right day kind orders).0 p.0 in
+        let l : length (pieces orders) ≡ n = (whole_pieces orders o.0).0 in
         let small : n ≤ 99999 = o.2 in
         let long : 0 < length orders = o.1 in
         let whole : length orders % 1002 ≡ 0 = o.0 in
@@ -107,14 +107,14 @@ module _ (day room : ℕ) where
 
     -- it holds, in places not read, what the writer puts there
     pub written_group_plain : PlainElsewhere Group (group_draft day kind fs orders).line
-    written_group_plain = (group-passed day room kind fs orders e).1.plain
+    written_group_plain = (group_passed day room kind fs orders e).1.plain
 
     -- and hands back each field, the number and the sum of the orders among them
-    pub written-group-reads-back :
+    pub written_group_reads_back :
         (k : ℕ) → k < length (spots Group)
         → place_of (group_draft day kind fs orders).line (place_at Group k).field ≡ get_or (group_fields fs (length orders / 1002) (amounts (pieces orders))) k []
-    written-group-reads-back =
-        drafted_reads_back day kind Group (group_fields fs (length orders / 1002) (amounts (pieces orders))) (group_draft day kind fs orders).line (group-passed day room kind fs orders e).1
+    written_group_reads_back =
+        drafted_reads_back day kind Group (group_fields fs (length orders / 1002) (amounts (pieces orders))) (group_draft day kind fs orders).line (group_passed day room kind fs orders e).1
 
 -- the line that the writer of a 399 writes is one
 pub written_closing_right : typed_of (bare_line Closing) ≡ Line Closing
@@ -130,7 +130,7 @@ written_closing_plain = bare_plain Closing
 module _ (day kind : ℕ) (t : LineType) (s : List ℕ) (right : RightLine day kind t s) (plain : PlainElsewhere t s) where
   -- of each type: its own fields are a draft of it
   pub line_again : drafted day kind t (spots t) (read_fields t s) (bare_line t) ≡ record { answer = Accepted; line = s }
-  line_again = rw (fields_of_parts t s ((typed_exactly t s).0 right.typed).whole) (right-drafted day kind t s right.typed right.fields plain)
+  line_again = rw (fields_of_parts t s ((typed_exactly t s).0 right.typed).whole) (right_drafted day kind t s right.typed right.fields plain)
 
 module _ (day room : ℕ) (dated : is_date day ≡ true) (enough : 1002 ≤ room) (s : List ℕ) where
   -- a 300
@@ -140,10 +140,10 @@ module _ (day room : ℕ) (dated : is_date day ≡ true) (enough : 1002 ≤ room
       (label_passes day room dated enough (read_fields Label s) (ap (λ (d : Draft). d.answer) e), ap (λ (d : Draft). d.line) e)
 
   -- a 309 under kind 4 or 5
-  pub order-again :
+  pub order_again :
       (kind : ℕ) → (eqb kind 4 || eqb kind 5) ≡ true → RightLine day kind Order s → PlainElsewhere Order s
       → (order_answer day kind (read_fields Order s) room ≡ Accepted) × ((order_draft day kind (read_fields Order s)).line ≡ s)
-  order-again kind known w p =
+  order_again kind known w p =
       let e = line_again day kind Order s w p in
       (order_passes day room dated enough kind known (read_fields Order s) (ap (λ (d : Draft). d.answer) e), ap (λ (d : Draft). d.line) e)
 
@@ -181,7 +181,7 @@ module _ (day : ℕ) where
   -- the lines of a right file, one behind the other, are accepted, with its counts
   pub right_file_accepted : (f : File) → RightFile day f → file_answer day (joined (lines_of f)) ≡ ending.Accepted (counts_in f)
   right_file_accepted f w =
-      of-lines day (lines_of f) (file_whole f w) ∙
+      of_lines day (lines_of f) (file_whole f w) ∙
       (accepted_exactly day (lines_of f) (counts_in f)).1 (record { file = f; lines = refl; right = w; counts = refl })
 
   module _ (w : Given) (written : AllWritten day w) where
@@ -194,41 +194,41 @@ module _ (day : ℕ) where
           dated = closing_passed day a.closing_room a.closing;
           label = written_label_right day a.label_room w.label a.label;
           some = omega (arith, a.some, length-map w.groups (written_group day kind));
-          each = written-each kind w.groups a.group_room a.each;
+          each = written_each kind w.groups a.group_room a.each;
           closing = written_closing_right;
           limit = a.limit;
         }
       where
-        written-each :
+        written_each :
             (kind : ℕ) (gs : List GivenGroup) (room : ℕ → ℕ)
             → ((k : ℕ) → k < length gs → group_answer day kind (get_or gs k no_given).fields (get_or gs k no_given).orders (room k) ≡ Accepted)
             → Each (RightGroup day kind) no_group (map (written_group day kind) gs)
-        written-each kind [] room f k h = absurd (omega arith)
-        written-each kind (g ∷ gs) room f zero h = written_group_right day (room 0) kind g.fields g.orders (f 0 (omega arith))
-        written-each kind (g ∷ gs) room f (suc k) h = written-each kind gs (λ n. room (suc n)) (λ n i. f (suc n) (omega arith)) k (omega arith)
+        written_each kind [] room f k h = absurd (omega arith)
+        written_each kind (g ∷ gs) room f zero h = written_group_right day (room 0) kind g.fields g.orders (f 0 (omega arith))
+        written_each kind (g ∷ gs) room f (suc k) h = written_each kind gs (λ n. room (suc n)) (λ n i. f (suc n) (omega arith)) k (omega arith)
 
     -- its lines hold, in places not read, what the writer puts there, where the orders lent to its groups do
-    pub written-file-plain :
+    pub written_file_plain :
         ((k j : ℕ) → k < length w.groups → j < length (pieces (get_or w.groups k no_given).orders) → PlainElsewhere Order (get_or (pieces (get_or w.groups k no_given).orders) j []))
         → PlainFile (written_file day w)
-    written-file-plain p =
+    written_file_plain p =
         let a = written in
         record {
           label = written_label_plain day a.label_room w.label a.label;
-          each = plain-each (kind_given day w) w.groups a.group_room a.each p;
+          each = plain_each (kind_given day w) w.groups a.group_room a.each p;
           closing = written_closing_plain;
         }
       where
-        plain-each :
+        plain_each :
             (kind : ℕ) (gs : List GivenGroup) (room : ℕ → ℕ)
             → ((k : ℕ) → k < length gs → group_answer day kind (get_or gs k no_given).fields (get_or gs k no_given).orders (room k) ≡ Accepted)
             → ((k j : ℕ) → k < length gs → j < length (pieces (get_or gs k no_given).orders) → PlainElsewhere Order (get_or (pieces (get_or gs k no_given).orders) j []))
             → Each PlainGroup no_group (map (written_group day kind) gs)
-        plain-each kind [] room f q k h = absurd (omega arith)
-        plain-each kind (g ∷ gs) room f q zero h =
+        plain_each kind [] room f q k h = absurd (omega arith)
+        plain_each kind (g ∷ gs) room f q zero h =
             record { head = written_group_plain day (room 0) kind g.fields g.orders (f 0 (omega arith)); each = λ j i. q 0 j (omega arith) i }
-        plain-each kind (g ∷ gs) room f q (suc k) h =
-            plain-each kind gs (λ n. room (suc n)) (λ n i. f (suc n) (omega arith)) (λ n j i m. q (suc n) j (omega arith) m) k (omega arith)
+        plain_each kind (g ∷ gs) room f q (suc k) h =
+            plain_each kind gs (λ n. room (suc n)) (λ n i. f (suc n) (omega arith)) (λ n j i m. q (suc n) j (omega arith) m) k (omega arith)
 
     -- and the judge accepts it, with its counts
     pub written_file_accepted : file_answer day (joined (lines_of (written_file day w))) ≡ ending.Accepted (counts_in (written_file day w))
@@ -239,29 +239,29 @@ module _ (day : ℕ) where
 
 module _ (day kind : ℕ) where
   -- right orders, one behind the other: one or more, at most 99,999
-  pub right-orders-taken :
+  pub right_orders_taken :
       (ls : List (List ℕ)) → 0 < length ls → length ls ≤ 99999 → ((k : ℕ) → k < length ls → RightLine day kind Order (get_or ls k []))
       → group_orders day kind (joined ls) ≡ Accepted
-  right-orders-taken ls some few f =
+  right_orders_taken ls some few f =
       let whole : AllWhole ls = λ k h. ((typed_exactly Order (get_or ls k [])).0 (f k h).typed).whole in
       let l = whole_length ls whole in
-      (orders-right day kind (joined ls)).1 (omega arith, omega arith, omega arith, rw (pieces_of_lines ls whole) f)
+      (orders_right day kind (joined ls)).1 (omega arith, omega arith, omega arith, rw (pieces_of_lines ls whole) f)
 
   -- such are the 309s that the writer wrote
-  pub written-orders-taken :
+  pub written_orders_taken :
       (fss : List (List (List ℕ))) (room : ℕ → ℕ) → 0 < length fss → length fss ≤ 99999
       → ((k : ℕ) → k < length fss → order_answer day kind (get_or fss k []) (room k) ≡ Accepted)
       → group_orders day kind (joined (written_orders day kind fss)) ≡ Accepted
-  written-orders-taken fss room some few f =
+  written_orders_taken fss room some few f =
       let l = length-map fss (λ (fs : List (List ℕ)). (order_draft day kind fs).line) in
-      right-orders-taken (written_orders day kind fss) (omega arith) (omega arith) (written-each fss room f)
+      right_orders_taken (written_orders day kind fss) (omega arith) (omega arith) (written_each fss room f)
     where
-      written-each :
+      written_each :
           (gss : List (List (List ℕ))) (rooms : ℕ → ℕ) → ((k : ℕ) → k < length gss → order_answer day kind (get_or gss k []) (rooms k) ≡ Accepted)
           → Each (RightLine day kind Order) [] (written_orders day kind gss)
-      written-each [] rooms g k h = absurd (omega arith)
-      written-each (fs ∷ gss) rooms g zero h = written_order_right day (rooms 0) kind fs (g 0 (omega arith))
-      written-each (fs ∷ gss) rooms g (suc k) h = written-each gss (λ n. rooms (suc n)) (λ n i. g (suc n) (omega arith)) k (omega arith)
+      written_each [] rooms g k h = absurd (omega arith)
+      written_each (fs ∷ gss) rooms g zero h = written_order_right day (rooms 0) kind fs (g 0 (omega arith))
+      written_each (fs ∷ gss) rooms g (suc k) h = written_each gss (λ n. rooms (suc n)) (λ n i. g (suc n) (omega arith)) k (omega arith)
 
 -- ---------------------------------------------------------------------------
 -- What is read from a line is lent with sizes that are together the text's: no writer refuses it for them
@@ -287,15 +287,15 @@ module _ (s : List ℕ) (whole : length s ≡ 1002) where
 module _ (day room : ℕ) (dated : is_date day ≡ true) (enough : 1002 ≤ room) where
   module _ (kind : ℕ) (known : (eqb kind 4 || eqb kind 5) ≡ true) where
     -- the 301 of a right group of lent orders, from its five fields
-    pub group-again :
+    pub group_again :
         (s orders : List ℕ) → length orders % 1002 ≡ 0 → RightGroup day kind (record { head = s; orders = pieces orders }) → PlainElsewhere Group s
         → (group_answer day kind (read_five s) orders room ≡ Accepted) × ((group_draft day kind (read_five s) orders).line ≡ s)
-    group-again s orders whole w p =
+    group_again s orders whole w p =
         let n = length orders / 1002 in
         let cents = amounts (pieces orders) in
         let g : Payments = record { head = s; orders = pieces orders } in
         let d = declared day kind g w in
-        let l : length (pieces orders) ≡ n = (whole-pieces orders whole).0 in
+        let l : length (pieces orders) ≡ n = (whole_pieces orders whole).0 in
         let few : length (pieces orders) ≤ 99999 = d.few in
         let some : 0 < length (pieces orders) = w.some in
         let bytes : length s ≡ 1002 = ((typed_exactly Group s).0 w.head.typed).whole in
@@ -303,30 +303,30 @@ module _ (day room : ℕ) (dated : is_date day ≡ true) (enough : 1002 ≤ room
         let e : group_draft day kind (read_five s) orders ≡ record { answer = Accepted; line = s } =
         ap (λ (fs : List (List ℕ)). group_draft day kind fs orders) (five_read s bytes) ∙
         ap (λ (fs : List (List ℕ)). drafted day kind Group (spots Group) fs (bare_line Group)) (seven_parts s bytes n cents number d.sum) ∙
-        right-drafted day kind Group s w.head.typed w.head.fields p in
-        let o : group_orders day kind orders ≡ Accepted = (orders-right day kind orders).1 (whole, omega arith, omega arith, w.each) in
+        right_drafted day kind Group s w.head.typed w.head.fields p in
+        let o : group_orders day kind orders ≡ Accepted = (orders_right day kind orders).1 (whole, omega arith, omega arith, w.each) in
         (group_passes day room dated enough kind known (read_five s) orders o (ap (λ (d : Draft). d.answer) e), ap (λ (d : Draft). d.line) e)
 
     -- right orders, each from its fields
-    orders-again :
+    orders_again :
         (os : List (List ℕ)) → ((k : ℕ) → k < length os → RightLine day kind Order (get_or os k [])) → ((k : ℕ) → k < length os → PlainElsewhere Order (get_or os k []))
         → written_orders day kind (map (read_fields Order) os) ≡ os
-    orders-again [] f p = refl
-    orders-again (s ∷ os) f p =
-        ap (λ (l : List ℕ). l ∷ written_orders day kind (map (read_fields Order) os)) (order-again day room dated enough s kind known (f 0 (omega arith)) (p 0 (omega arith))).1 ∙
-        ap (λ (ls : List (List ℕ)). s ∷ ls) (orders-again os (λ k h. f (suc k) (omega arith)) (λ k h. p (suc k) (omega arith)))
+    orders_again [] f p = refl
+    orders_again (s ∷ os) f p =
+        ap (λ (l : List ℕ). l ∷ written_orders day kind (map (read_fields Order) os)) (order_again day room dated enough s kind known (f 0 (omega arith)) (p 0 (omega arith))).1 ∙
+        ap (λ (ls : List (List ℕ)). s ∷ ls) (orders_again os (λ k h. f (suc k) (omega arith)) (λ k h. p (suc k) (omega arith)))
 
     -- a right group, its 301 and its orders
-    pub payments-again :
+    pub payments_again :
         (g : Payments) → RightGroup day kind g → PlainGroup g
         → (group_answer day kind (read_group day kind g).fields (read_group day kind g).orders room ≡ Accepted) × (written_group day kind (read_group day kind g) ≡ g)
-    payments-again g w p =
+    payments_again g w p =
         let os = g.orders in
-        let e : (read_group day kind g).orders ≡ joined os = ap joined (orders-again os w.each p.each) in
+        let e : (read_group day kind g).orders ≡ joined os = ap joined (orders_again os w.each p.each) in
         let whole : AllWhole os = λ k h. ((typed_exactly Order (get_or os k [])).0 (w.each k h).typed).whole in
         let q : pieces (joined os) ≡ os = pieces_of_lines os whole in
         let v : RightGroup day kind (record { head = g.head; orders = pieces (joined os) }) = rw q w in
-        let a = group-again g.head (joined os) (omega (arith, whole_length os whole)) v p.head in (
+        let a = group_again g.head (joined os) (omega (arith, whole_length os whole)) v p.head in (
           ap (λ (o : List ℕ). group_answer day kind (read_five g.head) o room) e ∙ a.0,
           ap (λ (o : List ℕ). let x : GivenGroup = record { fields = read_five g.head; orders = o } in written_group day kind x) e ∙
               (ap (λ (h : List ℕ). let x : Payments = record { head = h; orders = pieces (joined os) } in x) a.1 ∙
@@ -334,22 +334,22 @@ module _ (day room : ℕ) (dated : is_date day ≡ true) (enough : 1002 ≤ room
         )
 
     -- right groups
-    groups-again :
+    groups_again :
         (gs : List Payments) → Each (RightGroup day kind) no_group gs → Each PlainGroup no_group gs
         → map (written_group day kind) (map (read_group day kind) gs) ≡ gs
-    groups-again [] f p = refl
-    groups-again (g ∷ gs) f p =
-        ap (λ (x : Payments). x ∷ map (written_group day kind) (map (read_group day kind) gs)) (payments-again g (f 0 (omega arith)) (p 0 (omega arith))).1 ∙
-        ap (λ (xs : List Payments). g ∷ xs) (groups-again gs (λ k h. f (suc k) (omega arith)) (λ k h. p (suc k) (omega arith)))
+    groups_again [] f p = refl
+    groups_again (g ∷ gs) f p =
+        ap (λ (x : Payments). x ∷ map (written_group day kind) (map (read_group day kind) gs)) (payments_again g (f 0 (omega arith)) (p 0 (omega arith))).1 ∙
+        ap (λ (xs : List Payments). g ∷ xs) (groups_again gs (λ k h. f (suc k) (omega arith)) (λ k h. p (suc k) (omega arith)))
 
     -- each accepted by its writer
-    groups-accepted :
+    groups_accepted :
         (gs : List Payments) → Each (RightGroup day kind) no_group gs → Each PlainGroup no_group gs
         → (k : ℕ) → k < length (map (read_group day kind) gs)
         → group_answer day kind (get_or (map (read_group day kind) gs) k no_given).fields (get_or (map (read_group day kind) gs) k no_given).orders room ≡ Accepted
-    groups-accepted [] f p k h = absurd (omega arith)
-    groups-accepted (g ∷ gs) f p zero h = (payments-again g (f 0 (omega arith)) (p 0 (omega arith))).0
-    groups-accepted (g ∷ gs) f p (suc k) h = groups-accepted gs (λ i j. f (suc i) (omega arith)) (λ i j. p (suc i) (omega arith)) k (omega arith)
+    groups_accepted [] f p k h = absurd (omega arith)
+    groups_accepted (g ∷ gs) f p zero h = (payments_again g (f 0 (omega arith)) (p 0 (omega arith))).0
+    groups_accepted (g ∷ gs) f p (suc k) h = groups_accepted gs (λ i j. f (suc i) (omega arith)) (λ i j. p (suc i) (omega arith)) k (omega arith)
 
 module _ (day : ℕ) (f : File) (right : RightFile day f) (plain : PlainFile f) where
   -- the 300
@@ -371,7 +371,7 @@ module _ (day : ℕ) (f : File) (right : RightFile day f) (plain : PlainFile f) 
       let gs = map (read_group day kind) f.groups in
       let e : map (written_group day (kind_given day (read_file day f))) gs ≡ f.groups =
       ap (λ (k : ℕ). map (written_group day k) gs) kind_again ∙
-      groups-again day 1002 right.dated (omega arith) kind (label_known day f.label right.label) f.groups right.each plain.each in
+      groups_again day 1002 right.dated (omega arith) kind (label_known day f.label right.label) f.groups right.each plain.each in
       ap (λ (s : List ℕ). let x : File = record { label = s; groups = map (written_group day (kind_given day (read_file day f))) gs; closing = bare_line Closing } in x) first_again.1 ∙
       (ap (λ (xs : List Payments). let x : File = record { label = f.label; groups = xs; closing = bare_line Closing } in x) e ∙
       ap (λ (s : List ℕ). let x : File = record { label = f.label; groups = f.groups; closing = s } in x) last_again.1)
@@ -389,7 +389,7 @@ module _ (day : ℕ) (f : File) (right : RightFile day f) (plain : PlainFile f) 
         some = omega (arith, right.some, length-map f.groups (read_group day kind));
         each = λ k h.
             ap (λ (n : ℕ). group_answer day n (get_or gs k no_given).fields (get_or gs k no_given).orders 1002) kind_again ∙
-            groups-accepted day 1002 right.dated (omega arith) kind (label_known day f.label right.label) f.groups right.each plain.each k h;
+            groups_accepted day 1002 right.dated (omega arith) kind (label_known day f.label right.label) f.groups right.each plain.each k h;
         closing = last_again.0;
         limit = omega (arith, right.limit, ap (λ (x : File). length (lines_of x)) file_again);
       }

@@ -35,10 +35,10 @@ module _ (d : Draft) (r : Answer) (line : List ℕ) (w : DraftsRight d r line) (
   draft_written e s after p = accepted_first d.line out d.answer rest s after (sym w.answers ∙ e) (rw (w.leaves e) at p)
 
 -- all places of a type, on a line without fields
-pub all-places :
+pub all_places :
     (day kind : ℕ) (t : LineType) (fs : List (List ℕ)) (line : List ℕ) (n : ℕ) (r : Answer) (after : List ℕ) → n ≡ length (spots t) → line ≡ bare_line t
     → Drafts (in_scratch line (drafted day kind t (take (n - 0) (drop 0 (spots t))) fs line)) r after
     → DraftsRight (drafted day kind t (spots t) fs (bare_line t)) r after
-all-places day kind t fs line n r after e b w =
+all_places day kind t fs line n r after e b w =
     let f : take (n - 0) (spots t) ≡ spots t = take_all (n - 0) (spots t) (omega arith) in
     drafts_right (bare_line t) (drafted day kind t (spots t) fs (bare_line t)) (bare_length t) r after (rw (f, b) at w)

@@ -12,7 +12,7 @@ use Rattle.wage_places.specs.Places.{spots}
 use Rattle.wage_fields.specs.Rules.{place_verdict, place_answer}
 use Rattle.verdict.proofs.Verdicts.{told_place_lem}
 use Rattle.wage_draft.specs.Draft.{Draft, placed, going_on, drafted, wrong_length}
-use Rattle.wage_draft.proofs.Laws.{drafted-first, no_places}
+use Rattle.wage_draft.proofs.Laws.{drafted_first, no_places}
 use Rattle.line_room.proofs.Laws.{no_room}
 
 -- of one place: no room is needed
@@ -45,7 +45,7 @@ module _ (day kind : ℕ) (t : LineType) where
       absurd (omega arith)
   drafted_told (p ∷ ps) fs line r e =
       let d = placed day kind t p (get_or fs 0 []) line in
-      go d d.answer refl (placed_told p (get_or fs 0 []) line r) (drafted_told ps (drop 1 fs) d.line r) (rw (drafted-first day kind t p ps fs line) at e)
+      go d d.answer refl (placed_told p (get_or fs 0 []) line r) (drafted_told ps (drop 1 fs) d.line r) (rw (drafted_first day kind t p ps fs line) at e)
     where
       go :
           (d : Draft) (a : Answer) → d.answer ≡ a → (d.answer ≡ Refused r → needed_of r ≡ 0)

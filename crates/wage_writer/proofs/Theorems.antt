@@ -27,11 +27,11 @@ module _ (day room : ℕ) (fs : List (List ℕ)) where
 
   module _ (kind : ℕ) where
     -- for a 309
-    pub room-exactly-order :
+    pub room_exactly_order :
         (order_answer day kind fs room ≡ no_room)
         ↔ ((is_date day ≡ true) × ((eqb kind 4 || eqb kind 5) ≡ true) × ((order_draft day kind fs).answer ≡ Accepted) × (room < 1002))
     unfolding order_answer
-    room-exactly-order = (
+    room_exactly_order = (
       (λ (e : order_answer day kind fs room ≡ no_room).
           let d = day_before day _ e in
           let k = kind_before kind _ d.1 in

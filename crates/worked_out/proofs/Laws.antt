@@ -22,12 +22,12 @@ amounts_first n = rw zero-add
 
 module _ (sum : Sum) (s : List ℕ) (at : ℕ) where
   -- the amount there, and those from the next place on
-  pub amounts-on :
+  pub amounts_on :
       at < length s →
       added 100 sum (amounts (pieces (drop at s))) ≡
       added 100 (added 100 sum (number_in (part_of Order 10 (take 1002 (drop at s))))) (amounts (pieces (drop (next_piece (length s) at) s)))
   unfolding amounts
-  amounts-on h =
+  amounts_on h =
       let x = number_in (part_of Order 10 (take 1002 (drop at s))) in
       let rest = amounts (pieces (drop (next_piece (length s) at) s)) in
       let e : cents_of sum + (x + rest) ≡ cents_of sum + x + rest = omega arith in

@@ -5,7 +5,7 @@ use Rattle.sums.proofs.Theorems.{text_small}
 use Rattle.wage_places.specs.declared.LineType.TheVariants.{Order}
 use Rattle.wage_places.specs.Places.{part_of, spots, spot_in}
 use Rattle.wage_line.specs.Pieces.{pieces}
-use Rattle.wage_line.proofs.PieceLaws.{whole-pieces}
+use Rattle.wage_line.proofs.PieceLaws.{whole_pieces}
 use Rattle.worked_out.specs.Amounts.{amounts}
 
 -- ---------------------------------------------------------------------------
@@ -24,4 +24,4 @@ amounts_at_most (s ∷ ss) = omega (arith, amount_small s, amounts_at_most ss)
 
 -- twenty digits write it
 pub amounts_small : (s : List ℕ) → length s / 1002 ≤ 99999 → length s % 1002 ≡ 0 → amounts (pieces s) < 100000000000000000000
-amounts_small s h e = omega (arith, amounts_at_most (pieces s), (whole-pieces s e).0)
+amounts_small s h e = omega (arith, amounts_at_most (pieces s), (whole_pieces s e).0)

@@ -3,13 +3,13 @@ use Rattle.refusal.proofs.Basics.{rules}
 use Rattle.fillings.specs.declared.Listed.{Listed}
 use Rattle.fillings.specs.Answers.{left_by_listing}
 use Rattle.wet.specs.Wet.{reference_fillings}
-use Rattle.boundary.proofs.Laws.{told-and-left}
+use Rattle.boundary.proofs.Laws.{told_and_left}
 use Rattle.desk_wet.specs.Listed.{listed_of}
 use Rattle.desk_wet.proofs.lanecockle_list_reference.Statement.{statement}
 use Rattle.desk_wet.proofs.lanecockle_list_reference.Tie as tie
 
 returns : tie.Need-returns
-returns c = told-and-left listed_of (λ (l : Listed). left_by_listing l (reference_fillings c.before.before.before.before.before.before.before.before.args.model.now c.before.before.before.before.before.before.before.before.args.text.now) c.before.before.before.before.before.before.before.before.args.out.now) _ _ _ _ c.tell-listed.ensures c.before.before.before.list-reference.ensures
+returns c = told_and_left listed_of (λ (l : Listed). left_by_listing l (reference_fillings c.before.before.before.before.before.before.before.before.args.model.now c.before.before.before.before.before.before.before.before.args.text.now) c.before.before.before.before.before.before.before.before.args.out.now) _ _ _ _ c.tell-listed.ensures c.before.before.before.list-reference.ensures
 
 pub lanecockle-list-reference-spec : {M : Type 1} → statement M
 lanecockle-list-reference-spec = tie.close (tie.spec (λ c κs. search rules) (λ c κs. search rules) (λ c. search rules) returns)

@@ -7,7 +7,7 @@ use Rattle.text.specs.Stands.{Stands}
 use Rattle.text.proofs.Stands.{stands_length}
 use Rattle.text.proofs.first_bad.Reads as first-bad-reads
 use Rattle.fillings.specs.Mirror.{accepts}
-use Rattle.fillings.proofs.Laws.{first_mark, no_mark, block_dry, number_small, place_small, Open, digits_below, first_before, one_fewer, digits_none, digits_more, digits_all, digits_fit, digits-place}
+use Rattle.fillings.proofs.Laws.{first_mark, no_mark, block_dry, number_small, place_small, Open, digits_below, first_before, one_fewer, digits_none, digits_more, digits_all, digits_fit, digits_place}
 use Rattle.fillings.proofs.list.Reads as list
 use Rattle.fillings.proofs.list.Kinds as list-kinds
 use Rattle.fillings.proofs.+list.Lts-list as list-lts
@@ -113,7 +113,7 @@ pub +list-spec : {M : Type 1} → statement M
     let l = c.before.before.before.loop in
     let small : l.d < 10 = omega arith in
     let o = opened t k in
-    (omega (arith, z.pre.0, o.some), (z.pre.1.0, (rw (l.invariant.1.0 (48 + l.d)) (one_fewer o l.d small), (digits_fit o number l.d small z.pre.1.1.1.0, digits-place o _ number l.d z.pre.1.1.1.1 l.invariant.1.1)))))  -- list-list-requires
+    (omega (arith, z.pre.0, o.some), (z.pre.1.0, (rw (l.invariant.1.0 (48 + l.d)) (one_fewer o l.d small), (digits_fit o number l.d small z.pre.1.1.1.0, digits_place o _ number l.d z.pre.1.1.1.1 l.invariant.1.1)))))  -- list-list-requires
     (λ c. search rules)  -- list-add-d
     (λ c. search rules)  -- list-loop-less
     (λ c.

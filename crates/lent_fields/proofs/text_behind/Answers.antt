@@ -2,7 +2,7 @@
 use Rattle.refusal.proofs.Basics.{◌≡◌, sym, ◌∙◌, rules, arith, ◌≤◌, ◌-◌, length, take}
 use Rattle.text.proofs.Laws.{to_the_end}
 use Rattle.lent_fields.specs.Fields.{behind}
-use Rattle.lent_fields.proofs.Laws.{Behind, behind_last, behind_past, behind-on, field_ends}
+use Rattle.lent_fields.proofs.Laws.{Behind, behind_last, behind_past, behind_on, field_ends}
 use Rattle.lent_fields.proofs.text_behind.Goals as goal
 
 pub returns-then-fields-i : goal.returns-then-fields-i
@@ -14,7 +14,7 @@ pub loop-i-preserved : goal.loop-i-preserved
 loop-i-preserved c = let a = c.args in
     let l = c.loop-i in
     let e = field_ends a.text.now l.at _ c.end_of-at.result (omega arith) c.end_of-at.ensures in
-    (e.within, l.invariant.1 ∙ behind-on a.sizes.now a.fields l.i a.text.now l.at c.end_of-at.result e (omega arith) (omega arith))
+    (e.within, l.invariant.1 ∙ behind_on a.sizes.now a.fields l.i a.text.now l.at c.end_of-at.result e (omega arith) (omega arith))
 
 pub returns : goal.returns
 returns c = let a = c.args in

@@ -2,7 +2,7 @@
 use Rattle.refusal.proofs.Basics.{◌≡◌, sym, ◌∙◌, rules, arith, ◌≤◌, ◌-◌, length, take}
 use Rattle.text.proofs.Laws.{to_the_end}
 use Rattle.lent_fields.specs.Fields.{behind}
-use Rattle.lent_fields.proofs.Laws.{Behind, behind_last, behind_past, behind-on, field_ends}
+use Rattle.lent_fields.proofs.Laws.{Behind, behind_last, behind_past, behind_on, field_ends}
 use Rattle.lent_fields.proofs.text_behind.Given as goal
 
 abbrev pub invariant-loop-i : goal.invariant-loop-i

@@ -4,7 +4,7 @@ use Rattle.text.specs.Split.{split}
 use Rattle.text.proofs.Laws.{to_the_end}
 use Rattle.parts.specs.Mirror.{digit_read}
 use Rattle.parts.proofs.Pieces.{short_span}
-use Rattle.parts.proofs.Readers.{digits_end, digits_on, digits_break, handed_none, handed_on, part-judged, read_small, unread}
+use Rattle.parts.proofs.Readers.{digits_end, digits_on, digits_break, handed_none, handed_on, part_judged, read_small, unread}
 use Rattle.parts.proofs.+digit_part.Goals as goal
 
 pub digit-loop-n-init : goal.digit-loop-n-init
@@ -41,13 +41,13 @@ pub part-digit-ends-requires : goal.part-digit-ends-requires
 part-digit-ends-requires t c = let a = c.args in (omega arith, (omega arith, rw (to_the_end 2 a.lengths.now) (omega (arith, length-drop 2 a.lengths.now))))
 
 pub part-returns-then-end-at : goal.part-returns-then-end-at
-part-returns-then-end-at t c = left _ _ _ _ (sym (and_first _ _ (le-ltb _ _ c.if-end-at.true))) refl ∙ part-judged c.args.lengths.now c.args.at c.args.s.now c.digit-ends.result (omega arith) (omega arith) c.digit-ends.ensures
+part-returns-then-end-at t c = left _ _ _ _ (sym (and_first _ _ (le-ltb _ _ c.if-end-at.true))) refl ∙ part_judged c.args.lengths.now c.args.at c.args.s.now c.digit-ends.result (omega arith) (omega arith) c.digit-ends.ensures
 
 pub part-returns-then-n-wide : goal.part-returns-then-n-wide
-part-returns-then-n-wide t c = left _ _ _ _ (sym (and_second _ _ _ (lt-ltb _ _ c.if-end-at.false) (and_first _ _ (lt-leb _ _ (rw c.wide.ensures at c.if-n-wide.true))))) refl ∙ part-judged c.args.lengths.now c.args.at c.args.s.now c.digit-ends.result (omega arith) (omega arith) c.digit-ends.ensures
+part-returns-then-n-wide t c = left _ _ _ _ (sym (and_second _ _ _ (lt-ltb _ _ c.if-end-at.false) (and_first _ _ (lt-leb _ _ (rw c.wide.ensures at c.if-n-wide.true))))) refl ∙ part_judged c.args.lengths.now c.args.at c.args.s.now c.digit-ends.result (omega arith) (omega arith) c.digit-ends.ensures
 
 pub part-returns-then-wide-n : goal.part-returns-then-wide-n
-part-returns-then-wide-n t c = left _ _ _ _ (sym (and_second _ _ _ (lt-ltb _ _ c.if-end-at.false) (and_second _ _ _ (le-leb _ _ (rw c.wide.ensures at c.if-n-wide.false)) (sym (lt-leb _ _ (rw c.wide-2.ensures at c.if-wide-n.true)))))) refl ∙ part-judged c.args.lengths.now c.args.at c.args.s.now c.digit-ends.result (omega arith) (omega arith) c.digit-ends.ensures
+part-returns-then-wide-n t c = left _ _ _ _ (sym (and_second _ _ _ (lt-ltb _ _ c.if-end-at.false) (and_second _ _ _ (le-leb _ _ (rw c.wide.ensures at c.if-n-wide.false)) (sym (lt-leb _ _ (rw c.wide-2.ensures at c.if-wide-n.true)))))) refl ∙ part_judged c.args.lengths.now c.args.at c.args.s.now c.digit-ends.result (omega arith) (omega arith) c.digit-ends.ensures
 
 pub part-returns : goal.part-returns
-part-returns t c = entered _ _ _ _ (sym (and_second _ _ _ (lt-ltb _ _ c.if-end-at.false) (and_second _ _ _ (le-leb _ _ (rw c.wide.ensures at c.if-n-wide.false)) (sym (le-leb _ _ (rw c.wide-2.ensures at c.if-wide-n.false)))))) refl ∙ part-judged c.args.lengths.now c.args.at c.args.s.now c.digit-ends.result (omega arith) (omega arith) c.digit-ends.ensures
+part-returns t c = entered _ _ _ _ (sym (and_second _ _ _ (lt-ltb _ _ c.if-end-at.false) (and_second _ _ _ (le-leb _ _ (rw c.wide.ensures at c.if-n-wide.false)) (sym (le-leb _ _ (rw c.wide-2.ensures at c.if-wide-n.false)))))) refl ∙ part_judged c.args.lengths.now c.args.at c.args.s.now c.digit-ends.result (omega arith) (omega arith) c.digit-ends.ensures

@@ -2,11 +2,8 @@
 -- what the readers read, where there are as many parts as the model asks. Assumes nothing.
 use Rattle.refusal.proofs.Basics.{◌≡◌, refl, sym, ◌∙◌, rules, arith, ◌≤◌, length, eq-eqb, ne_eqb, taken, left}
 use Rattle.parts.proofs.Pieces.{Bytes}
-use Rattle.parts.proofs.Laws.{found_empty, found-read, found_far}
+use Rattle.parts.proofs.Laws.{found_empty, found_read, found_far}
 use Rattle.parts.proofs.parts.Goals as goal
-
-bytes : (c : tie.Start) → Bytes c.args.model.lengths
-bytes c i = search rules
 
 pub returns-then-fewest-eq0 : goal.returns-then-fewest-eq0
 returns-then-fewest-eq0 c = let a = c.args in
@@ -18,21 +15,22 @@ returns-then-s-eq0 c = let a = c.args in
 
 pub returns-then-s-gt1023 : goal.returns-then-s-gt1023
 returns-then-s-gt1023 c =
+    let bytes : Bytes c.args.model.lengths = λ i. search rules in
     let eight : length c.args.model.lengths ≤ 8 = let e : length c.args.model.lengths ≡ 8 = search rules in omega arith in
-    found_far c.args.model c.args.s.now (bytes z) (eight) c.if-s-gt1023.true
+    found_far c.args.model c.args.s.now (bytes) (eight) c.if-s-gt1023.true
 
 pub returns-then-ends-eq0 : goal.returns-then-ends-eq0
 returns-then-ends-eq0 c = let a = c.args in
-    taken _ _ _ (eq-eqb _ 0 c.if-ends-eq0.true) ∙ found-read a.model a.s.now c.part-ends.result c.if-s-eq0.false (omega arith) c.part-ends.ensures
+    taken _ _ _ (eq-eqb _ 0 c.if-ends-eq0.true) ∙ found_read a.model a.s.now c.part-ends.result c.if-s-eq0.false (omega arith) c.part-ends.ensures
 
 pub returns-then-count_fits : goal.returns-then-count_fits
 returns-then-count_fits c = let a = c.args in
     left _ _ _ _ (ne_eqb _ 0 c.if-ends-eq0.false)
     (taken _ _ _ (sym (rw (c.wide.ensures, c.wide-2.ensures) at c.count_fits.ensures) ∙ c.if-count_fits.true))
-    ∙ found-read a.model a.s.now c.part-ends.result c.if-s-eq0.false (omega arith) c.part-ends.ensures
+    ∙ found_read a.model a.s.now c.part-ends.result c.if-s-eq0.false (omega arith) c.part-ends.ensures
 
 pub returns : goal.returns
 returns c = let a = c.args in
     left _ _ _ _ (ne_eqb _ 0 c.if-ends-eq0.false)
     (left _ _ _ _ (sym (rw (c.wide.ensures, c.wide-2.ensures) at c.count_fits.ensures) ∙ c.if-count_fits.false) refl)
-    ∙ found-read a.model a.s.now c.part-ends.result c.if-s-eq0.false (omega arith) c.part-ends.ensures
+    ∙ found_read a.model a.s.now c.part-ends.result c.if-s-eq0.false (omega arith) c.part-ends.ensures

@@ -4,7 +4,7 @@ use Rattle.refusal.proofs.Basics.{◌≡◌, sym, ◌∙◌, rules, arith, ◌�
 use Rattle.text.specs.Split.{split}
 use Rattle.text.proofs.Pieces.{next_piece_lem}
 use Rattle.slip_handed.specs.Handed.{piece_part}
-use Rattle.slip_handed.proofs.Laws.{behind, behind_none, piece-again, piece_none, piece-here}
+use Rattle.slip_handed.proofs.Laws.{behind, behind_none, piece_again, piece_none, piece_here}
 use Rattle.slip_handed.proofs.piece.Statement.{statement}
 use Rattle.slip_handed.proofs.piece.Tie as tie
 
@@ -28,7 +28,7 @@ loop-again c =
     let s = c.before.before.before.before.before.before.before.before.args.s.now in
     let l = c.before.before.before.before.before.before.loop in
     let e = sym c.before.before.before.first-bad.ensures ∙ c.before.i.given.1 in
-    (omega (arith, (next_piece_lem s l.at _ (omega arith) e).0), l.invariant.1 ∙ piece-again s l.at l.left _ c.before.before.before.before.before.loop-test.true e)
+    (omega (arith, (next_piece_lem s l.at _ (omega arith) e).0), l.invariant.1 ∙ piece_again s l.at l.left _ c.before.before.before.before.before.loop-test.true e)
 
 returns : tie.Need-returns invariant-loop decreases-loop
 returns c =
@@ -38,7 +38,7 @@ returns c =
 returns-2 : tie.Need-returns-2 invariant-loop decreases-loop
 returns-2 c =
     let l = c.before.before.before.loop in
-    piece-here c.before.before.before.before.before.args.s.now l.at l.left _ c.before.before.loop-test.false c.first-length.ensures ∙ sym l.invariant.1
+    piece_here c.before.before.before.before.before.args.s.now l.at l.left _ c.before.before.loop-test.false c.first-length.ensures ∙ sym l.invariant.1
 
 pub piece-spec : {M : Type 1} → statement M
 piece-spec =

@@ -1,7 +1,7 @@
 -- `slip_writer::put_four` meets its contract: a line, and three behind it. Assumes nothing.
 use Rattle.refusal.proofs.Basics.{rules, [], ◌∷◌}
 use Rattle.slip_given.specs.Given.{three}
-use Rattle.slip_writer.proofs.Laws.{room_first, room_next, lines-stand}
+use Rattle.slip_writer.proofs.Laws.{room_first, room_next, lines_stand}
 use Rattle.slip_writer.proofs.put_four.Statement.{statement}
 use Rattle.slip_writer.proofs.put_four.Tie as tie
 
@@ -18,7 +18,7 @@ put-three-requires c κs =
 returns : tie.Need-returns
 returns c =
     let z = c.before.before.before.before.before.before.before.before.before.before.before.before.before in
-    lines-stand (z.args.a.now ∷ []) (three z.args.b.now z.args.c.now z.args.d.now) c.before.before.before.before.before.before.put-line.ensures c.before.before.put_three.ensures
+    lines_stand (z.args.a.now ∷ []) (three z.args.b.now z.args.c.now z.args.d.now) c.before.before.before.before.before.before.put-line.ensures c.before.before.put_three.ensures
 
 pub put-four-spec : {M : Type 1} → statement M
 put-four-spec = tie.close (tie.spec put-line-requires put-three-requires (λ c. search rules) returns)

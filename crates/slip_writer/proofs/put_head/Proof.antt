@@ -3,7 +3,7 @@ use Rattle.refusal.proofs.Basics.{rules, [], ◌∷◌}
 use Rattle.text.specs.Bytes.{eur}
 use Rattle.text.specs.Digits.{digits_text}
 use Rattle.slip_fields.specs.Fields.{hrvhub30}
-use Rattle.slip_writer.proofs.Laws.{room_first, room_next, lines-stand}
+use Rattle.slip_writer.proofs.Laws.{room_first, room_next, lines_stand}
 use Rattle.slip_writer.proofs.put_head.Statement.{statement}
 use Rattle.slip_writer.proofs.put_head.Tie as tie
 
@@ -25,7 +25,7 @@ put-amount-line-requires c κs =
 returns : tie.Need-returns
 returns c =
     let z = c.before.before.before.before.before.before.before.before.before.before.before.before.before.before.before in
-    lines-stand (hrvhub30 ∷ []) (eur ∷ (digits_text 15 z.args.cents ∷ [])) c.before.before.before.before.before.before.before.before.before.before.before.put-line.ensures (lines-stand (eur ∷ []) (digits_text 15 z.args.cents ∷ []) c.before.before.before.before.before.before.put-line2.ensures c.before.before.put-amount-line.ensures)
+    lines_stand (hrvhub30 ∷ []) (eur ∷ (digits_text 15 z.args.cents ∷ [])) c.before.before.before.before.before.before.before.before.before.before.before.put-line.ensures (lines_stand (eur ∷ []) (digits_text 15 z.args.cents ∷ []) c.before.before.before.before.before.before.put-line2.ensures c.before.before.put-amount-line.ensures)
 
 pub put-head-spec : {M : Type 1} → statement M
 put-head-spec =

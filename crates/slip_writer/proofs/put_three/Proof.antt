@@ -1,6 +1,6 @@
 -- `slip_writer::put_three` meets its contract: one line behind another. Assumes nothing.
 use Rattle.refusal.proofs.Basics.{rules, [], ◌∷◌}
-use Rattle.slip_writer.proofs.Laws.{room_first, room_next, lines-stand}
+use Rattle.slip_writer.proofs.Laws.{room_first, room_next, lines_stand}
 use Rattle.slip_writer.proofs.put_three.Statement.{statement}
 use Rattle.slip_writer.proofs.put_three.Tie as tie
 
@@ -22,7 +22,7 @@ put-line-requires-3 c κs =
 returns : tie.Need-returns
 returns c =
     let z = c.before.before.before.before.before.before.before.before.before.before.before.before.before.before.before.before in
-    lines-stand (z.args.a.now ∷ []) (z.args.b.now ∷ (z.args.c.now ∷ [])) c.before.before.before.before.before.before.before.before.before.before.put-line.ensures (lines-stand (z.args.b.now ∷ []) (z.args.c.now ∷ []) c.before.before.before.before.before.before.put-line2.ensures c.before.before.put-line3.ensures)
+    lines_stand (z.args.a.now ∷ []) (z.args.b.now ∷ (z.args.c.now ∷ [])) c.before.before.before.before.before.before.before.before.before.before.put-line.ensures (lines_stand (z.args.b.now ∷ []) (z.args.c.now ∷ []) c.before.before.before.before.before.before.put-line2.ensures c.before.before.put-line3.ensures)
 
 pub put-three-spec : {M : Type 1} → statement M
 put-three-spec =

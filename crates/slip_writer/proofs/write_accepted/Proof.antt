@@ -4,7 +4,7 @@ use Rattle.text.proofs.Stands.{front_stands}
 use Rattle.slip_given.specs.Given.{three, four}
 use Rattle.text.specs.Lines.{join_lines}
 use Rattle.slip_writer.specs.Writer.{slip_text}
-use Rattle.slip_writer.proofs.Laws.{head_of, slip_size, slip-room, slip-stands, room_refused, room_counted, room_first, room_next}
+use Rattle.slip_writer.proofs.Laws.{head_of, slip_size, slip_room, slip_stands, room_refused, room_counted, room_first, room_next}
 use Rattle.slip_writer.proofs.write_accepted.Statement.{statement}
 use Rattle.slip_writer.proofs.write_accepted.Tie as tie
 
@@ -38,7 +38,7 @@ may_write :
     → 0 + length (join_lines (head_of c.before.before.before.before.before.before.before.before.before.before.before.before.before.before.before.args.cents ++ fields c.before.before.before.before.before.before.before.before.before.before.before.before.before.before.before)) ≤ room
 may_write c room h =
     let z = c.before.before.before.before.before.before.before.before.before.before.before.before.before.before.before in
-    slip-room z.args.cents (front z) (middle z) (back z) room (omega (arith, c.size-four2.ensures, c.before.size-three.ensures, c.before.before.size-four.ensures))
+    slip_room z.args.cents (front z) (middle z) (back z) room (omega (arith, c.size-four2.ensures, c.before.size-three.ensures, c.before.before.size-four.ensures))
 
 size-four-requires : tie.Need-size-four-requires
 size-four-requires c κs = let z = c.before.before.before.before.before.before.before.before.before.before.before.before in omega (arith, z.requires, parts z)
@@ -81,7 +81,7 @@ returns-2 : tie.Need-returns-2
 returns-2 c =
     let z = c.before.before.before.before.before.before.before.before.before.before.before.before.before.before.before.before.before.before.before.before.before.before.before.before.before.before.before.before.before.before.before.before in
     let n = size_is c.before.before.before.before.before.before.before.before.before.before.before.before.before.before.before.before.before in
-    let w = slip-stands z.args.cents (front z) (middle z) (back z) c.before.before.before.before.before.before.before.before.before.before.before.before.before.before.put-head.ensures c.before.before.before.before.before.before.before.before.before.before.put_four.ensures c.before.before.before.before.before.before.put_three.ensures c.before.before.put-four2.ensures in
+    let w = slip_stands z.args.cents (front z) (middle z) (back z) c.before.before.before.before.before.before.before.before.before.before.before.before.before.before.put-head.ensures c.before.before.before.before.before.before.before.before.before.before.put_four.ensures c.before.before.before.before.before.before.put_three.ensures c.before.before.put-four2.ensures in
     (room_counted (slip z) _ _ n c.before.before.before.before.before.before.before.before.before.before.before.before.before.before.before.before.if1.false, front_stands _ _ (slip z) _ w (omega (arith, n, c.before.before.before.before.before.before.before.before.before.before.before.before.before.before.before.before.if1.false)))
 
 pub write-accepted-spec : {M : Type 1} → statement M

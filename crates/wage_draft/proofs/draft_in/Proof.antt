@@ -3,7 +3,7 @@ use Rattle.refusal.proofs.Basics.{◌≡◌, refl, ◌∙◌, rules, arith, ◌�
 use Rattle.wage_places.specs.Places.{spots}
 use Rattle.lent_fields.specs.Fields.{fields_of}
 use Rattle.wage_draft.specs.Draft.{drafted}
-use Rattle.wage_draft.proofs.Laws.{Left, draft_last, draft_past, draft-on, draft-stops}
+use Rattle.wage_draft.proofs.Laws.{Left, draft_last, draft_past, draft_on, draft_stops}
 use Rattle.lent_fields.proofs.Laws.{field_ends}
 use Rattle.wage_draft.proofs.draft_in.Statement.{statement}
 use Rattle.wage_draft.proofs.draft_in.Tie as tie
@@ -64,7 +64,7 @@ places-again c =
     let a = c.before.before.before.before.before.before.before.before.before.before.before.before.before.before.before.before.args in
     let l = c.before.before.before.before.before.before.before.before.before.before.before.places in
     let e = field_ends a.text.now l.at _ _ (omega arith) (rw c.before.before.before.before.before.before.before.before.size-at.ensures at c.before.before.before.before.before.before.before.end_of_lem.ensures) in
-    (e.within, (omega arith, (c.before.before.before.line.given ∙ l.invariant.1.1.0, l.invariant.1.1.1 ∙ draft-on a.day a.kind a.t (spots a.t) a.last l.k a.sizes.now l.i a.text.now l.at l.line c.before.before.before.before.before.before.before.end_of_lem.result e (omega arith) (omega (arith, c.before.before.before.before.before.before.before.before.before.before.before.before.count.ensures)) c.before.before.before.before.place.result c.before.before.before.before.place.new.1.1.1.1.1.0 c.before.before.before.before.place.ensures c.enum_told.given.1)))
+    (e.within, (omega arith, (c.before.before.before.line.given ∙ l.invariant.1.1.0, l.invariant.1.1.1 ∙ draft_on a.day a.kind a.t (spots a.t) a.last l.k a.sizes.now l.i a.text.now l.at l.line c.before.before.before.before.before.before.before.end_of_lem.result e (omega arith) (omega (arith, c.before.before.before.before.before.before.before.before.before.before.before.before.count.ensures)) c.before.before.before.before.place.result c.before.before.before.before.place.new.1.1.1.1.1.0 c.before.before.before.before.place.ensures c.enum_told.given.1)))
 
 enum-known-r : tie.Need-enum-known-r invariant-places decreases-places
 enum-known-r c = search rules
@@ -95,7 +95,7 @@ returns-3 c =
     let a = c.before.before.before.before.before.before.before.before.before.before.before.before.before.before.before.before.before.args in
     let l = c.before.before.before.before.before.before.before.before.before.before.before.before.places in
     let e = field_ends a.text.now l.at _ _ (omega arith) (rw c.before.before.before.before.before.before.before.before.before.size-at.ensures at c.before.before.before.before.before.before.before.before.end_of_lem.ensures) in
-    rw l.invariant.1.1.1 (draft-stops a.day a.kind a.t (spots a.t) a.last l.k a.sizes.now l.i a.text.now l.at l.line c.before.before.before.before.before.before.before.before.end_of_lem.result e (omega arith) (omega (arith, c.before.before.before.before.before.before.before.before.before.before.before.before.before.count.ensures)) c.before.before.before.before.before.place.result c.before.before.before.before.before.place.new.1.1.1.1.1.0 c.before.before.before.before.before.place.ensures c.before.r.given.0.0 c.before.r.given.1)
+    rw l.invariant.1.1.1 (draft_stops a.day a.kind a.t (spots a.t) a.last l.k a.sizes.now l.i a.text.now l.at l.line c.before.before.before.before.before.before.before.before.end_of_lem.result e (omega arith) (omega (arith, c.before.before.before.before.before.before.before.before.before.before.before.before.before.count.ensures)) c.before.before.before.before.before.place.result c.before.before.before.before.before.place.new.1.1.1.1.1.0 c.before.before.before.before.before.place.ensures c.before.r.given.0.0 c.before.r.given.1)
 
 pub draft-in-spec : {M : Type 1} → statement M
 draft-in-spec =

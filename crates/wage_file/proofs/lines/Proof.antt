@@ -39,8 +39,8 @@ lines-less c =
     let a = piece_advances s l.at (omega arith) in
     omega (arith, c.next-piece.ensures)
 
-lines-again : tie.Need-lines-preserved invariant-lines decreases-lines
-lines-again c =
+lines_again : tie.Need-lines-preserved invariant-lines decreases-lines
+lines_again c =
     let s = c.before.before.before.before.before.before.before.before.args.s.now in
     let l = c.before.before.before.before.before.before.lines in
     let a = piece_advances s l.at (omega arith) in
@@ -68,6 +68,6 @@ lines-spec =
     step-requires
     next-piece-requires
     lines-less
-    lines-again
+    lines_again
     returns
     returns-2)

@@ -4,7 +4,7 @@ use Rattle.refusal.proofs.Basics.{◌≡◌, refl, sym, ◌∙◌, rules, arith,
 use Rattle.wage_line.specs.Pieces.{pieces}
 use Rattle.wage_line.proofs.PieceLaws.{piece_advances}
 use Rattle.wage_orders.specs.Orders.{orders_from}
-use Rattle.wage_orders.proofs.Laws.{orders-on, orders-stop, orders_end}
+use Rattle.wage_orders.proofs.Laws.{orders_on, orders_stop, orders_end}
 use Rattle.wage_orders.proofs.judge_lines.Statement.{statement}
 use Rattle.wage_orders.proofs.judge_lines.Tie as tie
 
@@ -40,13 +40,13 @@ lines-less c =
     let a = piece_advances s l.at (omega arith) in
     omega (arith, c.next-piece.ensures)
 
-lines-again : tie.Need-lines-preserved invariant-lines decreases-lines
-lines-again c =
+lines_again : tie.Need-lines-preserved invariant-lines decreases-lines
+lines_again c =
     let g = c.before.before.before.before.before.before.before.before.args in
     let s = g.s.now in
     let l = c.before.before.before.before.before.before.lines in
     let a = piece_advances s l.at (omega arith) in
-    rw c.next-piece.ensures (l.invariant.0 ∙ orders-on g.day g.kind l.n s l.at (omega arith) (rw c.before.before.before.before.piece.ensures at (sym c.before.before.before.judge-order.ensures ∙ c.before.enum_told.given.1)), omega arith)
+    rw c.next-piece.ensures (l.invariant.0 ∙ orders_on g.day g.kind l.n s l.at (omega arith) (rw c.before.before.before.before.piece.ensures at (sym c.before.before.before.judge-order.ensures ∙ c.before.enum_told.given.1)), omega arith)
 
 enum-known-r : tie.Need-enum-known-r invariant-lines decreases-lines
 enum-known-r c = search rules
@@ -61,7 +61,7 @@ returns-2 : tie.Need-returns-2 invariant-lines decreases-lines
 returns-2 c =
     let g = c.before.before.before.before.before.before.before.before.args in
     let l = c.before.before.before.before.before.before.lines in
-    sym (l.invariant.0 ∙ orders-stop g.day g.kind l.n g.s.now l.at c.before.r.given.0.0 (omega arith) (rw c.before.before.before.before.piece.ensures at (sym c.before.before.before.judge-order.ensures ∙ c.before.r.given.1)))
+    sym (l.invariant.0 ∙ orders_stop g.day g.kind l.n g.s.now l.at c.before.r.given.0.0 (omega arith) (rw c.before.before.before.before.piece.ensures at (sym c.before.before.before.judge-order.ensures ∙ c.before.r.given.1)))
 
 pub judge-lines-spec : {M : Type 1} → statement M
 judge-lines-spec =
@@ -75,7 +75,7 @@ judge-lines-spec =
     add-n
     next-piece-requires
     lines-less
-    lines-again
+    lines_again
     enum-known-r
     returns
     returns-2)

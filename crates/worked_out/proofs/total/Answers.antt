@@ -7,7 +7,7 @@ use Rattle.wage_places.specs.Places.{part_of}
 use Rattle.wage_line.specs.Pieces.{pieces}
 use Rattle.wage_line.proofs.PieceLaws.{piece_advances}
 use Rattle.worked_out.specs.Amounts.{amounts}
-use Rattle.worked_out.proofs.Laws.{kept, amounts_first, amounts-on, amounts_end}
+use Rattle.worked_out.proofs.Laws.{kept, amounts_first, amounts_on, amounts_end}
 use Rattle.worked_out.proofs.total.Goals as goal
 
 pub loop-at-init : goal.loop-at-init
@@ -20,7 +20,7 @@ loop-at-preserved c = let s = c.args.s.now in
     let e : c.number.result ≡ x =
     c.number.ensures ∙
     rw (c.part.ensures, c.piece.ensures, c.find-amount.ensures) in
-    rw (c.next_piece-at.ensures, c.add-sum.ensures, e) (l.invariant.0 ∙ amounts-on l.sum s l.at (omega arith), kept (cents_of l.sum + x))
+    rw (c.next_piece-at.ensures, c.add-sum.ensures, e) (l.invariant.0 ∙ amounts_on l.sum s l.at (omega arith), kept (cents_of l.sum + x))
 
 pub returns : goal.returns
 returns c = let l = c.loop-at in

@@ -7,7 +7,7 @@ use Rattle.wage_places.specs.Places.{part_of}
 use Rattle.wage_line.specs.Pieces.{pieces}
 use Rattle.wage_line.proofs.PieceLaws.{piece_advances}
 use Rattle.worked_out.specs.Amounts.{amounts}
-use Rattle.worked_out.proofs.Laws.{kept, amounts_first, amounts-on, amounts_end}
+use Rattle.worked_out.proofs.Laws.{kept, amounts_first, amounts_on, amounts_end}
 use Rattle.worked_out.proofs.total.Given as goal
 
 abbrev pub invariant-loop-at : goal.invariant-loop-at
