@@ -17,7 +17,7 @@ import sys
 
 ANTT = sorted(glob.glob("crates/*/specs/**/*.antt", recursive=True) + glob.glob("crates/*/proofs/**/*.antt", recursive=True))
 RT = sorted(glob.glob("crates/*/src/**/*.rt", recursive=True))
-EDITS = sorted(glob.glob("crates/*/must-fail/*.edit"))
+EDITS = sorted(glob.glob("crates/*/must-fail/*.edit") + glob.glob("crates/*/also-fail/*.edit"))
 PAGES = sorted(glob.glob("*.md") + glob.glob("docs/*.md") + glob.glob("docs/changes/*.md") + ["crates.txt"])
 DELIM = "\\s(){}\\[\\].;,«»`\""
 TOKEN = re.compile(f"[^{DELIM}]+")
