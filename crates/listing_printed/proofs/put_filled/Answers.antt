@@ -1,0 +1,10 @@
+-- `listing_printed::put_filled` meets its contract: the filled text stands at the front of the room, and the line feed is put behind it.
+-- Assumes nothing.
+use Rattle.refusal.proofs.Basics.{sym, ◌∙◌, rules}
+use Rattle.listing_printed.proofs.Laws.{line_put, no_line_put}
+use Rattle.listing_printed.proofs.put_filled.Goals as goal
+
+pub returns-in-Accepted : goal.returns-in-Accepted
+returns-in-Accepted c = let a = c.args in
+    let w = c.filled.ensures in
+    line_put a.text.now a.number (sym w.0 ∙ c.in-Accepted.is) (w.1 ∙ rw c.in-Accepted.is) c.put.ensures

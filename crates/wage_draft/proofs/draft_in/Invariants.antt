@@ -1,0 +1,14 @@
+-- `wage_draft::draft_in` meets its contract. The loop's invariant: what is left to be drafted is the whole draft. Assumes nothing.
+use Rattle.refusal.proofs.Basics.{◌≡◌, refl, ◌∙◌, rules, arith, ◌≤◌, ◌-◌, length, take, drop}
+use Rattle.wage_places.specs.Places.{spots}
+use Rattle.lent_fields.specs.Fields.{fields_of}
+use Rattle.wage_draft.specs.Draft.{drafted}
+use Rattle.wage_draft.proofs.Laws.{Left, draft_last, draft_past, draft_on, draft_stops}
+use Rattle.lent_fields.proofs.Laws.{field_ends}
+use Rattle.wage_draft.proofs.draft_in.Given as goal
+
+abbrev pub invariant-places : goal.invariant-places
+invariant-places l = (l.at ≤ length l.text) × ((l.i ≤ l.k) × ((length l.line ≡ length l.initial.line) × (drafted l.day l.kind l.t (take (l.last - l.first) (drop l.first (spots l.t))) (fields_of l.sizes l.text) l.initial.line ≡ Left l.day l.kind l.t (spots l.t) l.last l.k l.sizes l.i l.text l.at l.line)))
+
+abbrev pub decreases-places : goal.decreases-places
+decreases-places l = l.count - l.k
