@@ -1,0 +1,13 @@
+-- `wage_draft::draft_aside` meets its contract: the line is copied, drafted there, and put back if it is right. Assumes nothing.
+use Rattle.refusal.proofs.Basics.{sym, ◌∙◌, rules}
+use Rattle.wage_draft.proofs.Laws.{put_whole, scratch_refused, scratch_accepted}
+use Rattle.wage_draft.proofs.draft_aside.Goals as goal
+
+pub returns-in-Refused : goal.returns-in-Refused
+returns-in-Refused c = let copied = c.put.ensures ∙ put_whole c.args.scratch.now c.args.line.now (c.requires.1 ∙ sym c.requires.0) in
+    scratch_refused _ _ c.requires.1 _ _ (rw copied at c.draft_in.ensures) _ c.in-Refused.is
+
+pub returns : goal.returns
+returns c = let copied = c.put.ensures ∙ put_whole c.args.scratch.now c.args.line.now (c.requires.1 ∙ sym c.requires.0) in
+    let size = c.scratch-2-1.given ∙ c.scratch-1.given ∙ c.requires.0 in
+    scratch_accepted _ _ c.requires.1 _ _ (rw copied at c.draft_in.ensures) c.in_default.is size _ c.put-2.ensures
