@@ -3,7 +3,7 @@
 -- Assumes nothing.
 use Rattle.refusal.proofs.Basics.{◌≡◌, refl, sym, ◌∙◌, arith, ℕ, ◌+◌, ◌-◌, ◌≤◌, ◌<◌, length, length-append, lt-ltb, le-leb, eq-eqb, eqb-true, leb-true, ltb-false, List, [], ◌∷◌, ◌++◌, Bool, true, false, cond, eqb, leb, ltb, lit<, take-append_seam, get_or-append_seam, mod-lt, ◌↔◌, chosen, both_true}
 use Rattle.refusal.specs.Refusal.{none}
-use Rattle.refusal.specs.declared.Answer.TheVariants.{Accepted, Refused}
+use Rattle.refusal.specs.declared.Answer.TheVariants.{Accepted}
 use Rattle.refusal.specs.declared.Refusal.{Refusal}
 use Rattle.refusal.specs.declared.Refusal.TheVariants.{Size, Byte}
 use Rattle.classes.specs.declared.Class.TheVariants.{Digits}

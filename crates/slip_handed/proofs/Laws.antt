@@ -1,6 +1,6 @@
 -- Where the pieces of a text stand between its line feeds, and the fields that a slip hands back.
 -- Assumes nothing.
-use Rattle.refusal.proofs.Basics.{◌≡◌, refl, sym, ap, ◌∙◌, arith, ℕ, zero, suc, ◌+◌, ◌-◌, ◌≤◌, ◌<◌, length, take, drop, length-drop, le-leb, List, [], ◌∷◌, Bool, true, false, cond, drop-drop, length-take-le, take_all, zero-add, add-zero, left, entered}
+use Rattle.refusal.proofs.Basics.{◌≡◌, refl, sym, ap, ◌∙◌, arith, ℕ, zero, suc, ◌+◌, ◌-◌, ◌≤◌, ◌<◌, length, take, drop, length-drop, le-leb, List, [], ◌∷◌, Bool, true, false, cond, drop-drop, length-take-le, take_all, zero-add, add-zero, entered}
 use Rattle.refusal.specs.Refusal.{is_accepted}
 use Rattle.text.specs.Bytes.{first_bad}
 use Rattle.classes.specs.declared.Class.TheVariants.{Line}

@@ -1,7 +1,6 @@
 -- `account::iban` meets its contract: of an IBAN nothing is refused; else each return is the chain's answer by the tests that led there.
 -- Assumes nothing.
-use Rattle.refusal.proofs.Basics.{refl, sym, ◌∙◌, rules, ne_eqb, eq-eqb}
-use Rattle.verdict.proofs.Verdicts.{refused, passed, failed, met}
+use Rattle.refusal.proofs.Basics.{sym, ◌∙◌}
 use Rattle.account.proofs.Theorems.{iban_accepted_exactly, iban_field_exactly}
 use Rattle.account.proofs.iban.Goals as goal
 

@@ -1,9 +1,9 @@
 -- `account::iban_passes` meets its contract: the form decides first, then the check digits, then the number, taken in runs. Assumes nothing.
-use Rattle.refusal.proofs.Basics.{◌≡◌, sym, ◌∙◌, rules, arith, length, take, drop, length-take, not-true, not-false, true, and_first, and_second}
+use Rattle.refusal.proofs.Basics.{◌≡◌, sym, ◌∙◌, rules, arith, take, drop, length-take, not-false, true, and_second}
 use Rattle.text.specs.Digits.{value_of}
 use Rattle.sums.proofs.Theorems.{number_of_all}
 use Rattle.account.specs.Account.{check_digits, iban_formed}
-use Rattle.account.proofs.Laws.{formed_length, run_digits_lem, run_few, number_decides, low_fails, high_fails}
+use Rattle.account.proofs.Laws.{run_digits_lem, run_few, number_decides, low_fails, high_fails}
 use Rattle.account.proofs.iban_passes.Goals as goal
 
 pub returns-then-k-lt2 : goal.returns-then-k-lt2

@@ -1,6 +1,5 @@
 -- `account::oib_passes` meets its contract. Assumes nothing.
 use Rattle.account.specs.Account.{oib_passes}
-use Rattle.refusal.proofs.Basics.{rules}
 use Rattle.account.proofs.oib_passes.Goals as goal
 
 pub returns : goal.returns

@@ -1,8 +1,7 @@
 -- `account::run_over` meets its contract. The loop's invariant: the sum leaves what the number of the digits from here on does, and the
 -- place before them is known. Assumes nothing.
-use Rattle.refusal.proofs.Basics.{◌≡◌, rules, arith, ◌≤◌, ◌<◌, ◌+◌, ◌-◌, ◌*◌, ◌^◌, ◌%◌, length, drop, get_or, mul-le-mul_right, mod-lt}
+use Rattle.refusal.proofs.Basics.{◌≡◌, arith, ◌≤◌, ◌<◌, ◌+◌, ◌-◌, ◌*◌, ◌^◌, length, get_or, mul-le-mul_right, mod-lt}
 use Rattle.classes.proofs.Laws.{digit_bounds}
-use Rattle.text.specs.Digits.{digits_of, value_of}
 use Rattle.account.proofs.Runs.{digit_at, run_starts, run_on, place_on}
 use Rattle.account.proofs.run_over.Goals as goal
 

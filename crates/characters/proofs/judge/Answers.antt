@@ -1,6 +1,6 @@
 -- `characters::judge` meets its contract. The loop's invariant: the bytes before `i` are `n` permitted characters. Assumes nothing.
-use Rattle.refusal.proofs.Basics.{sym, ◌∙◌, rules, arith, ◌-◌, length, not-true, not-false}
-use Rattle.characters.proofs.Laws.{Passed, passed_none, passed_single, passed_pair, passed_wrong, passed_all, wrong_told, long_told, short_accepted}
+use Rattle.refusal.proofs.Basics.{sym, ◌∙◌, arith, not-true, not-false}
+use Rattle.characters.proofs.Laws.{passed_none, passed_single, passed_pair, passed_wrong, passed_all, wrong_told, long_told, short_accepted}
 use Rattle.characters.proofs.judge.Goals as goal
 
 pub loop-i-init : goal.loop-i-init

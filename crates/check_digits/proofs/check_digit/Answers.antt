@@ -1,8 +1,8 @@
 -- `check_digits::check_digit` meets its contract. The loop's invariant: what is read of the whole is what is read of the rest from here.
 -- Assumes nothing.
-use Rattle.refusal.proofs.Basics.{◌≡◌, refl, sym, ap, ◌∙◌, arith, ◌≤◌, ◌-◌, length, drop, get_or}
-use Rattle.check_digits.specs.Mirror.{Small, run_start, run_of, digit_of}
-use Rattle.check_digits.proofs.Laws.{start_small, read_small, run_on, run_ends, read_check_digit}
+use Rattle.refusal.proofs.Basics.{sym, ap, ◌∙◌, arith, get_or}
+use Rattle.check_digits.specs.Mirror.{digit_of}
+use Rattle.check_digits.proofs.Laws.{read_small, run_on, run_ends, read_check_digit}
 use Rattle.check_digits.proofs.check_digit.Goals as goal
 
 pub loop-i-preserved : goal.loop-i-preserved

@@ -1,5 +1,5 @@
 -- `check_digits::ends_right` meets its contract: the part before the last byte is what its check digit is made of. Assumes nothing.
-use Rattle.refusal.proofs.Basics.{sym, ap, rules, arith, ℕ, ◌+◌, ◌-◌, length, take, get_or, lt-ltb, le-ltb, eqb, length-take-le, and_first, and_second}
+use Rattle.refusal.proofs.Basics.{ap, arith, ℕ, ◌+◌, ◌-◌, length, take, get_or, lt-ltb, le-ltb, eqb, and_first, and_second}
 use Rattle.text.specs.Digits.{digits_of}
 use Rattle.check_digits.specs.CheckDigit.{passes}
 use Rattle.check_digits.proofs.Theorems.{check_digit_small}

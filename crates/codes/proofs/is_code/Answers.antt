@@ -1,5 +1,5 @@
 -- `codes::is_code` meets its contract: a code is what is found. Assumes nothing.
-use Rattle.refusal.proofs.Basics.{sym, ◌∙◌, rules}
+use Rattle.refusal.proofs.Basics.{sym, ◌∙◌}
 use Rattle.codes.specs.Codes.{is_code}
 use Rattle.codes.proofs.is_code.Goals as goal
 

@@ -1,6 +1,5 @@
 -- `codes::place` meets its contract: the table is the list of the codes. Assumes nothing.
 use Rattle.codes.specs.Codes.{code_place}
-use Rattle.refusal.proofs.Basics.{rules}
 use Rattle.codes.proofs.place.Goals as goal
 
 pub returns : goal.returns

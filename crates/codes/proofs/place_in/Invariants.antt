@@ -1,8 +1,7 @@
 -- `codes::place_in` meets its contract. The loop's invariant: the answer is that of what is left from `i` on. Assumes nothing.
-use Rattle.refusal.proofs.Basics.{◌≡◌, sym, ◌∙◌, rules, arith, ◌≤◌, ◌-◌, length, drop}
-use Rattle.text.proofs.Laws.{shifted, shifted_zero}
+use Rattle.refusal.proofs.Basics.{◌≡◌, ◌≤◌, ◌-◌, length, drop}
+use Rattle.text.proofs.Laws.{shifted}
 use Rattle.codes.specs.Codes.{first_in}
-use Rattle.codes.proofs.Laws.{search_on, search_stops, search_ends}
 use Rattle.codes.proofs.place_in.Given as goal
 
 abbrev pub invariant-loop-i : goal.invariant-loop-i

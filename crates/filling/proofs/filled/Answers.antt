@@ -1,6 +1,6 @@
 -- `filling::filled` meets its contract. The loop's invariant: the bytes from `i` on are written. Assumes nothing.
-use Rattle.refusal.proofs.Basics.{◌≡◌, refl, rules, arith, ◌≤◌, ◌-◌, length, length-set}
-use Rattle.filling.proofs.Laws.{WrittenFrom, from_end, from_mark, from_byte, from_front, short_refused, enough_accepted}
+use Rattle.refusal.proofs.Basics.{refl, arith, ◌-◌, length-set}
+use Rattle.filling.proofs.Laws.{from_end, from_mark, from_byte}
 use Rattle.filling.proofs.filled.Goals as goal
 
 pub loop-i-init : goal.loop-i-init

@@ -1,7 +1,6 @@
 -- `fillings::list` meets its contract. `o` in each answer: the scan stopped at the first of the marks left. Assumes nothing.
-use Rattle.refusal.proofs.Basics.{◌≡◌, refl, sym, ◌∙◌, rules, arith, ℕ, ◌+◌, ◌-◌, ◌≤◌, ◌<◌, set, set-set}
-use Rattle.fillings.specs.Mirror.{accepts}
-use Rattle.fillings.proofs.Laws.{first_mark, no_mark, block_dry, number_small, place_small, Open, first_before, one_fewer, digits_none, digits_more, digits_all, digits_fit, digits_place}
+use Rattle.refusal.proofs.Basics.{refl, sym, ◌∙◌, arith, ◌+◌, ◌<◌, set-set}
+use Rattle.fillings.proofs.Laws.{first_mark, no_mark, block_dry, number_small, Open, first_before, one_fewer, digits_none, digits_more, digits_all, digits_fit, digits_place}
 use Rattle.fillings.proofs.+list.Goals as goal
 
 pub returns-then-left-eq0 : goal.returns-then-left-eq0

@@ -1,5 +1,5 @@
 -- `fillings::accepted` meets its contract: each return is the definition's choice on the tests that led there. Assumes nothing.
-use Rattle.refusal.proofs.Basics.{rules, not-true, not-false, left, entered, and_first, and_second}
+use Rattle.refusal.proofs.Basics.{not-true, not-false, left, entered, and_first, and_second}
 use Rattle.fillings.specs.Mirror.{accepts}
 use Rattle.fillings.proofs.accepted.Goals as goal
 

@@ -1,6 +1,5 @@
 -- `fillings::held` meets its contract. The loop's invariant: the bytes before `i` are copied. Assumes nothing.
-use Rattle.refusal.proofs.Basics.{◌≡◌, refl, ◌∙◌, arith, ◌≤◌, ◌-◌, length, take, length-set, take-length}
-use Rattle.fillings.proofs.Laws.{copied_more}
+use Rattle.refusal.proofs.Basics.{◌≡◌, ◌≤◌, ◌-◌, length, take}
 use Rattle.fillings.proofs.held.Given as goal
 
 abbrev pub invariant-loop-i : goal.invariant-loop-i

@@ -1,10 +1,10 @@
 -- `fillings::list_into` meets its contract: 1 and 16 first; then nothing where no filling mends the form, else the count is that of all fillings,
 -- and they are written where there is room: room for ten thousand is room for all. Assumes nothing.
-use Rattle.refusal.proofs.Basics.{◌≡◌, refl, sym, ap, ◌∙◌, rules, arith, ℕ, suc, ◌*◌, ◌^◌, ◌≤◌, length, take, not-true, lt-leb, le-leb, List, left, entered}
+use Rattle.refusal.proofs.Basics.{refl, arith, ◌≤◌, length, not-true}
 use Rattle.text.specs.Bytes.{marks}
 use Rattle.fillings.specs.Mirror.{accepts}
 use Rattle.fillings.specs.Fillings.{fillings}
-use Rattle.fillings.proofs.Laws.{whole_fits, fillings_fit, written_all, room_refused, room_counted, all_listed, none_listed}
+use Rattle.fillings.proofs.Laws.{fillings_fit, written_all, room_refused, room_counted, all_listed, none_listed}
 use Rattle.fillings.proofs.list_into.Goals as goal
 
 pub returns-then-not-aim : goal.returns-then-not-aim

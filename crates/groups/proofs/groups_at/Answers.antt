@@ -1,9 +1,9 @@
 -- `groups::groups_at` meets its contract. The loop's invariant: the groups are right where those from `i` on are. Assumes nothing.
-use Rattle.refusal.proofs.Basics.{◌≡◌, refl, sym, ◌∙◌, rules, arith, ◌≤◌, ◌-◌, length, drop, not-true, not-false}
+use Rattle.refusal.proofs.Basics.{◌≡◌, sym, ◌∙◌, rules, arith, length, not-true, not-false}
 use Rattle.models.specs.Models.{no_group}
 use Rattle.models.specs.declared.Group.{Group}
 use Rattle.models.proofs.Every.{unmapped, every_on, every_stops, every_ends}
-use Rattle.groups.specs.Mirror.{group_at, groups_at}
+use Rattle.groups.specs.Mirror.{group_at}
 use Rattle.groups.proofs.groups_at.Goals as goal
 
 pub returns-then-not-group_at : goal.returns-then-not-group_at

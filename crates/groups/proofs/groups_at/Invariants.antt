@@ -1,9 +1,6 @@
 -- `groups::groups_at` meets its contract. The loop's invariant: the groups are right where those from `i` on are. Assumes nothing.
-use Rattle.refusal.proofs.Basics.{◌≡◌, refl, sym, ◌∙◌, rules, arith, ◌≤◌, ◌-◌, length, drop, not-true, not-false}
-use Rattle.models.specs.Models.{no_group}
-use Rattle.models.specs.declared.Group.{Group}
-use Rattle.models.proofs.Every.{unmapped, every_on, every_stops, every_ends}
-use Rattle.groups.specs.Mirror.{group_at, groups_at}
+use Rattle.refusal.proofs.Basics.{◌≡◌, ◌≤◌, ◌-◌, drop}
+use Rattle.groups.specs.Mirror.{groups_at}
 use Rattle.groups.proofs.groups_at.Given as goal
 
 abbrev pub invariant-loop-i : goal.invariant-loop-i

@@ -1,5 +1,5 @@
 -- `groups::obeys_at` meets its contract: contents, then groups. Assumes nothing.
-use Rattle.refusal.proofs.Basics.{sym, ◌∙◌, rules, not-true, not-false, and_first, and_second}
+use Rattle.refusal.proofs.Basics.{sym, ◌∙◌, not-true, not-false, and_first, and_second}
 use Rattle.groups.specs.Mirror.{obeys_at}
 use Rattle.groups.proofs.obeys_at.Goals as goal
 

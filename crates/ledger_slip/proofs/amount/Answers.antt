@@ -1,5 +1,4 @@
 -- `ledger_slip::amount` meets its contract: the arm says which currency it is. Assumes nothing.
-use Rattle.refusal.proofs.Basics.{rules}
 use Rattle.ledger_slip.specs.Ledger.{amount_in}
 use Rattle.ledger_slip.proofs.amount.Goals as goal
 

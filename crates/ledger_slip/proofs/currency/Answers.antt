@@ -1,5 +1,5 @@
 -- `ledger_slip::currency` meets its contract: each return is the definition's choice on the test that led there. Assumes nothing.
-use Rattle.refusal.proofs.Basics.{refl, sym, ap, ◌∙◌, rules, taken, left}
+use Rattle.refusal.proofs.Basics.{refl, sym, ap, ◌∙◌, taken, left}
 use Rattle.text.specs.Bytes.{same}
 use Rattle.slip_fields.specs.declared.Currency.TheVariants.{Kuna}
 use Rattle.slip_fields.specs.Fields.{currency_text}

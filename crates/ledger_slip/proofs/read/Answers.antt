@@ -1,5 +1,5 @@
 -- `ledger_slip::read` meets its contract: an accepted slip's third field has fifteen digits. Assumes nothing.
-use Rattle.refusal.proofs.Basics.{sym, ap, ◌∙◌, rules}
+use Rattle.refusal.proofs.Basics.{sym, ap, ◌∙◌}
 use Rattle.sums.specs.Sums.{number_in}
 use Rattle.slip_fields.specs.declared.Currency.{Currency}
 use Rattle.slip.specs.Slip.{slip_answer_in}

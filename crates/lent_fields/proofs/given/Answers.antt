@@ -1,5 +1,5 @@
 -- `lent_fields::given` meets its contract: a field is the front of the text behind those before it. Assumes nothing.
-use Rattle.refusal.proofs.Basics.{◌∙◌, rules}
+use Rattle.refusal.proofs.Basics.{◌∙◌}
 use Rattle.lent_fields.proofs.Laws.{front_behind}
 use Rattle.lent_fields.proofs.given.Goals as goal
 

@@ -1,7 +1,7 @@
 -- `lent_fields::is_lent_whole` meets its contract. The loop's invariant: the fields that are left are asked for what is left of the text. Assumes nothing.
-use Rattle.refusal.proofs.Basics.{◌≡◌, sym, ◌∙◌, rules, arith, ◌≤◌, ◌-◌, length}
+use Rattle.refusal.proofs.Basics.{◌≡◌, sym, ◌∙◌, arith, ◌-◌}
 use Rattle.lent_fields.specs.Fields.{lent_whole}
-use Rattle.lent_fields.proofs.Laws.{SizedFrom, sized_last, sized_past, sized_short, sized_on}
+use Rattle.lent_fields.proofs.Laws.{sized_last, sized_past, sized_short, sized_on}
 use Rattle.lent_fields.proofs.is_lent_whole.Goals as goal
 
 pub loop-i-init : goal.loop-i-init

@@ -1,8 +1,7 @@
 -- `lent_fields::text_behind` meets its contract. The loop's invariant: the text behind what is left of the fields is that behind all. Assumes nothing.
-use Rattle.refusal.proofs.Basics.{◌≡◌, sym, ◌∙◌, rules, arith, ◌≤◌, ◌-◌, length, take}
+use Rattle.refusal.proofs.Basics.{sym, ◌∙◌, arith}
 use Rattle.text.proofs.Laws.{to_the_end}
-use Rattle.lent_fields.specs.Fields.{behind}
-use Rattle.lent_fields.proofs.Laws.{Behind, behind_last, behind_past, behind_on, field_ends}
+use Rattle.lent_fields.proofs.Laws.{behind_last, behind_past, behind_on, field_ends}
 use Rattle.lent_fields.proofs.text_behind.Goals as goal
 
 pub returns-then-fields-i : goal.returns-then-fields-i

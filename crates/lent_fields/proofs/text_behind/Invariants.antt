@@ -1,8 +1,7 @@
 -- `lent_fields::text_behind` meets its contract. The loop's invariant: the text behind what is left of the fields is that behind all. Assumes nothing.
-use Rattle.refusal.proofs.Basics.{◌≡◌, sym, ◌∙◌, rules, arith, ◌≤◌, ◌-◌, length, take}
-use Rattle.text.proofs.Laws.{to_the_end}
+use Rattle.refusal.proofs.Basics.{◌≡◌, ◌≤◌, ◌-◌, length, take}
 use Rattle.lent_fields.specs.Fields.{behind}
-use Rattle.lent_fields.proofs.Laws.{Behind, behind_last, behind_past, behind_on, field_ends}
+use Rattle.lent_fields.proofs.Laws.{Behind}
 use Rattle.lent_fields.proofs.text_behind.Given as goal
 
 abbrev pub invariant-loop-i : goal.invariant-loop-i

@@ -1,7 +1,6 @@
 -- `line::fed` meets its contract. The loop's invariant: what the whole leads to is what the rest from here leads to. Assumes nothing.
-use Rattle.refusal.proofs.Basics.{◌≡◌, refl, sym, ◌∙◌, arith, ◌≤◌, ◌-◌, length, drop}
+use Rattle.refusal.proofs.Basics.{◌≡◌, ◌≤◌, ◌-◌, length, drop}
 use Rattle.line.specs.Mirror.{feed, kept_of}
-use Rattle.line.proofs.Laws.{feed_on, feed_ended, feed_ends, whole}
 use Rattle.line.proofs.fed.Given as goal
 
 abbrev pub invariant-loop-i : goal.invariant-loop-i

@@ -1,5 +1,5 @@
 -- `line::took_byte` meets its contract: each return is the definition's choice on the tests that led there. Assumes nothing.
-use Rattle.refusal.proofs.Basics.{◌∙◌, rules, eq-eqb, ne_eqb}
+use Rattle.refusal.proofs.Basics.{◌∙◌, eq-eqb, ne_eqb}
 use Rattle.line.specs.Mirror.{kept_of}
 use Rattle.line.proofs.Laws.{took_ended, took_feed, took_behind, took_space, took_ahead}
 use Rattle.line.proofs.took_byte.Goals as goal

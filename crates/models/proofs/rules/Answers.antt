@@ -1,6 +1,6 @@
 -- `models::rules` meets its contract: each arm says the number, and its model is the definition's at that number.
 -- Assumes nothing.
-use Rattle.refusal.proofs.Basics.{◌≡◌, ◌∙◌, rules, arith, ℕ, ne_eqb}
+use Rattle.refusal.proofs.Basics.{◌≡◌, ◌∙◌, arith, ℕ, ne_eqb}
 use Rattle.models.specs.Models.{special_of, model_of}
 use Rattle.models.proofs.rules.Goals as goal
 

@@ -1,6 +1,6 @@
 -- `models::special` meets its contract: each arm says the number, and its model is the definition's at that number.
 -- Assumes nothing.
-use Rattle.refusal.proofs.Basics.{rules, ne_eqb}
+use Rattle.refusal.proofs.Basics.{ne_eqb}
 use Rattle.models.specs.Models.{special_of}
 use Rattle.models.proofs.special.Goals as goal
 

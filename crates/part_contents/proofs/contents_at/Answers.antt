@@ -1,5 +1,5 @@
 -- `part_contents::contents_at` meets its contract: a model asks two things, if any, and of enough parts. Assumes nothing.
-use Rattle.refusal.proofs.Basics.{◌≡◌, sym, ◌∙◌, rules, length, Bool, eq-eqb, ne_eqb, not-true, not-false, and_first, and_second, or_first, or_second}
+use Rattle.refusal.proofs.Basics.{◌≡◌, sym, ◌∙◌, rules, length, Bool, ne_eqb, not-true, not-false, and_first, and_second, or_second}
 use Rattle.models.specs.declared.Asked.{Asked}
 use Rattle.models.specs.Models.{free}
 use Rattle.models.specs.Every.{every}

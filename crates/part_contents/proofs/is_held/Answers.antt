@@ -1,5 +1,4 @@
 -- `part_contents::is_held` meets its contract: the definition's choice on what is asked. Assumes nothing.
-use Rattle.refusal.proofs.Basics.{rules}
 use Rattle.part_contents.specs.Contents.{holds}
 use Rattle.part_contents.proofs.is_held.Goals as goal
 

@@ -1,5 +1,5 @@
 -- The two readers of references meet their contracts, each over the other. Assumes nothing.
-use Rattle.refusal.proofs.Basics.{◌≡◌, refl, sym, ap, ◌∙◌, rules, arith, ℕ, ◌+◌, ◌-◌, ◌≤◌, ◌<◌, length, take, drop, length-drop, lt-ltb, le-ltb, le-leb, lt-leb, add-zero, left, entered, and_first, and_second}
+use Rattle.refusal.proofs.Basics.{refl, sym, ap, ◌∙◌, arith, ℕ, ◌+◌, ◌-◌, length, take, drop, length-drop, lt-ltb, le-ltb, le-leb, lt-leb, add-zero, left, entered, and_first, and_second}
 use Rattle.text.specs.Split.{split}
 use Rattle.text.proofs.Laws.{to_the_end}
 use Rattle.parts.specs.Mirror.{digit_read}

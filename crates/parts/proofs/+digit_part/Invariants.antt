@@ -1,5 +1,5 @@
 -- The measures of the two readers, the bytes that are left, and the digit reader's invariant: the whole answer is that of what is left.
-use Rattle.refusal.proofs.Basics.{◌≡◌, ℕ, ◌+◌, ◌-◌, ◌≤◌, length, drop}
+use Rattle.refusal.proofs.Basics.{◌≡◌, ◌+◌, ◌-◌, ◌≤◌, length, drop}
 use Rattle.text.specs.Split.{split}
 use Rattle.parts.specs.Mirror.{digit_read}
 use Rattle.parts.proofs.+digit_part.Given as goal

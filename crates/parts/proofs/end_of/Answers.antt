@@ -1,5 +1,5 @@
 -- `parts::end_of` meets its contract: ten bits for each end; a power of 1024 above the sixth is beyond every number. Assumes nothing.
-use Rattle.refusal.proofs.Basics.{◌≡◌, refl, sym, ap, ◌∙◌, rules, arith, ℕ, zero, suc, ◌*◌, ◌^◌, ◌≤◌, pow-le-pow_right, pow-suc, mul-suc, div-eq_of_lt}
+use Rattle.refusal.proofs.Basics.{◌≡◌, refl, sym, ap, ◌∙◌, arith, ℕ, zero, suc, ◌*◌, ◌^◌, ◌≤◌, pow-le-pow_right, pow-suc, mul-suc, div-eq_of_lt}
 use lib.Pow.{pow-add}
 use Rattle.parts.proofs.end_of.Goals as goal
 

@@ -1,10 +1,9 @@
 -- `reference::judged` meets its contract: 7 where the model is not handled; what is found has no byte for 3, and is judged by what its parts hold and by its groups;
 -- what is not fails by 3, 4 or 8.
 -- Assumes nothing.
-use Rattle.refusal.proofs.Basics.{refl, sym, ◌∙◌, rules, lt-leb, le-leb, not-true, not-false, taken, left}
-use Rattle.verdict.proofs.Verdicts.{refused, passed, failed, met}
-use Rattle.parts.proofs.Laws.{found_none}
-use Rattle.reference.proofs.Laws.{found_bare, found_long, found_wrong, found_judged, unformed_judged}
+use Rattle.refusal.proofs.Basics.{refl, sym, ◌∙◌, not-true, not-false, taken, left}
+use Rattle.verdict.proofs.Verdicts.{met}
+use Rattle.reference.proofs.Laws.{found_bare, found_long, found_wrong, found_judged}
 use Rattle.reference.proofs.judged.Goals as goal
 
 pub returns-then-s-eq0 : goal.returns-then-s-eq0

@@ -1,7 +1,7 @@
 -- `reference::obeys` meets its contract: what is found is judged by its groups, and what is not does not obey. Assumes nothing.
-use Rattle.refusal.proofs.Basics.{◌≡◌, sym, ◌∙◌, rules, arith, ◌≤◌, length, and_first}
+use Rattle.refusal.proofs.Basics.{◌≡◌, sym, ◌∙◌, rules, arith, ◌≤◌, length}
 use Rattle.parts.proofs.Pieces.{Bytes, formed_short}
-use Rattle.parts.proofs.Laws.{found_none, found_formed}
+use Rattle.parts.proofs.Laws.{found_formed}
 use Rattle.reference.proofs.Laws.{found_obeys}
 use Rattle.reference.proofs.obeys.Goals as goal
 

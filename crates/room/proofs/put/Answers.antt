@@ -1,6 +1,6 @@
 -- `room::put` meets its contract. The loop's invariant: what is left of the text makes up the whole. Assumes nothing.
-use Rattle.refusal.proofs.Basics.{◌≡◌, refl, arith, ◌≤◌, ◌-◌, length, drop, length-set, sets}
-use Rattle.room.proofs.Laws.{copied_more, copied_all, copied_full}
+use Rattle.refusal.proofs.Basics.{arith, sets}
+use Rattle.room.proofs.Laws.{copied_full}
 use Rattle.room.proofs.put.Goals as goal
 
 pub returns-then-out-next : goal.returns-then-out-next

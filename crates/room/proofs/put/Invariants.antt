@@ -1,6 +1,5 @@
 -- `room::put` meets its contract. The loop's invariant: what is left of the text makes up the whole. Assumes nothing.
-use Rattle.refusal.proofs.Basics.{◌≡◌, refl, arith, ◌≤◌, ◌-◌, length, drop, length-set, sets}
-use Rattle.room.proofs.Laws.{copied_more, copied_all, copied_full}
+use Rattle.refusal.proofs.Basics.{◌≡◌, ◌≤◌, ◌-◌, length, drop, sets}
 use Rattle.room.proofs.put.Given as goal
 
 abbrev pub invariant-loop-i : goal.invariant-loop-i

@@ -1,7 +1,6 @@
 -- `room::put_digits` meets its contract. The loop's invariant: the digits left make up the whole. Assumes nothing.
-use Rattle.refusal.proofs.Basics.{◌≡◌, refl, sym, ap, ◌∙◌, arith, ◌+◌, ◌-◌, ◌%◌, length, set, length-set, sets, set_out, ⊎_elim}
+use Rattle.refusal.proofs.Basics.{◌≡◌, length, sets}
 use Rattle.text.specs.Digits.{digits_text}
-use Rattle.room.proofs.Laws.{sets_past, digit_more, digits_all}
 use Rattle.room.proofs.put_digits.Given as goal
 
 abbrev pub invariant-loop-i : goal.invariant-loop-i

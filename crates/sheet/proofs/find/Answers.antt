@@ -1,5 +1,5 @@
 -- `sheet::find` meets its contract: each return is the definition's choice on the tests that led there. Assumes nothing.
-use Rattle.refusal.proofs.Basics.{rules, eq-eqb, ne_eqb, lt-ltb, le-ltb}
+use Rattle.refusal.proofs.Basics.{eq-eqb, ne_eqb, lt-ltb, le-ltb}
 use Rattle.sheet.specs.Mirror.{held_in}
 use Rattle.sheet.proofs.find.Goals as goal
 

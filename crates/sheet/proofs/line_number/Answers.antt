@@ -1,5 +1,5 @@
 -- `sheet::line_number` meets its contract: each return is the definition's choice on the tests that led there. Assumes nothing.
-use Rattle.refusal.proofs.Basics.{arith, rules, ◌≤◌, length, eq-eqb, ne_eqb, get_or-eq_default}
+use Rattle.refusal.proofs.Basics.{arith, ◌≤◌, length, eq-eqb, ne_eqb, get_or-eq_default}
 use Rattle.sheet.specs.Sheet.{line_number}
 use Rattle.sheet.proofs.line_number.Goals as goal
 

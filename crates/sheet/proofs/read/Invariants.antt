@@ -1,6 +1,6 @@
 -- `sheet::read` meets its contract. The loop's invariant: what reading the sheet finds is what the lines from `at` on add. Assumes nothing.
-use Rattle.refusal.proofs.Basics.{sym, ◌∙◌, rules, arith, ◌+◌, ◌-◌, ◌≤◌, ◌<◌, length}
-use Rattle.sheet.proofs.Laws.{Reached, reached_first, reached_ends, reached_number, reached_bad, reached_next, reached_open, reached_last}
+use Rattle.refusal.proofs.Basics.{◌-◌, length}
+use Rattle.sheet.proofs.Laws.{Reached}
 use Rattle.sheet.proofs.read.Given as goal
 
 abbrev pub invariant-loop-i : goal.invariant-loop-i

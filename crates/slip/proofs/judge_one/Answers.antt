@@ -1,5 +1,5 @@
 -- `slip::judge_one` meets its contract: a 3's byte lies within the field, so that its place in the slip fits. Assumes nothing.
-use Rattle.refusal.proofs.Basics.{rules, arith, length}
+use Rattle.refusal.proofs.Basics.{arith, length}
 use Rattle.verdict.proofs.Verdicts.{byte_within}
 use Rattle.slip_fields.proofs.Theorems.{field_within}
 use Rattle.slip.proofs.judge_one.Goals as goal

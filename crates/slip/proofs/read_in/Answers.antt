@@ -1,5 +1,5 @@
 -- `slip::read_in` meets its contract: each return is the definition's choice on the tests that led there. Assumes nothing.
-use Rattle.refusal.proofs.Basics.{sym, ◌∙◌, rules, not-true, not-false}
+use Rattle.refusal.proofs.Basics.{sym, ◌∙◌, not-true, not-false}
 use Rattle.slip.proofs.Laws.{too_long, ends_wrong, fields_judged}
 use Rattle.slip.proofs.read_in.Goals as goal
 

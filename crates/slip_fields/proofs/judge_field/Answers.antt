@@ -1,6 +1,6 @@
 -- `slip_fields::judge_field` meets its contract: each arm says the number, and its answer is the definition's at that number.
 -- Assumes nothing.
-use Rattle.refusal.proofs.Basics.{rules, ne_eqb}
+use Rattle.refusal.proofs.Basics.{ne_eqb}
 use Rattle.slip_fields.specs.Fields.{field_verdict}
 use Rattle.slip_fields.proofs.judge_field.Goals as goal
 

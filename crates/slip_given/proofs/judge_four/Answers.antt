@@ -1,5 +1,5 @@
 -- `slip_writer::judge_four` meets its contract: the first refusal stands. Assumes nothing.
-use Rattle.refusal.proofs.Basics.{rules, [], ◌∷◌}
+use Rattle.refusal.proofs.Basics.{[], ◌∷◌}
 use Rattle.slip_given.specs.Given.{three}
 use Rattle.slip_given.proofs.Laws.{refused_first, accepted_next}
 use Rattle.slip_given.proofs.judge_four.Goals as goal

@@ -1,5 +1,5 @@
 -- `slip_writer::judge_given` meets its contract: the first refusal stands. Assumes nothing.
-use Rattle.refusal.proofs.Basics.{rules, [], ◌++◌}
+use Rattle.refusal.proofs.Basics.{[], ◌++◌}
 use Rattle.slip_given.specs.Given.{three, four}
 use Rattle.slip_given.proofs.Laws.{refused_first, accepted_next}
 use Rattle.slip_given.proofs.judge_given.Goals as goal

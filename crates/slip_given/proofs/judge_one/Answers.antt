@@ -1,5 +1,5 @@
 -- `slip_writer::judge_one` meets its contract: a 3 keeps its byte. Assumes nothing.
-use Rattle.refusal.proofs.Basics.{◌∙◌, rules}
+use Rattle.refusal.proofs.Basics.{◌∙◌}
 use Rattle.slip_given.proofs.Laws.{one_given}
 use Rattle.slip_given.proofs.judge_one.Goals as goal
 

@@ -1,5 +1,5 @@
 -- `slip_writer::judge_three` meets its contract: the first refusal stands. Assumes nothing.
-use Rattle.refusal.proofs.Basics.{◌≡◌, rules, arith, ◌+◌, [], ◌∷◌}
+use Rattle.refusal.proofs.Basics.{◌≡◌, arith, ◌+◌, [], ◌∷◌}
 use Rattle.slip_given.proofs.Laws.{refused_first, accepted_next}
 use Rattle.slip_given.proofs.judge_three.Goals as goal
 

@@ -1,5 +1,5 @@
 -- `slip_handed::cents` meets its contract: an accepted slip's third field has fifteen digits. Assumes nothing.
-use Rattle.refusal.proofs.Basics.{sym, ap, ◌∙◌, rules}
+use Rattle.refusal.proofs.Basics.{sym, ap, ◌∙◌}
 use Rattle.sums.specs.Sums.{number_in}
 use Rattle.slip_fields.specs.declared.Currency.TheVariants.{Euro}
 use Rattle.slip_handed.specs.declared.Amount.TheVariants.{Cents}

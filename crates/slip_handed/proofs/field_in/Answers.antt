@@ -1,5 +1,5 @@
 -- `slip_handed::field_in` meets its contract: the bytes of the field's part. Assumes nothing.
-use Rattle.refusal.proofs.Basics.{◌∙◌, rules}
+use Rattle.refusal.proofs.Basics.{◌∙◌}
 use Rattle.slip_handed.proofs.Laws.{field_stands}
 use Rattle.slip_handed.proofs.field_in.Goals as goal
 

@@ -1,5 +1,5 @@
 -- `slip::first_length` meets its contract: the scan divides the text. Assumes nothing.
-use Rattle.refusal.proofs.Basics.{sym, ◌∙◌, rules, arith, length-take-le}
+use Rattle.refusal.proofs.Basics.{sym, ◌∙◌, arith, length-take-le}
 use Rattle.slip.specs.Slip.{piece_of}
 use Rattle.text.proofs.Pieces.{split_at, split_whole}
 use Rattle.slip_handed.proofs.first_length.Goals as goal

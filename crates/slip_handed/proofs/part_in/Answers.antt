@@ -1,5 +1,5 @@
 -- `slip_handed::part_in` meets its contract: each return is the definition's choice on the tests that led there. Assumes nothing.
-use Rattle.refusal.proofs.Basics.{sym, ◌∙◌, rules, not-true, not-false, lt-leb, le-leb}
+use Rattle.refusal.proofs.Basics.{sym, ◌∙◌, not-true, not-false, lt-leb, le-leb}
 use Rattle.slip_handed.proofs.Laws.{not_handed, handed}
 use Rattle.slip_handed.proofs.part_in.Goals as goal
 

@@ -1,10 +1,8 @@
 -- `slip::piece` meets its contract. The loop's invariant: the piece is the one that is left to count, of what is left from `at` on.
 -- Assumes nothing.
-use Rattle.refusal.proofs.Basics.{◌≡◌, sym, ◌∙◌, rules, arith, ◌≤◌, length, drop}
-use Rattle.text.specs.Split.{split}
+use Rattle.refusal.proofs.Basics.{sym, ◌∙◌, arith}
 use Rattle.text.proofs.Pieces.{next_piece_lem}
-use Rattle.slip_handed.specs.Handed.{piece_part}
-use Rattle.slip_handed.proofs.Laws.{behind, behind_none, piece_again, piece_none, piece_here}
+use Rattle.slip_handed.proofs.Laws.{piece_again, piece_none, piece_here}
 use Rattle.slip_handed.proofs.piece.Goals as goal
 
 pub overflow_add-at : goal.overflow_add-at

@@ -1,5 +1,5 @@
 -- `slip_handed::piece_text` meets its contract: the bytes of the piece's part. Assumes nothing.
-use Rattle.refusal.proofs.Basics.{◌∙◌, rules}
+use Rattle.refusal.proofs.Basics.{◌∙◌}
 use Rattle.slip_handed.proofs.Laws.{piece_stands}
 use Rattle.slip_handed.proofs.piece_text.Goals as goal
 

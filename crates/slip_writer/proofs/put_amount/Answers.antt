@@ -1,5 +1,5 @@
 -- `slip_writer::put_amount` meets its contract. Assumes nothing.
-use Rattle.refusal.proofs.Basics.{rules, arith}
+use Rattle.refusal.proofs.Basics.{arith}
 use Rattle.room.proofs.Digits.{digits_length}
 use Rattle.slip_writer.proofs.put_amount.Goals as goal
 

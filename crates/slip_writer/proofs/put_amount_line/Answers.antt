@@ -1,5 +1,5 @@
 -- `slip_writer::put_amount_line` meets its contract. Assumes nothing.
-use Rattle.refusal.proofs.Basics.{rules, arith}
+use Rattle.refusal.proofs.Basics.{arith}
 use Rattle.text.specs.Digits.{digits_text}
 use Rattle.room.proofs.Digits.{digits_length}
 use Rattle.slip_writer.proofs.Laws.{line_length, line_stands, room_feed}

@@ -1,5 +1,5 @@
 -- `slip_writer::put_four` meets its contract: a line, and three behind it. Assumes nothing.
-use Rattle.refusal.proofs.Basics.{rules, [], ◌∷◌}
+use Rattle.refusal.proofs.Basics.{[], ◌∷◌}
 use Rattle.slip_given.specs.Given.{three}
 use Rattle.slip_writer.proofs.Laws.{room_first, room_next, lines_stand}
 use Rattle.slip_writer.proofs.put_four.Goals as goal

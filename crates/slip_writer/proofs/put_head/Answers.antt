@@ -1,5 +1,5 @@
 -- `slip_writer::put_head` meets its contract: one line behind another. Assumes nothing.
-use Rattle.refusal.proofs.Basics.{rules, [], ◌∷◌}
+use Rattle.refusal.proofs.Basics.{[], ◌∷◌}
 use Rattle.text.specs.Bytes.{eur}
 use Rattle.text.specs.Digits.{digits_text}
 use Rattle.slip_fields.specs.Fields.{hrvhub30}

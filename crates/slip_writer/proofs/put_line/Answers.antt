@@ -1,5 +1,5 @@
 -- `slip_writer::put_line` meets its contract. Assumes nothing.
-use Rattle.refusal.proofs.Basics.{rules, arith}
+use Rattle.refusal.proofs.Basics.{arith}
 use Rattle.slip_writer.proofs.Laws.{line_length, line_stands, room_feed}
 use Rattle.slip_writer.proofs.put_line.Goals as goal
 

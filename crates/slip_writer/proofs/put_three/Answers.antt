@@ -1,5 +1,5 @@
 -- `slip_writer::put_three` meets its contract: one line behind another. Assumes nothing.
-use Rattle.refusal.proofs.Basics.{rules, [], ◌∷◌}
+use Rattle.refusal.proofs.Basics.{[], ◌∷◌}
 use Rattle.slip_writer.proofs.Laws.{room_first, room_next, lines_stand}
 use Rattle.slip_writer.proofs.put_three.Goals as goal
 

@@ -1,5 +1,5 @@
 -- `slip_writer::size_four` meets its contract. Assumes nothing.
-use Rattle.refusal.proofs.Basics.{rules, arith}
+use Rattle.refusal.proofs.Basics.{arith}
 use Rattle.slip_given.specs.Given.{three}
 use Rattle.slip_writer.proofs.Laws.{lines_length}
 use Rattle.slip_writer.proofs.size_four.Goals as goal

@@ -1,5 +1,5 @@
 -- `slip_writer::size_three` meets its contract. Assumes nothing.
-use Rattle.refusal.proofs.Basics.{rules, arith}
+use Rattle.refusal.proofs.Basics.{arith}
 use Rattle.slip_writer.proofs.Laws.{three_length}
 use Rattle.slip_writer.proofs.size_three.Goals as goal
 

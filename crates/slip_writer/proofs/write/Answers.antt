@@ -1,5 +1,4 @@
 -- `slip_writer::write` meets its contract: the amount, the fields in their order, then the room. Assumes nothing.
-use Rattle.refusal.proofs.Basics.{rules}
 use Rattle.slip_given.specs.Given.{eleven}
 use Rattle.slip_writer.proofs.Laws.{amount_refused, field_refused, fields_accepted}
 use Rattle.slip_writer.proofs.Sizes.{accepted_small}

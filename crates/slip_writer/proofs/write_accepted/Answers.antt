@@ -1,5 +1,5 @@
 -- `slip_writer::write_accepted` meets its contract: the slip is its head and its fields in three parts. Assumes nothing.
-use Rattle.refusal.proofs.Basics.{◌≡◌, refl, rules, arith, ℕ, ◌+◌, ◌≤◌, length, List, ◌++◌}
+use Rattle.refusal.proofs.Basics.{◌≡◌, refl, arith, ℕ, ◌+◌, ◌≤◌, length, ◌++◌}
 use Rattle.text.proofs.Stands.{front_stands}
 use Rattle.slip_given.specs.Given.{three, four}
 use Rattle.text.specs.Lines.{join_lines}

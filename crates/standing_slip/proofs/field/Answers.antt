@@ -1,5 +1,5 @@
 -- `standing_slip::field` meets its contract: as it is given, or what the sheets supply. Assumes nothing.
-use Rattle.refusal.proofs.Basics.{sym, ap, ◌∙◌, rules, length, not-true, not-false}
+use Rattle.refusal.proofs.Basics.{sym, ap, ◌∙◌, length, not-true, not-false}
 use Rattle.standing_slip.proofs.Laws.{field_given, field_alone, field_supplied}
 use Rattle.standing_slip.proofs.field.Goals as goal
 

@@ -1,5 +1,5 @@
 -- `standing_slip::write` meets its contract: the sizes, then both sheets, then the writer. Assumes nothing.
-use Rattle.refusal.proofs.Basics.{◌≡◌, sym, ◌∙◌, rules, not-true, not-false}
+use Rattle.refusal.proofs.Basics.{◌≡◌, sym, ◌∙◌, not-true, not-false}
 use Rattle.standing_text.specs.Standing.{both_judged}
 use Rattle.standing_text.proofs.Laws.{found_judged}
 use Rattle.standing_slip.proofs.Laws.{unsized, sheets_refused, sheets_right}

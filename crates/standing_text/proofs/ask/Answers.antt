@@ -1,5 +1,5 @@
 -- `standing_text::ask` meets its contract: 28, then 20, then what the sheets supply. Assumes nothing.
-use Rattle.refusal.proofs.Basics.{◌≡◌, sym, ◌∙◌, rules, not-true, not-false}
+use Rattle.refusal.proofs.Basics.{◌≡◌, sym, ◌∙◌, not-true, not-false}
 use Rattle.standing_text.specs.Standing.{both_judged}
 use Rattle.standing_text.proofs.Laws.{found_judged, not_standing, sheets_refused, sheets_right}
 use Rattle.standing_text.proofs.ask.Goals as goal

@@ -1,5 +1,4 @@
 -- `standing_text::bytes_in` meets its contract: the arm says which sheet it is. Assumes nothing.
-use Rattle.refusal.proofs.Basics.{rules}
 use Rattle.standing_text.specs.Standing.{bytes_from}
 use Rattle.standing_text.proofs.bytes_in.Goals as goal
 

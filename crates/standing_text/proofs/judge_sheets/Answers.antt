@@ -1,5 +1,5 @@
 -- `standing_text::judge_sheets` meets its contract: each return is the definition's choice on the tests that led there. Assumes nothing.
-use Rattle.refusal.proofs.Basics.{rules, ne_eqb}
+use Rattle.refusal.proofs.Basics.{ne_eqb}
 use Rattle.standing_text.specs.Standing.{sheets_judged}
 use Rattle.standing_text.proofs.judge_sheets.Goals as goal
 

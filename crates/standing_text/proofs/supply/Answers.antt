@@ -1,5 +1,5 @@
 -- `standing_text::supply` meets its contract: the arms say which sheet has the line. Assumes nothing.
-use Rattle.refusal.proofs.Basics.{sym, ◌∙◌, rules}
+use Rattle.refusal.proofs.Basics.{sym, ◌∙◌}
 use Rattle.standing_text.specs.Standing.{supplied_by}
 use Rattle.standing_text.proofs.supply.Goals as goal
 

@@ -1,5 +1,5 @@
 -- `stretches::stretch` meets its contract: up to the end of the part, or of the text. Assumes nothing.
-use Rattle.refusal.proofs.Basics.{sym, ◌∙◌, rules, ne_eqb}
+use Rattle.refusal.proofs.Basics.{sym, ◌∙◌, ne_eqb}
 use Rattle.stretches.specs.Mirror.{stretch}
 use Rattle.stretches.proofs.stretch.Goals as goal
 

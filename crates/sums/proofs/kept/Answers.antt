@@ -1,5 +1,5 @@
 -- `sums::kept` meets its contract: the limit is reached where the high parts reach it. Assumes nothing.
-use Rattle.refusal.proofs.Basics.{refl, rules, arith, ◌+◌, ◌*◌}
+use Rattle.refusal.proofs.Basics.{refl, arith, ◌+◌, ◌*◌}
 use Rattle.sums.specs.Sums.{limb}
 use Rattle.sums.proofs.Laws.{sum_large, sum_of_parts}
 use Rattle.sums.proofs.kept.Goals as goal

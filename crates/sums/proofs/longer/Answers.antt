@@ -1,7 +1,6 @@
 -- `sums::longer` meets its contract: the tests say whether the byte is a digit. Assumes nothing.
 use Rattle.classes.proofs.Laws.{no_digit_below, no_digit_above, digit_between}
 use Rattle.text.proofs.Values.{value_skips, value_takes}
-use Rattle.refusal.proofs.Basics.{rules}
 use Rattle.sums.proofs.longer.Goals as goal
 
 pub returns-then-b-lt48 : goal.returns-then-b-lt48

@@ -1,7 +1,5 @@
 -- `sums::number` meets its contract. The loop's invariant: the number of the first eighteen bytes is that of `v` and the rest from here. Assumes nothing.
-use Rattle.refusal.proofs.Basics.{◌≡◌, refl, sym, ◌∙◌, rules, arith, ◌≤◌, ◌<◌, ◌-◌, ◌^◌, length, take, drop, get_or, length-take, get_or-take}
-use Rattle.text.specs.Digits.{digits_of, value_from}
-use Rattle.sums.specs.Sums.{number_in}
+use Rattle.refusal.proofs.Basics.{sym, ◌∙◌, arith, take, get_or, length-take, get_or-take}
 use Rattle.text.proofs.Values.{value_grows, value_small, value_on, value_ends}
 use Rattle.sums.proofs.number.Goals as goal
 

@@ -1,8 +1,7 @@
 -- `sums::number` meets its contract. The loop's invariant: the number of the first eighteen bytes is that of `v` and the rest from here. Assumes nothing.
-use Rattle.refusal.proofs.Basics.{◌≡◌, refl, sym, ◌∙◌, rules, arith, ◌≤◌, ◌<◌, ◌-◌, ◌^◌, length, take, drop, get_or, length-take, get_or-take}
+use Rattle.refusal.proofs.Basics.{◌≡◌, ◌≤◌, ◌<◌, ◌-◌, ◌^◌, length, take, drop}
 use Rattle.text.specs.Digits.{digits_of, value_from}
 use Rattle.sums.specs.Sums.{number_in}
-use Rattle.text.proofs.Values.{value_grows, value_small, value_on, value_ends}
 use Rattle.sums.proofs.number.Given as goal
 
 abbrev pub invariant-loop-i : goal.invariant-loop-i

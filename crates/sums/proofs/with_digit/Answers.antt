@@ -1,10 +1,10 @@
 -- `sums::with_digit` meets its contract: the tests say whether the byte is a digit, and whether ten times the high part may be below the limit. Assumes nothing.
-use Rattle.refusal.proofs.Basics.{ap, ◌∙◌, rules, arith, ◌-◌, [], ◌∷◌, add-zero}
+use Rattle.refusal.proofs.Basics.{ap, ◌∙◌, arith, ◌-◌, [], ◌∷◌, add-zero}
 use Rattle.text.specs.Digits.{digits_of, value_from}
 use Rattle.classes.proofs.Laws.{no_digit_below, no_digit_above, digit_between}
 use Rattle.text.proofs.Values.{value_skips, value_takes}
 use Rattle.sums.specs.Sums.{cents_of, sum_of}
-use Rattle.sums.proofs.Laws.{sum_large, carried_digit, low_small}
+use Rattle.sums.proofs.Laws.{sum_large, carried_digit}
 use Rattle.sums.proofs.with_digit.Goals as goal
 
 pub returns-then-b-lt48 : goal.returns-then-b-lt48

@@ -1,5 +1,5 @@
 -- `sums::written` meets its contract. The loop's invariant: the sum is that of the digits up to here. Assumes nothing.
-use Rattle.refusal.proofs.Basics.{◌≡◌, sym, ap, ◌∙◌, rules, arith, ℕ, ◌≤◌, ◌-◌, length, take, get_or, List, [], ◌∷◌, take_all}
+use Rattle.refusal.proofs.Basics.{sym, ap, ◌∙◌, arith, take, get_or, [], ◌∷◌}
 use Rattle.text.specs.Digits.{digits_of, value_from}
 use Rattle.sums.specs.declared.Sum.{Sum}
 use Rattle.sums.specs.Sums.{cents_of, sum_of, number_of}

@@ -1,7 +1,6 @@
 -- `text::all_described` meets its contract. The loop's invariant: the answer is the test so far and that of what is left from `i` on.
 -- Assumes nothing.
-use Rattle.refusal.proofs.Basics.{◌≡◌, refl, sym, ◌∙◌, arith, ◌≤◌, ◌-◌, length, drop, ◌&&◌}
-use Rattle.text.specs.Bytes.{all_of}
+use Rattle.refusal.proofs.Basics.{sym, ◌∙◌, arith}
 use Rattle.classes.specs.declared.Class.TheVariants.{Description}
 use Rattle.text.proofs.Laws.{tested_on, tested_all}
 use Rattle.text.proofs.all_described.Goals as goal

@@ -1,8 +1,7 @@
 -- `text::all_of` meets its contract: a class that permits the bytes between two by `all_within`; of another, every byte is permitted where
 -- nothing was found. Assumes nothing.
-use Rattle.refusal.proofs.Basics.{refl, sym, ap, ◌∙◌, rules}
-use Rattle.classes.specs.declared.Class.TheVariants.{Digits, Letters, Zeros}
-use Rattle.text.proofs.Laws.{is_nothing, all_of_nothing, alone_between}
+use Rattle.refusal.proofs.Basics.{sym, ap, ◌∙◌}
+use Rattle.text.proofs.Laws.{is_nothing, all_of_nothing}
 use Rattle.text.proofs.all_of.Goals as goal
 
 pub returns-in-At : goal.returns-in-At

@@ -1,9 +1,6 @@
 -- `text::all_within` meets its contract. The loop's invariant: for a class that permits just the bytes between the two, the answer is the
 -- test so far and that of what is left from `i` on. Assumes nothing.
-use Rattle.refusal.proofs.Basics.{◌≡◌, refl, sym, ◌∙◌, arith, ℕ, ◌≤◌, ◌-◌, length, drop, get_or, lt-leb, le-leb, ◌&&◌, leb}
-use Rattle.classes.specs.Classes.{permits}
-use Rattle.text.specs.Bytes.{all_of}
-use Rattle.classes.specs.declared.Class.{Class}
+use Rattle.refusal.proofs.Basics.{sym, ◌∙◌, arith, get_or, lt-leb, le-leb}
 use Rattle.text.proofs.Laws.{all_empty, first_wrong_lem, tested_on, tested_all}
 use Rattle.text.proofs.all_within.Goals as goal
 

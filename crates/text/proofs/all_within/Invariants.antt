@@ -1,10 +1,9 @@
 -- `text::all_within` meets its contract. The loop's invariant: for a class that permits just the bytes between the two, the answer is the
 -- test so far and that of what is left from `i` on. Assumes nothing.
-use Rattle.refusal.proofs.Basics.{◌≡◌, refl, sym, ◌∙◌, arith, ℕ, ◌≤◌, ◌-◌, length, drop, get_or, lt-leb, le-leb, ◌&&◌, leb}
+use Rattle.refusal.proofs.Basics.{◌≡◌, ℕ, ◌≤◌, ◌-◌, length, drop, ◌&&◌, leb}
 use Rattle.classes.specs.Classes.{permits}
 use Rattle.text.specs.Bytes.{all_of}
 use Rattle.classes.specs.declared.Class.{Class}
-use Rattle.text.proofs.Laws.{all_empty, first_wrong_lem, tested_on, tested_all}
 use Rattle.text.proofs.all_within.Given as goal
 
 abbrev pub invariant-loop-i : goal.invariant-loop-i

@@ -1,6 +1,5 @@
 -- `text::count` meets its contract. The loop's invariant: the bytes `c` passed and those left from `i` on make up the whole. Assumes nothing.
-use Rattle.refusal.proofs.Basics.{◌≡◌, sym, ◌∙◌, arith, ◌≤◌, ◌+◌, ◌-◌, length, drop, zero-add}
-use Rattle.text.specs.Bytes.{count_of}
+use Rattle.refusal.proofs.Basics.{sym, ◌∙◌, arith}
 use Rattle.text.proofs.Laws.{count_more, count_same, count_end}
 use Rattle.text.proofs.count.Goals as goal
 

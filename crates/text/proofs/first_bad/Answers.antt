@@ -1,5 +1,5 @@
 -- `text::first_bad` meets its contract: where every byte is a digit none is found. Assumes nothing.
-use Rattle.refusal.proofs.Basics.{refl, sym, ◌∙◌, rules}
+use Rattle.refusal.proofs.Basics.{refl, sym, ◌∙◌}
 use Rattle.classes.specs.declared.Class.TheVariants.{Digits}
 use Rattle.text.proofs.Laws.{none_bad}
 use Rattle.text.proofs.first_bad.Goals as goal

@@ -1,7 +1,7 @@
 -- `text::first_wrong` meets its contract. The loop's invariant: the answer is that of what is left from `i` on. Assumes nothing.
-use Rattle.refusal.proofs.Basics.{◌≡◌, sym, ◌∙◌, arith, ◌≤◌, ◌-◌, length, drop, not-true, not-false}
+use Rattle.refusal.proofs.Basics.{sym, ◌∙◌, arith, not-true, not-false}
 use Rattle.text.specs.Bytes.{first_bad}
-use Rattle.text.proofs.Laws.{shifted, shifted_zero, scan_on, scan_stops, scan_ends}
+use Rattle.text.proofs.Laws.{shifted_zero, scan_on, scan_stops, scan_ends}
 use Rattle.text.proofs.first_wrong.Goals as goal
 
 pub loop-i-init : goal.loop-i-init

@@ -1,6 +1,5 @@
 -- `text::is_same` meets its contract. The loop's invariant: the answer is that of what is left of both from `i` on. Assumes nothing.
-use Rattle.refusal.proofs.Basics.{◌≡◌, refl, sym, ◌∙◌, arith, ◌≤◌, ◌-◌, length, drop}
-use Rattle.text.specs.Bytes.{same}
+use Rattle.refusal.proofs.Basics.{sym, ◌∙◌, arith}
 use Rattle.text.proofs.Same.{same_lengths, same_on, same_stops, same_ends}
 use Rattle.text.proofs.is_same.Goals as goal
 

@@ -1,7 +1,6 @@
 -- `text::is_same` meets its contract. The loop's invariant: the answer is that of what is left of both from `i` on. Assumes nothing.
-use Rattle.refusal.proofs.Basics.{◌≡◌, refl, sym, ◌∙◌, arith, ◌≤◌, ◌-◌, length, drop}
+use Rattle.refusal.proofs.Basics.{◌≡◌, ◌≤◌, ◌-◌, length, drop}
 use Rattle.text.specs.Bytes.{same}
-use Rattle.text.proofs.Same.{same_lengths, same_on, same_stops, same_ends}
 use Rattle.text.proofs.is_same.Given as goal
 
 abbrev pub invariant-loop-i : goal.invariant-loop-i

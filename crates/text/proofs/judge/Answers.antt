@@ -1,5 +1,5 @@
 -- `text::judge` meets its contract: what the scan found. Assumes nothing.
-use Rattle.refusal.proofs.Basics.{sym, ◌∙◌, rules, arith}
+use Rattle.refusal.proofs.Basics.{sym, ◌∙◌, arith}
 use Rattle.text.specs.Bytes.{bytes_verdict}
 use Rattle.text.proofs.Laws.{found_below}
 use Rattle.text.proofs.judge.Goals as goal

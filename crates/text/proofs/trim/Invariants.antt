@@ -1,8 +1,7 @@
 -- `text::trim` meets its contract. The loop's invariant: the text without its last blanks is that of its first `n` bytes.
 -- Assumes nothing.
-use Rattle.refusal.proofs.Basics.{◌≡◌, refl, sym, ap, ◌∙◌, arith, ℕ, ◌≤◌, length, take, take-length, length-take-le}
+use Rattle.refusal.proofs.Basics.{◌≡◌, ◌≤◌, length, take}
 use Rattle.text.specs.Bytes.{trimmed}
-use Rattle.text.proofs.Blanks.{trimmed_back, trimmed_ends, trimmed_nothing}
 use Rattle.text.proofs.trim.Given as goal
 
 abbrev pub invariant-loop-n : goal.invariant-loop-n

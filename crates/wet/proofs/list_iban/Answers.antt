@@ -1,6 +1,6 @@
 -- `wet::list_iban` meets its contract: each refusal is the definition's choice on the tests that led there, and the listing over what is
 -- asked of each filling is that over all that the rules ask. Assumes nothing.
-use Rattle.refusal.proofs.Basics.{refl, sym, ◌∙◌, rules, ne_eqb, eq-eqb, not-true, not-false, left, entered}
+use Rattle.refusal.proofs.Basics.{refl, sym, ◌∙◌, not-false}
 use Rattle.wet.proofs.Accepts.{iban_listed}
 use Rattle.wet.proofs.list_iban.Goals as goal
 

@@ -1,5 +1,5 @@
 -- `wet::list_model` meets its contract: 7, else the listing by what is found of one filling. Assumes nothing.
-use Rattle.refusal.proofs.Basics.{refl, rules, not-true, not-false}
+use Rattle.refusal.proofs.Basics.{not-false}
 use Rattle.wet.proofs.Accepts.{reference_listed}
 use Rattle.wet.proofs.list_model.Goals as goal
 
