@@ -59,12 +59,7 @@ pub fn lanecockle_slip_cents(slip: &[u8]) -> Valued
 // Writes a slip of an amount in cents and the fields 4 to 14, which stand one behind the other in `text`; the value is how
 // many bytes were written. It is a slip with standing text from two empty sheets. Sizes that are not the text's are refused
 // with 1, so that no field is shortened without a word.
-pub fn lanecockle_slip_write(
-    cents: u64,
-    text: &[u8],
-    sizes: &[usize],
-    out: &mut [u8],
-) -> Valued
+pub fn lanecockle_slip_write(cents: u64, text: &[u8], sizes: &[usize], out: &mut [u8]) -> Valued
     ensures { WritesSlipGiven cents sizes.now text.now out.old result out.new }
 {
     let slip = standing_slip::write(cents, text, sizes, b"", b"", out);

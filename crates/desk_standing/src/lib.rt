@@ -77,11 +77,7 @@ fn tell_slip(s: StandingSlip) -> StandingWritten
 }
 
 // Where the standing text of a field stands.
-pub fn lanecockle_standing_text(
-    field: usize,
-    farm: &[u8],
-    association: &[u8],
-) -> StandingTold
+pub fn lanecockle_standing_text(field: usize, farm: &[u8], association: &[u8]) -> StandingTold
     ensures { result ≡ standing_told (standing_of field farm.now association.now) }
 {
     tell(standing_text::ask(field, farm, association))

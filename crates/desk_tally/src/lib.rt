@@ -33,11 +33,7 @@ fn by_value(record: Record, line: &[u8], t: Tally) -> Tallied
 }
 
 // One line: the record after it, and the lent tally brought up to date.
-pub fn lanecockle_judge_step_tally(
-    record: Record,
-    line: &[u8],
-    tally: &mut Tally,
-) -> Record
+pub fn lanecockle_judge_step_tally(record: Record, line: &[u8], tally: &mut Tally) -> Record
     ensures { (result ≡ (tallied_of «record» line.now tally.old).«record»)
         × (tally.new ≡ (tallied_of «record» line.now tally.old).tally) }
 {

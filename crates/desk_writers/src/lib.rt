@@ -16,12 +16,7 @@ use boundary::Told;
 use wage_places::LineType;
 
 // Writes a 300 for a day.
-pub fn lanecockle_write_label(
-    day: u64,
-    text: &[u8],
-    sizes: &[usize],
-    out: &mut [u8],
-) -> Told
+pub fn lanecockle_write_label(day: u64, text: &[u8], sizes: &[usize], out: &mut [u8]) -> Told
     ensures { WritesLine (for_sizes 8 sizes.now text.now (label_answer day (fields_of sizes.now text.now) (length out.old))) (label_draft day (fields_of sizes.now text.now)).line out.old result out.new }
 {
     boundary::tell(wage_writer::write_label(day, text, sizes, out))

@@ -121,7 +121,7 @@ standing_text_within κs a z w call =
     let n = a.0 in
     let farm = a.1.0.now in
     let association = a.1.1.0.now in
-    rw call (go (standing_of n farm association).sheet (standing.standing-part-within n farm association))
+    rw call (go (standing_of n farm association).sheet (standing.standing_part_within n farm association))
   where
     go : (x : Sheet) {k : ℕ} → k ≤ length (standing.sheet_of x a.1.0.now a.1.1.0.now) → k ≤ length (sheet_of (sheet_number x) a.1.0.now a.1.1.0.now)
     go Neither h = h

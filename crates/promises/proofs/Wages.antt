@@ -247,7 +247,7 @@ pub group_reads_back :
     take part.length (drop part.start line) ≡ get_or (group_fields (fields_of sizes text) (length orders / 1002) (amounts (pieces orders))) k []))
 group_reads_back κs a z w call h k small κs1 a1 part w1 told sameLine sameField =
     let l = group_stands _ _ _ _ _ _ call h in
-    part_read_lem _ _ _ _ part told (sameLine ∙ l.1.front) sameField ∙ round.written-group-reads-back _ _ _ _ _ l.0 k small
+    part_read_lem _ _ _ _ part told (sameLine ∙ l.1.front) sameField ∙ round.written_group_reads_back _ _ _ _ _ l.0 k small
 
 -- ---------------------------------------------------------------------------
 -- One behind the other
@@ -288,7 +288,7 @@ pub order_again :
 order_again κs a z w call s dated known room right plain sameText sameSizes =
     let whole = typed_whole Order s right.typed in
     again 16 a.1.1.1.0.now a.1.1.0.now _ _ _ _ _ s call (rw (sameText, sameSizes) (round.read_order_lent_whole s whole))
-    (rw (sameText, sameSizes) (round.order-again a.0 (length a.1.1.1.1.0.now) dated room s a.1.0 known right plain)) whole
+    (rw (sameText, sameSizes) (round.order_again a.0 (length a.1.1.1.1.0.now) dated room s a.1.0 known right plain)) whole
 
 -- and the 301 of a right group, from its five parts and its orders
 pub group_again :
@@ -297,4 +297,4 @@ pub group_again :
 group_again κs a z w call s dated known room lines right plain sameText sameSizes =
     let whole = typed_whole Group s right.head.typed in
     again 5 a.1.1.1.0.now a.1.1.0.now _ _ _ _ _ s call (rw (sameText, sameSizes) (round.read_five_lent_whole s whole))
-    (rw (sameText, sameSizes) (round.group-again a.0 (length a.1.1.1.1.1.0.now) dated room a.1.0 known s a.1.1.1.1.0.now lines right plain)) whole
+    (rw (sameText, sameSizes) (round.group_again a.0 (length a.1.1.1.1.1.0.now) dated room a.1.0 known s a.1.1.1.1.0.now lines right plain)) whole

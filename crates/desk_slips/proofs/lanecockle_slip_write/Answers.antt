@@ -1,0 +1,7 @@
+-- `desk_slips::lanecockle_slip_write` meets its contract: a slip written from two empty sheets, told. Assumes nothing.
+use Rattle.refusal.proofs.Basics.{rules}
+use Rattle.desk_slips.proofs.Laws.{slip_told}
+use Rattle.desk_slips.proofs.lanecockle_slip_write.Goals as goal
+
+pub returns : goal.returns
+returns c = slip_told _ _ _ _ _ _ _ c.tell_written.ensures c.write-slip.ensures

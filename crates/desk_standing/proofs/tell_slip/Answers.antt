@@ -1,0 +1,8 @@
+-- `desk_standing::tell_slip` meets its contract. Assumes nothing.
+use Rattle.refusal.proofs.Basics.{rules}
+use Rattle.desk_standing.specs.Standings.{written_told}
+use Rattle.desk_standing.proofs.tell_slip.Goals as goal
+
+pub returns : goal.returns
+unfolding written_told
+returns c = rw (c.sheet_number.ensures, c.tell_written-v.ensures)
