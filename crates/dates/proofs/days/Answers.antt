@@ -1,5 +1,5 @@
 -- `dates::days` meets its contract: each arm says the month, and the last that it is none of the others. Assumes nothing.
-use Rattle.refusal.proofs.Basics.{sym, ◌∙◌, rules, ne_eqb}
+use Rattle.refusal.proofs.Basics.{sym, ◌∙◌, ne_eqb}
 use Rattle.dates.specs.Dates.{days_of}
 use Rattle.dates.proofs.days.Goals as goal
 

@@ -1,5 +1,5 @@
 -- `dates::is_date` meets its contract: each return is the definition's on the tests that led there. Assumes nothing.
-use Rattle.refusal.proofs.Basics.{rules, lt-leb, le-leb}
+use Rattle.refusal.proofs.Basics.{lt-leb, le-leb}
 use Rattle.dates.specs.Dates.{is_date}
 use Rattle.dates.proofs.is_date.Goals as goal
 

@@ -1,6 +1,5 @@
 -- `wage_line::place` meets its contract: the arm says the type, and its place's part is lent. Assumes nothing.
 use Rattle.wage_line.specs.Line.{place_of}
-use Rattle.refusal.proofs.Basics.{rules}
 use Rattle.wage_line.proofs.place.Goals as goal
 
 pub returns-in-Line : goal.returns-in-Line

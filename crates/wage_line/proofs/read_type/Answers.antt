@@ -1,5 +1,5 @@
 -- `wage_line::read_type` meets its contract: each return is the definition's choice on the tests that led there. Assumes nothing.
-use Rattle.refusal.proofs.Basics.{sym, ◌∙◌, rules, not-true, not-false}
+use Rattle.refusal.proofs.Basics.{sym, ◌∙◌, not-true, not-false}
 use Rattle.wage_line.proofs.Laws.{choices}
 use Rattle.wage_line.specs.Line.{typed_of}
 use Rattle.wage_line.proofs.read_type.Goals as goal

@@ -1,6 +1,5 @@
 -- `wage_places::count` meets its contract: the arm says the type, and its number is the table's. Assumes nothing.
 use Rattle.wage_places.specs.Places.{spots}
-use Rattle.refusal.proofs.Basics.{rules}
 use Rattle.wage_places.proofs.count.Goals as goal
 
 pub returns-in-Label : goal.returns-in-Label

@@ -1,6 +1,6 @@
 -- `wage_places::find` meets its contract. The loop's invariant: the place is the one among what is left from `k` on. Assumes nothing.
-use Rattle.refusal.proofs.Basics.{◌≡◌, refl, sym, ◌∙◌, arith, ◌≤◌, ◌-◌, drop}
-use Rattle.wage_places.specs.Places.{spots, spot_in}
+use Rattle.refusal.proofs.Basics.{sym, ◌∙◌, arith}
+use Rattle.wage_places.specs.Places.{spots}
 use Rattle.wage_places.proofs.Laws.{find_on, find_stops, find_ends}
 use Rattle.wage_places.proofs.find.Goals as goal
 

@@ -1,6 +1,5 @@
 -- `wage_places::spot_at` meets its contract: the arm says the type, and its table is asked. Assumes nothing.
 use Rattle.wage_places.specs.Places.{spots}
-use Rattle.refusal.proofs.Basics.{rules}
 use Rattle.wage_places.proofs.spot_at.Goals as goal
 
 pub returns-in-Label : goal.returns-in-Label

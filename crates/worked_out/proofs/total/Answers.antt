@@ -1,11 +1,10 @@
 -- `worked_out::total` meets its contract. The loop's invariant: the whole sum is `sum` with the amounts from `at` on. Assumes nothing.
-use Rattle.refusal.proofs.Basics.{◌≡◌, sym, ◌∙◌, arith, ◌+◌, ◌-◌, length, take, drop}
-use Rattle.sums.specs.Sums.{cents_of, sum_of, added, number_in}
+use Rattle.refusal.proofs.Basics.{◌≡◌, sym, ◌∙◌, arith, ◌+◌, take, drop}
+use Rattle.sums.specs.Sums.{cents_of, number_in}
 use Rattle.sums.proofs.Laws.{no_cents_lem}
 use Rattle.wage_places.specs.declared.LineType.TheVariants.{Order}
 use Rattle.wage_places.specs.Places.{part_of}
 use Rattle.wage_line.specs.Pieces.{pieces}
-use Rattle.wage_line.proofs.PieceLaws.{piece_advances}
 use Rattle.worked_out.specs.Amounts.{amounts}
 use Rattle.worked_out.proofs.Laws.{kept, amounts_first, amounts_on, amounts_end}
 use Rattle.worked_out.proofs.total.Goals as goal
