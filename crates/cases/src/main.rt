@@ -16,52 +16,53 @@ use question::{
 use text::front;
 use words::say;
 
-fn main() {
+fn main(rt: HostRuntime) {
     let mut input = [0u8; 200000];
-    let n = io::read_full(0, &mut input);
-    answer_all(front(&input, n));
+    let got = words::read_full(&mut rt.stdin(), &mut input);
+    answer_all(&rt, front(&input, got.size));
 }
 
 // Answers each line.
-fn answer_all(s: &[u8]) {
+fn answer_all(rt: &impl Print, s: &[u8]) {
     let mut at = 0;
     while at < s.len() {
         let start = at;
         let e = find(&s[start..], 10);
         let end = start + e;
         at = end + 1;
-        answer(&s[start..end]);
+        answer(rt, &s[start..end]);
     }
 }
 
 // Writes a question back with its answer.
-fn answer(question: &[u8]) {
-    say(question);
-    say(b" -> ");
+fn answer(rt: &impl Print, question: &[u8]) {
+    say(rt, question);
+    say(rt, b" -> ");
     respond(
+        rt,
         number_of(
             field(question, 0),
             b"iban|oib|ref|check ini|check iso|make ini|make iso|list iban|list ref|slip|write|ledger|lipa|standing|write standing",
         ),
         question,
     );
-    say(b"\n");
+    say(rt, b"\n");
 }
 
 // Answers a question by its verb's number.
-fn respond(verb: usize, question: &[u8]) {
+fn respond(rt: &impl Print, verb: usize, question: &[u8]) {
     match verb {
-        0..=4 => tell(judge(verb, question)),
-        5..=6 => make(verb, question),
-        7..=8 => list(verb, question),
-        9 => read(behind(question, 1)),
-        10 => write(verb, question),
-        11 => enter(behind(question, 1)),
-        12 => convert(question),
-        13 => stand(question),
-        14 => write(verb, question),
+        0..=4 => tell(rt, judge(verb, question)),
+        5..=6 => make(rt, verb, question),
+        7..=8 => list(rt, verb, question),
+        9 => read(rt, behind(question, 1)),
+        10 => write(rt, verb, question),
+        11 => enter(rt, behind(question, 1)),
+        12 => convert(rt, question),
+        13 => stand(rt, question),
+        14 => write(rt, verb, question),
         _ => {
-            say(b"unknown");
+            say(rt, b"unknown");
         }
     }
 }
@@ -82,9 +83,10 @@ fn judge(verb: usize, question: &[u8]) -> Told {
 }
 
 // make ini, make iso.
-fn make(verb: usize, question: &[u8]) {
+fn make(rt: &impl Print, verb: usize, question: &[u8]) {
     let rule = if verb == 5 { 0 } else { 1 };
     tell_value(
+        rt,
         desk_checks::lanecockle_make_digit(rule, field(question, 1)),
         b" digit ",
     );
@@ -94,14 +96,15 @@ fn make(verb: usize, question: &[u8]) {
 // Listings
 
 // list iban, list ref: into a room of 10,000 numbers at most.
-fn list(verb: usize, question: &[u8]) {
+fn list(rt: &impl Print, verb: usize, question: &[u8]) {
     let mut out = [0u16; 10000];
     let room = number_at(question, 1);
     if 10000 < room {
-        say(b"unknown");
+        say(rt, b"unknown");
         return;
     }
     list_in(
+        rt,
         verb,
         field(question, 2),
         field(question, 3),
@@ -109,24 +112,19 @@ fn list(verb: usize, question: &[u8]) {
     );
 }
 
-fn list_in(verb: usize, a: &[u8], b: &[u8], out: &mut [u16]) {
+fn list_in(rt: &impl Print, verb: usize, a: &[u8], b: &[u8], out: &mut [u16]) {
     if verb == 7 {
-        tell_list(desk_wet::lanecockle_list_iban(a, out), out);
+        tell_list(rt, desk_wet::lanecockle_list_iban(a, out), out);
         return;
     }
-    tell_list(desk_wet::lanecockle_list_reference(a, b, out), out);
+    tell_list(rt, desk_wet::lanecockle_list_reference(a, b, out), out);
 }
 
 // Writes a listing's answer, and the numbers listed.
-fn tell_list(v: Valued, out: &[u16]) {
-    tell_value(v, b" fillings ");
-    let n = v.value;
-    let mut i = 0;
-    while i < n {
-        if i < out.len() {
-            count(b" ", out[i] as usize);
-        }
-        i += 1;
+fn tell_list(rt: &impl Print, v: Valued, out: &[u16]) {
+    tell_value(rt, v, b" fillings ");
+    for number in out.iter().take(v.value) {
+        count(rt, b" ", usize::from(*number));
     }
 }
 
@@ -134,9 +132,9 @@ fn tell_list(v: Valued, out: &[u16]) {
 // Slips
 
 // slip: its bars are line feeds.
-fn read(s: &[u8]) {
+fn read(rt: &impl Print, s: &[u8]) {
     let mut text = [0u8; 1024];
-    tell(read_in(s, &mut text));
+    tell(rt, read_in(s, &mut text));
 }
 
 fn read_in(s: &[u8], text: &mut [u8]) -> Told {
@@ -145,9 +143,9 @@ fn read_in(s: &[u8], text: &mut [u8]) -> Told {
 }
 
 // ledger: its bars are line feeds.
-fn enter(s: &[u8]) {
+fn enter(rt: &impl Print, s: &[u8]) {
     let mut text = [0u8; 1024];
-    tell_ledger(enter_in(s, &mut text));
+    tell_ledger(rt, enter_in(s, &mut text));
 }
 
 fn enter_in(s: &[u8], text: &mut [u8]) -> Ledger {
@@ -156,38 +154,46 @@ fn enter_in(s: &[u8], text: &mut [u8]) -> Ledger {
 }
 
 // Writes a slip's currency and its amount.
-fn tell_ledger(l: Ledger) {
-    tell(l.told);
+fn tell_ledger(rt: &impl Print, l: Ledger) {
+    tell(rt, l.told);
     if l.currency == 1 {
-        count(b" euro ", l.cents as usize);
+        count(rt, b" euro ", l.cents as usize);
     }
     if l.currency == 2 {
-        count(b" kuna ", l.lipa as usize);
-        count(b" cents ", l.converted as usize);
+        count(rt, b" kuna ", l.lipa as usize);
+        count(rt, b" cents ", l.converted as usize);
     }
 }
 
 // lipa: so many in cents.
-fn convert(question: &[u8]) {
+fn convert(rt: &impl Print, question: &[u8]) {
     let lipa = number_at(question, 1) as u64;
     count(
+        rt,
         b"cents ",
         desk_ledger::lanecockle_lipa_in_cents(lipa) as usize,
     );
 }
 
 // write, write standing: into a room of 1,100 bytes at most.
-fn write(verb: usize, question: &[u8]) {
+fn write(rt: &impl Print, verb: usize, question: &[u8]) {
     let mut text = [0u8; 1024];
     let mut sizes = [0usize; 16];
     let mut out = [0u8; 1100];
-    write_in(verb, question, &mut text, &mut sizes, &mut out);
+    write_in(rt, verb, question, &mut text, &mut sizes, &mut out);
 }
 
-fn write_in(verb: usize, question: &[u8], text: &mut [u8], sizes: &mut [usize], out: &mut [u8]) {
+fn write_in(
+    rt: &impl Print,
+    verb: usize,
+    question: &[u8],
+    text: &mut [u8],
+    sizes: &mut [usize],
+    out: &mut [u8],
+) {
     let room = number_at(question, 1);
     if out.len() < room {
-        say(b"unknown");
+        say(rt, b"unknown");
         return;
     }
     let fields = behind(question, 5);
@@ -195,28 +201,28 @@ fn write_in(verb: usize, question: &[u8], text: &mut [u8], sizes: &mut [usize], 
     put_sizes(sizes, fields);
     let lent = front(text, size_of(fields));
     if verb == 10 {
-        write_slip(question, lent, sizes, &mut out[0..room]);
+        write_slip(rt, question, lent, sizes, &mut out[0..room]);
         return;
     }
-    write_standing(question, lent, sizes, &mut out[0..room]);
+    write_standing(rt, question, lent, sizes, &mut out[0..room]);
 }
 
-fn write_slip(question: &[u8], text: &[u8], sizes: &[usize], out: &mut [u8]) {
+fn write_slip(rt: &impl Print, question: &[u8], text: &[u8], sizes: &[usize], out: &mut [u8]) {
     let cents = number_at(question, 2) as u64;
     let v = desk_slips::lanecockle_slip_write(cents, text, sizes, out);
-    tell_value(v, b" bytes ");
-    say(b"|");
-    say(front(out, v.value));
+    tell_value(rt, v, b" bytes ");
+    say(rt, b"|");
+    say(rt, front(out, v.value));
 }
 
 // ---------------------------------------------------------------------------
 // Standing text: in a sheet `~` stands for a line feed
 
 // standing: a field's text from two sheets.
-fn stand(question: &[u8]) {
+fn stand(rt: &impl Print, question: &[u8]) {
     let mut farm = [0u8; 1024];
     let mut association = [0u8; 1024];
-    tell_standing(stand_in(question, &mut farm, &mut association));
+    tell_standing(rt, stand_in(question, &mut farm, &mut association));
 }
 
 fn stand_in(question: &[u8], farm: &mut [u8], association: &mut [u8]) -> StandingTold {
@@ -229,21 +235,22 @@ fn stand_in(question: &[u8], farm: &mut [u8], association: &mut [u8]) -> Standin
 }
 
 // Writes whose text it is and where it stands.
-fn tell_standing(s: StandingTold) {
-    tell(s.told);
-    count(b" sheet ", s.sheet);
-    count(b" start ", s.start);
-    count(b" length ", s.length);
+fn tell_standing(rt: &impl Print, s: StandingTold) {
+    tell(rt, s.told);
+    count(rt, b" sheet ", s.sheet);
+    count(rt, b" start ", s.start);
+    count(rt, b" length ", s.length);
 }
 
 // write standing: as write, with two sheets.
-fn write_standing(question: &[u8], text: &[u8], sizes: &[usize], out: &mut [u8]) {
+fn write_standing(rt: &impl Print, question: &[u8], text: &[u8], sizes: &[usize], out: &mut [u8]) {
     let mut farm = [0u8; 1024];
     let mut association = [0u8; 1024];
-    write_sheets(question, text, sizes, &mut farm, &mut association, out);
+    write_sheets(rt, question, text, sizes, &mut farm, &mut association, out);
 }
 
 fn write_sheets(
+    rt: &impl Print,
     question: &[u8],
     text: &[u8],
     sizes: &[usize],
@@ -253,10 +260,11 @@ fn write_sheets(
 ) {
     put_lines(farm, field(question, 3), 126);
     put_lines(association, field(question, 4), 126);
-    write_lent(question, text, sizes, farm, association, out);
+    write_lent(rt, question, text, sizes, farm, association, out);
 }
 
 fn write_lent<'a>(
+    rt: &impl Print,
     question: &[u8],
     text: &'a [u8],
     sizes: &[usize],
@@ -268,11 +276,11 @@ fn write_lent<'a>(
     let f = front(farm, size_at(question, 3));
     let a = front(association, size_at(question, 4));
     let v = desk_standing::lanecockle_slip_write_standing(cents, text, sizes, f, a, out);
-    tell(v.told);
-    count(b" bytes ", v.value);
-    count(b" sheet ", v.sheet);
-    say(b"|");
-    say(front(out, v.value));
+    tell(rt, v.told);
+    count(rt, b" bytes ", v.value);
+    count(rt, b" sheet ", v.sheet);
+    say(rt, b"|");
+    say(rt, front(out, v.value));
 }
 
 // How many bytes a field of a question has.

@@ -8,20 +8,20 @@
 
 use text::front;
 
-fn main() {
+fn main(rt: HostRuntime) {
     // One byte more than the longest slip: a longer input is refused for its size all the same.
     let mut input = [0u8; 484];
-    let got = words::read_full(&mut input);
+    let got = words::read_full(&mut rt.stdin(), &mut input);
     if got.failed {
-        words::unread();
+        words::unread(&rt);
         return;
     }
-    respond(front(&input, got.size));
+    respond(&rt, front(&input, got.size));
 }
 
 // Writes what is printed of a slip: at most 6,200 bytes.
-fn respond(s: &[u8]) {
+fn respond(rt: &(impl Print + Eprint), s: &[u8]) {
     let mut out = [0u8; 6200];
     let n = slip_printed::print_ledger(s, &mut out);
-    words::publish(front(&out, n));
+    words::publish(rt, front(&out, n));
 }

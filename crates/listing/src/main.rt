@@ -6,8 +6,8 @@
 #![tactic(auto)]
 
 use fillings::Listed;
-use libc::STDIN_FILENO;
 use line::Seen;
+use std::io::Read;
 use text::front;
 
 // A line as far as it was read: whether there may be more of it, and whether a read failed.
@@ -18,27 +18,27 @@ struct Progress {
     failed: bool,
 }
 
-fn main() {
+fn main(rt: HostRuntime) {
     let mut head = [0u8; 22];
     let mut tail = [0u8; 23];
-    let read = read_line(&mut head, &mut tail);
+    let read = read_line(&mut rt.stdin(), &mut head, &mut tail);
     if read.failed {
-        words::unread();
+        words::unread(&rt);
         return;
     }
-    respond(read.seen, &head, &tail);
+    respond(&rt, read.seen, &head, &tail);
 }
 
 // Reads once.
-fn read_some(seen: Seen, head: &mut [u8], tail: &mut [u8]) -> Progress {
-    let mut chunk = io::buffer();
-    let got = libc::read(STDIN_FILENO, &mut chunk);
-    let n = io::count(got, &chunk);
+fn read_some<R: Read>(input: &mut R, seen: Seen, head: &mut [u8], tail: &mut [u8]) -> Progress {
+    let mut chunk = [0u8; 4096];
+    let got = words::read_once(input, &mut chunk);
+    let n = got.size;
     if n == 0 {
         return Progress {
             seen,
             more: false,
-            failed: got < 0,
+            failed: got.failed,
         };
     }
     let next = line::fed(seen, &chunk[..n], head, tail);
@@ -51,17 +51,15 @@ fn read_some(seen: Seen, head: &mut [u8], tail: &mut [u8]) -> Progress {
 }
 
 // Reads until the line or the input ends, or a read fails. A proved loop has to end, and nothing says that an input
-// does: so the loop counts its turns down, from a number that no run uses up.
-fn read_line(head: &mut [u8], tail: &mut [u8]) -> Progress {
+// does: so its turns have a number, which no run uses up.
+fn read_line<R: Read>(input: &mut R, head: &mut [u8], tail: &mut [u8]) -> Progress {
     let mut seen = line::fresh();
-    let mut turns = u64::MAX;
-    while turns > 0 {
-        let p = read_some(seen, head, tail);
+    for _ in 0..u64::MAX {
+        let p = read_some(input, seen, head, tail);
         if !p.more {
             return p;
         }
         seen = p.seen;
-        turns -= 1;
     }
     Progress {
         seen,
@@ -71,47 +69,48 @@ fn read_line(head: &mut [u8], tail: &mut [u8]) -> Progress {
 }
 
 // Lends the room for ten thousand numbers.
-fn respond<'a>(seen: Seen, head: &'a [u8], tail: &'a [u8]) {
+fn respond<'a>(rt: &(impl Print + Eprint), seen: Seen, head: &'a [u8], tail: &'a [u8]) {
     let mut numbers = [0u16; 10000];
-    write_listing(seen, head, tail, &mut numbers);
+    write_listing(rt, seen, head, tail, &mut numbers);
 }
 
 // Writes what is printed of the line that was kept.
-fn write_listing<'a>(seen: Seen, head: &'a [u8], tail: &'a [u8], numbers: &mut [u16]) {
+fn write_listing<'a>(
+    rt: &(impl Print + Eprint),
+    seen: Seen,
+    head: &'a [u8],
+    tail: &'a [u8],
+    numbers: &mut [u16],
+) {
     let r = listing_printed::list(seen, head, tail, numbers);
-    if !write_first(r) {
+    if !write_first(rt, r) {
         return;
     }
     match r {
-        Listed::Count(n) => write_lines(listing_printed::text(seen, head, tail), numbers, n),
+        Listed::Count(n) => write_lines(rt, listing_printed::text(seen, head, tail), numbers, n),
         Listed::Refused(_) => {}
     }
 }
 
 // Writes the first line, at most 30 bytes; whether it was written.
-fn write_first(r: Listed) -> bool {
+fn write_first(rt: &(impl Print + Eprint), r: Listed) -> bool {
     let mut out = [0u8; 30];
     let n = listing_printed::put_first(r, &mut out);
-    words::publish(front(&out, n))
+    words::publish(rt, front(&out, n))
 }
 
 // Writes the text filled by each of the first n numbers, as long as writing goes well.
-fn write_lines(text: &[u8], numbers: &[u16], n: usize) {
-    let mut i = 0;
-    while i < n {
-        if numbers.len() <= i {
+fn write_lines(rt: &(impl Print + Eprint), text: &[u8], numbers: &[u16], n: usize) {
+    for number in numbers.iter().take(n) {
+        if !write_line(rt, text, *number) {
             return;
         }
-        if !write_line(text, numbers[i]) {
-            return;
-        }
-        i += 1;
     }
 }
 
 // Writes the text filled by a number, a line of at most 23 bytes; whether it was written.
-fn write_line(text: &[u8], number: u16) -> bool {
+fn write_line(rt: &(impl Print + Eprint), text: &[u8], number: u16) -> bool {
     let mut out = [0u8; 23];
     let n = listing_printed::put_filled(text, number, &mut out);
-    words::publish(front(&out, n))
+    words::publish(rt, front(&out, n))
 }

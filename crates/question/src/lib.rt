@@ -184,27 +184,27 @@ pub fn put_sizes(out: &mut [usize], s: &[u8])
 // Its answer written
 
 // Writes a word and its number.
-pub fn count(word: &[u8], n: usize) {
-    say(word);
-    say_number(n);
+pub fn count(rt: &impl Print, word: &[u8], n: usize) {
+    say(rt, word);
+    say_number(rt, n);
 }
 
 // Writes an answer.
-pub fn tell(t: Told) {
+pub fn tell(rt: &impl Print, t: Told) {
     if t.number == 0 {
-        say(b"accepted");
+        say(rt, b"accepted");
         return;
     }
-    count(b"refused ", t.number);
-    count(b" line ", t.line);
-    count(b" field ", t.field);
-    count(b" byte ", t.byte);
-    count(b" needed ", t.needed);
+    count(rt, b"refused ", t.number);
+    count(rt, b" line ", t.line);
+    count(rt, b" field ", t.field);
+    count(rt, b" byte ", t.byte);
+    count(rt, b" needed ", t.needed);
 }
 
 // Writes an answer with its value.
-pub fn tell_value(v: Valued, word: &[u8]) {
+pub fn tell_value(rt: &impl Print, v: Valued, word: &[u8]) {
     let t = v.told;
-    tell(t);
-    count(word, v.value);
+    tell(rt, t);
+    count(rt, word, v.value);
 }

@@ -19,16 +19,16 @@ use tally::Tally;
 use text::front;
 use words::say;
 
-fn main() {
+fn main(rt: HostRuntime) {
     let mut input = [0u8; 200000];
-    let n = io::read_full(0, &mut input);
+    let got = words::read_full(&mut rt.stdin(), &mut input);
     let mut memory = [0u8; 1100];
     let mut kept = [0u8; 8016];
-    answer_all(front(&input, n), &mut memory, &mut kept);
+    answer_all(&rt, front(&input, got.size), &mut memory, &mut kept);
 }
 
 // Answers each line. The verbs of judge and tally are `judge_by`'s, all others `respond`'s.
-fn answer_all(s: &[u8], memory: &mut [u8], kept: &mut [u8]) {
+fn answer_all(rt: &impl Print, s: &[u8], memory: &mut [u8], kept: &mut [u8]) {
     let mut r = begun();
     let mut at = 0;
     while at < s.len() {
@@ -37,32 +37,32 @@ fn answer_all(s: &[u8], memory: &mut [u8], kept: &mut [u8]) {
         let end = start + e;
         at = end + 1;
         let question = &s[start..end];
-        let verb = answer(question, memory, kept);
-        r = judge_by(verb, question, r, memory);
+        let verb = answer(rt, question, memory, kept);
+        r = judge_by(rt, verb, question, r, memory);
     }
 }
 
 // Writes a question back with its answer, and gives its verb's number.
-fn answer(question: &[u8], memory: &mut [u8], kept: &mut [u8]) -> usize {
-    say(question);
-    say(b" -> ");
+fn answer(rt: &impl Print, question: &[u8], memory: &mut [u8], kept: &mut [u8]) -> usize {
+    say(rt, question);
+    say(rt, b" -> ");
     let verb = number_of(
         field(question, 0),
         b"300|301|309|399|keep|poke|place|show|begin|step|end|tally|step tally|total",
     );
-    respond(verb, question, memory, kept);
+    respond(rt, verb, question, memory, kept);
     verb
 }
 
 // Answers a question by its verb's number.
-fn respond(verb: usize, question: &[u8], memory: &mut [u8], kept: &mut [u8]) {
+fn respond(rt: &impl Print, verb: usize, question: &[u8], memory: &mut [u8], kept: &mut [u8]) {
     match verb {
-        0..=3 => write(verb, question, memory, kept),
+        0..=3 => write(rt, verb, question, memory, kept),
         4..=5 => keep(verb, question, memory, kept),
-        6..=7 => show(verb, question, memory),
+        6..=7 => show(rt, verb, question, memory),
         8..=13 => {}
         _ => {
-            say(b"unknown");
+            say(rt, b"unknown");
         }
     }
 }
@@ -71,14 +71,17 @@ fn respond(verb: usize, question: &[u8], memory: &mut [u8], kept: &mut [u8]) {
 // Lines written
 
 // 300, 301, 309, 399: into a room at the front of the memory.
-fn write(verb: usize, question: &[u8], memory: &mut [u8], kept: &[u8]) {
+fn write(rt: &impl Print, verb: usize, question: &[u8], memory: &mut [u8], kept: &[u8]) {
     let room = number_at(question, 1);
     if memory.len() < room {
-        say(b"unknown");
+        say(rt, b"unknown");
         return;
     }
     let orders = front(kept, number_at(question, 4));
-    tell(write_fields(verb, question, orders, &mut memory[0..room]));
+    tell(
+        rt,
+        write_fields(verb, question, orders, &mut memory[0..room]),
+    );
 }
 
 // From the fields behind the first five.
@@ -140,13 +143,13 @@ fn keep(verb: usize, question: &[u8], memory: &mut [u8], kept: &mut [u8]) {
 }
 
 // place, show.
-fn show(verb: usize, question: &[u8], memory: &[u8]) {
+fn show(rt: &impl Print, verb: usize, question: &[u8], memory: &[u8]) {
     let s = front(memory, number_at(question, 1));
     if verb == 6 {
-        say(wage_line::place(s, number_at(question, 2)));
+        say(rt, wage_line::place(s, number_at(question, 2)));
         return;
     }
-    say(s);
+    say(rt, s);
 }
 
 // ---------------------------------------------------------------------------
@@ -165,39 +168,39 @@ fn both(r: Record, t: Tally) -> Tallied {
 }
 
 // Judge and tally after a question. Ends the line of every answer.
-fn judge_by(verb: usize, question: &[u8], b: Tallied, memory: &[u8]) -> Tallied {
+fn judge_by(rt: &impl Print, verb: usize, question: &[u8], b: Tallied, memory: &[u8]) -> Tallied {
     let r = b.record;
     let t = b.tally;
     if verb == 12 {
-        return count_by(question, r, t, memory);
+        return count_by(rt, question, r, t, memory);
     }
     both(
-        record_by(verb, question, r, memory),
+        record_by(rt, verb, question, r, memory),
         tally_by(verb, question, t),
     )
 }
 
 // begin, step, end, total: the record after it.
-fn record_by(verb: usize, question: &[u8], r: Record, memory: &[u8]) -> Record {
+fn record_by(rt: &impl Print, verb: usize, question: &[u8], r: Record, memory: &[u8]) -> Record {
     let n = number_at(question, 1);
     match verb {
-        8 => told(desk_judge::lanecockle_judge_begin(n as u64)),
-        9 => told(desk_judge::lanecockle_judge_step(r, front(memory, n))),
-        10 => ended(r),
-        13 => over(with_total(r, sum_at(question, 1, 2))),
-        _ => over(r),
+        8 => told(rt, desk_judge::lanecockle_judge_begin(n as u64)),
+        9 => told(rt, desk_judge::lanecockle_judge_step(r, front(memory, n))),
+        10 => ended(rt, r),
+        13 => over(rt, with_total(r, sum_at(question, 1, 2))),
+        _ => over(rt, r),
     }
 }
 
-fn told(r: Record) -> Record {
+fn told(rt: &impl Print, r: Record) -> Record {
     let t = r.told;
-    tell(t);
-    over(r)
+    tell(rt, t);
+    over(rt, r)
 }
 
-fn ended(r: Record) -> Record {
-    tell_end(desk_judge::lanecockle_judge_end(r));
-    over(r)
+fn ended(rt: &impl Print, r: Record) -> Record {
+    tell_end(rt, desk_judge::lanecockle_judge_end(r));
+    over(rt, r)
 }
 
 // A record with another total of the file.
@@ -247,49 +250,49 @@ fn sum_at(question: &[u8], high: usize, low: usize) -> Sum {
 }
 
 // step tally: a line with the tally lent, and both after it.
-fn count_by(question: &[u8], r: Record, t: Tally, memory: &[u8]) -> Tallied {
+fn count_by(rt: &impl Print, question: &[u8], r: Record, t: Tally, memory: &[u8]) -> Tallied {
     let n = number_at(question, 1);
-    counted(desk_tally::lent(r, front(memory, n), t))
+    counted(rt, desk_tally::lent(r, front(memory, n), t))
 }
 
-fn counted(b: Tallied) -> Tallied {
+fn counted(rt: &impl Print, b: Tallied) -> Tallied {
     let r = b.record;
     let t = b.tally;
-    tell_both(r, t);
+    tell_both(rt, r, t);
     b
 }
 
-fn tell_both(r: Record, t: Tally) {
+fn tell_both(rt: &impl Print, r: Record, t: Tally) {
     let said = r.told;
     let total = t.total;
     let file_total = r.file_total;
-    tell(said);
-    tell_counts(t.groups, t.orders, total);
-    tell_sum(b" file ", file_total);
-    say(b"\n");
+    tell(rt, said);
+    tell_counts(rt, t.groups, t.orders, total);
+    tell_sum(rt, b" file ", file_total);
+    say(rt, b"\n");
 }
 
-fn tell_end(e: Ended) {
+fn tell_end(rt: &impl Print, e: Ended) {
     let said = e.told;
     let total = e.total;
-    tell(said);
-    count(b" lines ", e.lines);
-    tell_counts(e.groups, e.orders, total);
+    tell(rt, said);
+    count(rt, b" lines ", e.lines);
+    tell_counts(rt, e.groups, e.orders, total);
 }
 
-fn tell_counts(groups: usize, orders: usize, total: Sum) {
-    count(b" groups ", groups);
-    count(b" orders ", orders);
-    tell_sum(b" total ", total);
+fn tell_counts(rt: &impl Print, groups: usize, orders: usize, total: Sum) {
+    count(rt, b" groups ", groups);
+    count(rt, b" orders ", orders);
+    tell_sum(rt, b" total ", total);
 }
 
-fn tell_sum(word: &[u8], s: Sum) {
-    count(word, s.high as usize);
-    count(b" ", s.low as usize);
+fn tell_sum(rt: &impl Print, word: &[u8], s: Sum) {
+    count(rt, word, s.high as usize);
+    count(rt, b" ", s.low as usize);
 }
 
 // Ends an answer's line.
-fn over(r: Record) -> Record {
-    say(b"\n");
+fn over(rt: &impl Print, r: Record) -> Record {
+    say(rt, b"\n");
     r
 }

@@ -2,11 +2,12 @@
 // and writes one line: `accepted 5 lines 1 groups 2 orders`, or one refusal with its place.
 //
 // What is written is `filePrinted` of what was read (wage_printed/specs/FilePrinted.antt); where a read fails it is nothing,
-// and standard error has a line. A file of any size is read 64 lines at a time into one buffer; `printed-in-parts`
+// and standard error has a line. A file of any size is read 64 lines at a time into one buffer; `printed_in_parts`
 // (wage_printed/proofs/Theorems.antt) says that this prints the line of the whole file.
 #![tactic(auto)]
 
 use condition::{Ending, Judge};
+use std::io::Read;
 use text::front;
 
 // The record after a read, whether there may be more, and whether the read failed.
@@ -17,28 +18,30 @@ struct Progress {
     failed: bool,
 }
 
-fn main() {
+fn main(rt: HostRuntime) {
+    let mut stdin = rt.stdin();
     let mut head = [0u8; 9];
-    let got = words::read_full(&mut head);
+    let got = words::read_full(&mut stdin, &mut head);
     if got.failed {
-        words::unread();
+        words::unread(&rt);
         return;
     }
     let mut buffer = [0u8; 64128];
     let p = read_lines(
+        &mut stdin,
         condition::begin(wage_printed::day(front(&head, got.size))),
         &mut buffer,
     );
     if p.failed {
-        words::unread();
+        words::unread(&rt);
         return;
     }
-    respond(condition::end(p.judge));
+    respond(&rt, condition::end(p.judge));
 }
 
 // Reads once, and judges what was read. What stands before a failed read is judged too, and not answered.
-fn read_some(j: Judge, buffer: &mut [u8]) -> Progress {
-    let got = words::read_full(buffer);
+fn read_some<R: Read>(input: &mut R, j: Judge, buffer: &mut [u8]) -> Progress {
+    let got = words::read_full(input, buffer);
     let n = got.size;
     let failed = got.failed;
     let next = wage_file::lines(j, front(buffer, n));
@@ -50,29 +53,27 @@ fn read_some(j: Judge, buffer: &mut [u8]) -> Progress {
     }
 }
 
-// Reads until the input ends, a line is refused or a read fails. A proved loop has to end: it counts its turns down, from a
-// number that no run uses up.
-fn read_lines(from: Judge, buffer: &mut [u8]) -> Progress {
+// Reads until the input ends, a line is refused or a read fails. A proved loop has to end: its turns have a number, which no
+// run uses up.
+fn read_lines<R: Read>(input: &mut R, from: Judge, buffer: &mut [u8]) -> Progress {
     let mut p = Progress {
         judge: from,
         more: true,
         failed: false,
     };
-    let mut turns = u64::MAX;
-    while turns > 0 {
+    for _ in 0..u64::MAX {
         let j = p.judge;
-        p = read_some(j, buffer);
+        p = read_some(input, j, buffer);
         if !p.more {
             return p;
         }
-        turns -= 1;
     }
     p
 }
 
 // Writes what is printed of the answer: at most 108 bytes.
-fn respond(e: Ending) {
+fn respond(rt: &(impl Print + Eprint), e: Ending) {
     let mut out = [0u8; 108];
     let n = wage_printed::print(e, &mut out);
-    words::publish(front(&out, n));
+    words::publish(rt, front(&out, n));
 }

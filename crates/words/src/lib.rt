@@ -1,9 +1,13 @@
 // What the programs share: standard input read, bytes and numbers written.
 //
-// What is read and written cannot be said in a contract (docs/DECISIONS.md): all are safe and end.
+// Where a reader's bytes are known, the contracts say which were read. What reaches standard output cannot be said in a
+// contract (docs/DECISIONS.md): the calls that write are safe and end.
 #![tactic(auto)]
 
-use libc::{STDERR_FILENO, STDIN_FILENO, STDOUT_FILENO};
+ghost use Rattle.std.specs.Prelude.{◌≡◌, ◌+◌, ◌≤◌, ◌<◌, length, take, drop, false};
+ghost use Rattle.std.specs.Io.KnownBytes.{Consumes, IsAtEnd};
+
+use std::io::Read;
 
 // ---------------------------------------------------------------------------
 // Reading
@@ -15,45 +19,51 @@ pub struct Got {
     pub failed: bool,
 }
 
-// Reads once, at most so many bytes, and answers what the read did.
-fn read_once(chunk: &mut [u8], most: usize) -> isize {
-    if chunk.len() < most {
-        return libc::read(STDIN_FILENO, chunk);
+// Reads once. Where that fails, nothing was read.
+pub fn read_once<R: Read>(input: &mut R, chunk: &mut [u8]) -> Got
+    ensures within { result.size ≤ length chunk.new }
+    ensures bytes { Consumes (R.remaining input.old) (R.remaining input.new) (take result.size chunk.new) }
+    ensures end { result.failed ≡ false → result.size ≡ 0 → 0 < length chunk.new → IsAtEnd (R.remaining input.new) }
+{
+    match input.read(chunk) {
+        Ok(size) => Got {
+            size,
+            failed: false,
+        },
+        Err(_) => Got {
+            size: 0,
+            failed: true,
+        },
     }
-    libc::read(STDIN_FILENO, &mut chunk[0..most])
 }
 
-// Reads once, behind the first bytes of a buffer, and answers what the read did.
-fn read_behind(buf: &mut [u8], done: usize) -> isize {
-    if done == 0 {
-        return libc::read(STDIN_FILENO, buf);
-    }
-    if buf.len() < done {
-        return 0;
-    }
-    let mut chunk = io::buffer();
-    let got = read_once(&mut chunk, buf.len() - done);
-    room::put(buf, done, text::front(&chunk, io::count(got, &chunk)));
-    got
+// Reads once, behind the first bytes of a buffer.
+fn read_behind<R: Read>(input: &mut R, buf: &mut [u8], done: usize) -> Got
+    requires { done ≤ length buf.old }
+    ensures within { done + result.size ≤ length buf.new }
+    ensures front { take done buf.new ≡ take done buf.old }
+    ensures bytes { Consumes (R.remaining input.old) (R.remaining input.new) (take result.size (drop done buf.new)) }
+    ensures end { result.failed ≡ false → result.size ≡ 0 → done < length buf.new → IsAtEnd (R.remaining input.new) }
+{
+    read_once(input, &mut buf[done..])
 }
 
-// Reads standard input until the buffer is full, the input ends or a read fails.
-pub fn read_full(buf: &mut [u8]) -> Got {
-    let mut done: usize = 0;
+// Reads until the buffer is full, the input ends or a read fails.
+pub fn read_full<R: Read>(input: &mut R, buf: &mut [u8]) -> Got
+    ensures within { result.size ≤ length buf.new }
+    ensures bytes { Consumes (R.remaining input.old) (R.remaining input.new) (take result.size buf.new) }
+    ensures end { result.failed ≡ false → result.size < length buf.new → IsAtEnd (R.remaining input.new) }
+{
+    let mut done = 0;
     while done < buf.len() {
-        let got = read_behind(buf, done);
-        let more = io::count(got, buf);
-        if more == 0 {
+        let got = read_behind(input, buf, done);
+        if got.size == 0 {
             return Got {
                 size: done,
-                failed: got < 0,
+                failed: got.failed,
             };
         }
-        if buf.len() - done < more {
-            done = buf.len();
-        } else {
-            done += more;
-        }
+        done += got.size;
     }
     Got {
         size: done,
@@ -65,25 +75,25 @@ pub fn read_full(buf: &mut [u8]) -> Got {
 // Writing
 
 // Writes a text to standard output; whether all of it was written.
-pub fn say(s: &[u8]) -> bool {
-    io::write_all(STDOUT_FILENO, s)
+pub fn say(rt: &impl Print, s: &[u8]) -> bool {
+    rt.write_all(s).is_ok()
 }
 
 // Writes a number to standard output, in decimal digits.
-pub fn say_number(n: usize) {
-    io::print_decimal(STDOUT_FILENO, n as u64);
+pub fn say_number(rt: &impl Print, n: usize) {
+    let _ = rt.print(n);
 }
 
 // Writes a text to standard output, or one line to standard error where that fails; whether all of it was written.
-pub fn publish(s: &[u8]) -> bool {
-    if say(s) {
+pub fn publish(rt: &(impl Print + Eprint), s: &[u8]) -> bool {
+    if say(rt, s) {
         return true;
     }
-    io::write_all(STDERR_FILENO, b"standard output could not be written\n");
+    let _ = rt.eprintln("standard output could not be written");
     false
 }
 
 // Writes to standard error that a read failed.
-pub fn unread() {
-    io::write_all(STDERR_FILENO, b"standard input could not be read\n");
+pub fn unread(rt: &impl Eprint) {
+    let _ = rt.eprintln("standard input could not be read");
 }
