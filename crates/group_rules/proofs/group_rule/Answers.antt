@@ -1,6 +1,6 @@
 -- `group_rules::group_rule` meets its contract: each arm says the order, and its answer is the definition's for the
 -- field at that order. Assumes nothing.
-use Rattle.refusal.proofs.Basics.{refl, rules}
+use Rattle.refusal.proofs.Basics.{refl}
 use Rattle.wage_places.specs.declared.LineType.TheVariants.{Group}
 use Rattle.wage_places.specs.Places.{spots, no_spot}
 use Rattle.wage_places.proofs.Laws.{past}

@@ -1,6 +1,6 @@
 -- `label_rules::label_rule` meets its contract: each arm says the order, and its answer is the definition's for the
 -- field at that order. Assumes nothing.
-use Rattle.refusal.proofs.Basics.{refl, rules}
+use Rattle.refusal.proofs.Basics.{refl}
 use Rattle.wage_places.specs.declared.LineType.TheVariants.{Label}
 use Rattle.wage_places.specs.Places.{spots, spot_in, no_spot}
 use Rattle.wage_places.proofs.Laws.{past}

@@ -1,6 +1,5 @@
 -- `order_contents::judge_code` meets its contract. Assumes nothing.
 use Rattle.order_contents.specs.Contents.{code_verdict}
-use Rattle.refusal.proofs.Basics.{rules}
 use Rattle.order_contents.proofs.judge_code.Goals as goal
 
 pub returns : goal.returns

@@ -1,5 +1,5 @@
 -- `order_contents::judge_description` meets its contract: a text that is not described has a byte for 3. Assumes nothing.
-use Rattle.refusal.proofs.Basics.{sym, ◌∙◌, rules, not-true, not-false, false≢true}
+use Rattle.refusal.proofs.Basics.{sym, ◌∙◌, not-true, not-false, false≢true}
 use Rattle.verdict.proofs.Verdicts.{refused, passed}
 use Rattle.classes.specs.declared.Class.TheVariants.{Description}
 use Rattle.text.proofs.Laws.{all_passes, passes_all}

@@ -1,6 +1,5 @@
 -- `order_contents::judge_model` meets its contract. Assumes nothing.
 use Rattle.order_contents.specs.Contents.{held_verdict}
-use Rattle.refusal.proofs.Basics.{rules}
 use Rattle.order_contents.proofs.judge_model.Goals as goal
 
 pub returns-in-Blank : goal.returns-in-Blank

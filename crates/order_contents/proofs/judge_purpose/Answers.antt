@@ -1,6 +1,5 @@
 -- `order_contents::judge_purpose` meets its contract. Assumes nothing.
 use Rattle.order_contents.specs.Contents.{purpose_place_verdict}
-use Rattle.refusal.proofs.Basics.{rules}
 use Rattle.order_contents.proofs.judge_purpose.Goals as goal
 
 pub returns : goal.returns

@@ -1,6 +1,5 @@
 -- `order_contents::judge_reference` meets its contract. Assumes nothing.
 use Rattle.order_contents.specs.Contents.{reference_held}
-use Rattle.refusal.proofs.Basics.{rules}
 use Rattle.order_contents.proofs.judge_reference.Goals as goal
 
 pub returns-in-Blank : goal.returns-in-Blank

@@ -1,6 +1,5 @@
 -- `order_contents::judge_sign` meets its contract. Assumes nothing.
 use Rattle.order_contents.specs.Contents.{sign_verdict}
-use Rattle.refusal.proofs.Basics.{rules}
 use Rattle.order_contents.proofs.judge_sign.Goals as goal
 
 pub returns : goal.returns

@@ -1,5 +1,5 @@
 -- `order_contents::model_in` meets its contract. Assumes nothing.
-use Rattle.refusal.proofs.Basics.{sym, ◌∙◌, rules}
+use Rattle.refusal.proofs.Basics.{sym, ◌∙◌}
 use Rattle.order_contents.specs.Contents.{held_in}
 use Rattle.order_contents.proofs.model_in.Goals as goal
 

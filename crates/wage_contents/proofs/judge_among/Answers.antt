@@ -1,6 +1,5 @@
 -- `wage_contents::judge_among` meets its contract. Assumes nothing.
 use Rattle.wage_contents.specs.Contents.{among_verdict}
-use Rattle.refusal.proofs.Basics.{rules}
 use Rattle.wage_contents.proofs.judge_among.Goals as goal
 
 pub returns : goal.returns

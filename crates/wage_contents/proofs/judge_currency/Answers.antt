@@ -1,6 +1,5 @@
 -- `wage_contents::judge_currency` meets its contract. Assumes nothing.
 use Rattle.wage_contents.specs.Contents.{currency_verdict}
-use Rattle.refusal.proofs.Basics.{rules}
 use Rattle.wage_contents.proofs.judge_currency.Goals as goal
 
 pub returns : goal.returns

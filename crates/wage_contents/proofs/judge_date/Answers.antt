@@ -1,6 +1,5 @@
 -- `wage_contents::judge_date` meets its contract. Assumes nothing.
 use Rattle.wage_contents.specs.Contents.{date_verdict}
-use Rattle.refusal.proofs.Basics.{rules}
 use Rattle.wage_contents.proofs.judge_date.Goals as goal
 
 pub returns : goal.returns

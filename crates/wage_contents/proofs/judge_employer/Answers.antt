@@ -1,6 +1,5 @@
 -- `wage_contents::judge_employer` meets its contract. Assumes nothing.
 use Rattle.wage_contents.specs.Contents.{employer_verdict}
-use Rattle.refusal.proofs.Basics.{rules}
 use Rattle.wage_contents.proofs.judge_employer.Goals as goal
 
 pub returns : goal.returns

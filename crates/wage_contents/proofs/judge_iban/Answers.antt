@@ -1,5 +1,5 @@
 -- `wage_contents::judge_iban` meets its contract: an IBAN with blanks behind it is right, else one rule after the other. Assumes nothing.
-use Rattle.refusal.proofs.Basics.{refl, sym, ◌∙◌, rules, taken, left}
+use Rattle.refusal.proofs.Basics.{refl, sym, ◌∙◌, taken, left}
 use Rattle.verdict.proofs.Verdicts.{refused, passed, failed, met}
 use Rattle.wage_contents.specs.Contents.{iban_place_verdict}
 use Rattle.wage_contents.proofs.Laws.{account_right}

@@ -1,5 +1,5 @@
 -- `wage_contents::judge_oib` meets its contract: zeros are digits. Assumes nothing.
-use Rattle.refusal.proofs.Basics.{sym, ◌∙◌, rules, eqb-true}
+use Rattle.refusal.proofs.Basics.{sym, ◌∙◌, eqb-true}
 use Rattle.verdict.proofs.Verdicts.{passed}
 use Rattle.classes.specs.declared.Class.TheVariants.{Digits, Zeros}
 use Rattle.text.proofs.Laws.{all_wider, all_passes}

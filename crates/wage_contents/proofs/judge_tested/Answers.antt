@@ -1,5 +1,5 @@
 -- `wage_contents::judge_tested` meets its contract. Assumes nothing.
-use Rattle.refusal.proofs.Basics.{refl, rules}
+use Rattle.refusal.proofs.Basics.{refl}
 use Rattle.verdict.proofs.Verdicts.{refused, passed}
 use Rattle.wage_contents.specs.Contents.{tested}
 use Rattle.wage_contents.proofs.judge_tested.Goals as goal

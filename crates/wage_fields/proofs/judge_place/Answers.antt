@@ -1,5 +1,5 @@
 -- `wage_fields::judge_place` meets its contract: a range of one place. Assumes nothing.
-use Rattle.refusal.proofs.Basics.{◌∙◌, rules, arith}
+use Rattle.refusal.proofs.Basics.{◌∙◌, arith}
 use Rattle.wage_fields.proofs.Laws.{few, range_one, range_past}
 use Rattle.wage_fields.proofs.judge_place.Goals as goal
 

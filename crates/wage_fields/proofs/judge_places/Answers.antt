@@ -1,5 +1,5 @@
 -- `wage_fields::judge_places` meets its contract: the range of all places. Assumes nothing.
-use Rattle.refusal.proofs.Basics.{◌∙◌, rules, arith}
+use Rattle.refusal.proofs.Basics.{◌∙◌, arith}
 use Rattle.wage_fields.proofs.Laws.{range_end, range_all}
 use Rattle.wage_fields.proofs.judge_places.Goals as goal
 

@@ -1,6 +1,6 @@
 -- `wage_fields::judge_range` meets its contract. The loop's invariant: the answer is that of the places from `k` on. Assumes nothing.
-use Rattle.refusal.proofs.Basics.{◌≡◌, refl, sym, ◌∙◌, arith, ◌-◌}
-use Rattle.wage_fields.proofs.Laws.{fits, Rest, range_end, range_size, range_on, range_stop}
+use Rattle.refusal.proofs.Basics.{sym, ◌∙◌, arith}
+use Rattle.wage_fields.proofs.Laws.{fits, range_end, range_size, range_on, range_stop}
 use Rattle.wage_fields.proofs.judge_range.Goals as goal
 
 pub returns-then-s-ne1002 : goal.returns-then-s-ne1002

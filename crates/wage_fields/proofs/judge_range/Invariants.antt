@@ -1,6 +1,6 @@
 -- `wage_fields::judge_range` meets its contract. The loop's invariant: the answer is that of the places from `k` on. Assumes nothing.
-use Rattle.refusal.proofs.Basics.{◌≡◌, refl, sym, ◌∙◌, arith, ◌-◌}
-use Rattle.wage_fields.proofs.Laws.{fits, Rest, range_end, range_size, range_on, range_stop}
+use Rattle.refusal.proofs.Basics.{◌≡◌, ◌-◌}
+use Rattle.wage_fields.proofs.Laws.{Rest}
 use Rattle.wage_fields.proofs.judge_range.Given as goal
 
 abbrev pub invariant-places : goal.invariant-places

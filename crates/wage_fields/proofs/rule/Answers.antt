@@ -1,5 +1,4 @@
 -- `wage_fields::rule` meets its contract: one rule for each type of line. Assumes nothing.
-use Rattle.refusal.proofs.Basics.{rules}
 use Rattle.wage_fields.specs.Rules.{place_verdict}
 use Rattle.wage_fields.proofs.rule.Goals as goal
 
