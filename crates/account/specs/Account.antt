@@ -1,5 +1,5 @@
 -- Document 01, "Check digits": an IBAN's form and check, and an OIB's.
-use Rattle.refusal.specs.Basics.{ℕ, ◌%◌, Bool, ◌&&◌, List, ◌∷◌, ◌++◌, eqb, leb, length, get_or, take, drop}
+use Rattle.std.specs.Prelude.{ℕ, ◌%◌, Bool, ◌&&◌, List, ◌∷◌, ◌++◌, eqb, leb, length, get_or, take, drop}
 use Rattle.text.specs.Bytes.{all_of}
 use Rattle.text.specs.Digits.{digits_of, value_of}
 use Rattle.classes.specs.declared.Class.TheVariants.{Digits}

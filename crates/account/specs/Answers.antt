@@ -1,5 +1,5 @@
 -- What is said of a text where an IBAN or an OIB should stand: a verdict, 3 with its byte, 4, 5, 6.
-use Rattle.refusal.specs.Basics.{ℕ, Bool, ◌&&◌, List, eqb, length}
+use Rattle.std.specs.Prelude.{ℕ, Bool, ◌&&◌, List, eqb, length}
 use Rattle.verdict.specs.Verdict.{only_if, and_then}
 use Rattle.text.specs.Bytes.{bytes_verdict}
 use Rattle.classes.specs.declared.Class.TheVariants.{Digits, Account}

@@ -1,5 +1,5 @@
 -- Document 02, W1: field 10 of a kuna slip, "an IBAN or seven digits, a hyphen and ten digits (an account starts with a digit)".
-use Rattle.refusal.specs.Basics.{ℕ, Bool, cond, ◌&&◌, List, eqb, length, get_or, take, drop}
+use Rattle.std.specs.Prelude.{ℕ, Bool, cond, ◌&&◌, List, eqb, length, get_or, take, drop}
 use Rattle.verdict.specs.Verdict.{only_if, and_then}
 use Rattle.classes.specs.Classes.{is_digit}
 use Rattle.classes.specs.declared.Class.TheVariants.{Digits, AccountForm}

@@ -1,5 +1,6 @@
 -- Document 01, "The wage file", the writer: "It puts blanks in places not read (zeros in 540–542)".
-use Rattle.refusal.specs.Basics.{ℕ, List, [], ◌∷◌, replicate, spelt}
+use Rattle.std.specs.Prelude.{ℕ, List, [], ◌∷◌, replicate}
+use Rattle.refusal.specs.Basics.{spelt}
 use Rattle.std.proofs.lemmas.List.Edits.{sets}
 use Rattle.wage_places.specs.declared.LineType.{LineType}
 use Rattle.wage_places.specs.declared.LineType.TheVariants.{Label, Group, Order, Closing}

@@ -1,6 +1,6 @@
 -- How answers stand at the boundary: document 01's number, line, field and byte, the needed number, and what an acceptance tells. Number 0 is
 -- acceptance; then all else but what it tells is 0.
-use Rattle.refusal.specs.Basics.{ℕ}
+use Rattle.std.specs.Prelude.{ℕ}
 use Rattle.refusal.specs.Refusal.{none, refusal_number, refusal_place, needed_of}
 use Rattle.verdict.specs.Verdict.{answer_in}
 use Rattle.refusal.specs.declared.Answer.{Answer}

@@ -1,5 +1,5 @@
 -- What judging a text field of at most n characters answers: 3 with its byte, then 4.
-use Rattle.refusal.specs.Basics.{ℕ, List, leb}
+use Rattle.std.specs.Prelude.{ℕ, List, leb}
 use Rattle.verdict.specs.Verdict.{only_if, and_then}
 use Rattle.text.specs.Bytes.{found}
 use Rattle.characters.specs.Characters.{first_wrong, characters}

@@ -1,5 +1,5 @@
 -- Document 01, "The slip's fourteen fields", last paragraph: the characters that a text permits, of one byte or of two, and their number.
-use Rattle.refusal.specs.Basics.{ℕ, suc, Bool, cond, not, ◌&&◌, ◌||◌, List, [], ◌∷◌, eqb, leb, ltb, length, get_or}
+use Rattle.std.specs.Prelude.{ℕ, suc, Bool, cond, not, ◌&&◌, ◌||◌, List, [], ◌∷◌, eqb, leb, ltb, length, get_or}
 use Rattle.classes.specs.Classes.{is_digit, is_letter}
 use Rattle.text.specs.Bytes.{later}
 use Rattle.text.specs.declared.Found.{Found}

@@ -1,5 +1,5 @@
 -- Document 01, "Check digits", last paragraph: what checking and making a check digit answer. No place is told.
-use Rattle.refusal.specs.Basics.{ℕ, Bool, cond, ◌&&◌, List, leb, length}
+use Rattle.std.specs.Prelude.{ℕ, Bool, cond, ◌&&◌, List, leb, length}
 use Rattle.refusal.specs.Refusal.{none}
 use Rattle.refusal.specs.declared.Answer.{Answer}
 use Rattle.refusal.specs.declared.Answer.TheVariants.{Accepted, Refused}

@@ -1,5 +1,5 @@
 -- Document 01, "Check digits": MOD 11,10 and INI.
-use Rattle.refusal.specs.Basics.{ℕ, ◌+◌, ◌-◌, ◌*◌, ◌%◌, Bool, cond, ◌&&◌, List, [], ◌∷◌, eqb, ltb, length, get_or, take}
+use Rattle.std.specs.Prelude.{ℕ, ◌+◌, ◌-◌, ◌*◌, ◌%◌, Bool, cond, ◌&&◌, List, [], ◌∷◌, eqb, ltb, length, get_or, take}
 use Rattle.text.specs.Digits.{digits_of}
 use Rattle.check_digits.specs.declared.Rule.{Rule}
 use Rattle.check_digits.specs.declared.Rule.TheVariants.{Ini, Mod1110}

@@ -1,6 +1,6 @@
 -- How the code reads a check digit's digits, from left to right: it mirrors src/, and proofs/Laws.antt leads from it to the definitions
 -- of CheckDigit.antt. No contract of a public call cites it.
-use Rattle.refusal.specs.Basics.{ℕ, ◌+◌, ◌-◌, ◌%◌, ◌<◌, cond, List, [], ◌∷◌}
+use Rattle.std.specs.Prelude.{ℕ, ◌+◌, ◌-◌, ◌%◌, ◌<◌, cond, List, [], ◌∷◌}
 use Rattle.classes.specs.Classes.{is_digit}
 use Rattle.check_digits.specs.CheckDigit.{carry, digit_for}
 use Rattle.check_digits.specs.declared.Rule.{Rule}

@@ -1,5 +1,5 @@
 -- Which bytes the fields of document 01 permit.
-use Rattle.refusal.specs.Basics.{ℕ, Bool, not, ◌&&◌, ◌||◌, eqb, leb}
+use Rattle.std.specs.Prelude.{ℕ, Bool, not, ◌&&◌, ◌||◌, eqb, leb}
 use Rattle.classes.specs.declared.Class.{Class}
 use Rattle.classes.specs.declared.Class.TheVariants.{Digits, Account, Reference, WetAccount, WetReference, Dry, Part, Line, Letters, Blanks, Zeros, Place, Description, AccountForm}
 

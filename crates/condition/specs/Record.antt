@@ -1,6 +1,6 @@
 -- Document 01, "The wage file": the judge's record. "The judge stands in one condition: fresh, after the label, inside a group, closed, or
 -- refused with its first refusal inside".
-use Rattle.refusal.specs.Basics.{ℕ, ◌+◌, Bool, cond, ◌&&◌, eqb, leb}
+use Rattle.std.specs.Prelude.{ℕ, ◌+◌, Bool, cond, ◌&&◌, eqb, leb}
 use Rattle.refusal.specs.Refusal.{refusal_of}
 use Rattle.refusal.specs.declared.Refusal.{Refusal}
 use Rattle.sums.specs.Sums.{no_cents, fits}

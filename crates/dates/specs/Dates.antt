@@ -1,5 +1,5 @@
 -- Document 01, "The wage file": "Dates are YYYYMMDD, Gregorian, years 2023 to 9999". A date is the number that its eight digits write.
-use Rattle.refusal.specs.Basics.{ℕ, ◌/◌, ◌%◌, Bool, cond, not, ◌&&◌, ◌||◌, eqb, leb}
+use Rattle.std.specs.Prelude.{ℕ, ◌/◌, ◌%◌, Bool, cond, not, ◌&&◌, ◌||◌, eqb, leb}
 
 -- the Gregorian calendar's leap years
 abbrev pub is_leap : ℕ → Bool

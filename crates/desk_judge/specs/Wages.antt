@@ -1,5 +1,5 @@
 -- What the judge's calls tell at the boundary, and where a place of a wage line stands.
-use Rattle.refusal.specs.Basics.{ℕ, List}
+use Rattle.std.specs.Prelude.{ℕ, List}
 use Rattle.text.specs.declared.Part.{Part}
 use Rattle.wage_line.specs.declared.Typed.{Typed}
 use Rattle.wage_line.specs.declared.Typed.TheVariants.{Line, Refused}

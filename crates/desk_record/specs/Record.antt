@@ -1,5 +1,5 @@
 -- The judge's record as plain numbers, and what a record of any numbers stands for.
-use Rattle.refusal.specs.Basics.{ℕ, cond, eqb}
+use Rattle.std.specs.Prelude.{ℕ, cond, eqb}
 use Rattle.refusal.specs.Refusal.{refusal_of}
 use Rattle.condition.specs.Record.{stage_of, is_refused, refusal_in, beyond}
 use Rattle.condition.specs.declared.Condition.{Condition}

@@ -1,5 +1,5 @@
 -- What the calls of slips tell at the boundary, and what a call that writes answers and leaves.
-use Rattle.refusal.specs.Basics.{ℕ, ◌≡◌, cond, List, length}
+use Rattle.std.specs.Prelude.{ℕ, ◌≡◌, cond, List, length}
 use Rattle.refusal.specs.declared.Refusal.TheVariants.{Size}
 use Rattle.refusal.specs.Refusal.{none}
 use Rattle.slip_handed.specs.declared.Amount.{Amount}

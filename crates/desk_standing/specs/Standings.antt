@@ -1,5 +1,5 @@
 -- What the calls of standing text tell at the boundary, and what the one that writes answers and leaves.
-use Rattle.refusal.specs.Basics.{ℕ, ◌≡◌, List, length}
+use Rattle.std.specs.Prelude.{ℕ, ◌≡◌, List, length}
 use Rattle.slip_writer.specs.Writer.{slip_text, left_by_slip}
 use Rattle.standing_text.specs.declared.Sheet.{Sheet}
 use Rattle.standing_text.specs.declared.Sheet.TheVariants.{Neither, Farm, Association}

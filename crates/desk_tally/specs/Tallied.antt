@@ -1,5 +1,5 @@
 -- What a step with a lent tally gives at the boundary: the judge's record as plain numbers, and the tally.
-use Rattle.refusal.specs.Basics.{ℕ, List}
+use Rattle.std.specs.Prelude.{ℕ, List}
 use Rattle.tally.specs.declared.Tally.{Tally}
 use Rattle.running_total.specs.RunningTotal.{tallied}
 use Rattle.desk_record.specs.declared.Record.{Record}

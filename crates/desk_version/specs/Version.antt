@@ -1,5 +1,5 @@
 -- The version of the library as one number; tools/tables holds it to the file VERSION.
-use Rattle.refusal.specs.Basics.{ℕ}
+use Rattle.std.specs.Prelude.{ℕ}
 
 abbrev pub version : ℕ
 version = 20000

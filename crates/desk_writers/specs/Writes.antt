@@ -1,5 +1,5 @@
 -- What a call that writes a wage line answers and leaves.
-use Rattle.refusal.specs.Basics.{ℕ, ◌≡◌, List}
+use Rattle.std.specs.Prelude.{ℕ, ◌≡◌, List}
 use Rattle.refusal.specs.declared.Answer.{Answer}
 use Rattle.line_room.specs.LineRoom as wage
 use Rattle.boundary.specs.Told.{told_of}

@@ -1,5 +1,5 @@
 -- What is claimed of the fillings of one text (proofs/Theorems.antt): which texts fill it, and by which number.
-use Rattle.refusal.specs.Basics.{ℕ, ◌+◌, ◌-◌, ◌*◌, ◌^◌, ◌<◌, ◌≤◌, ◌≡◌, cond, List, [], ◌∷◌, eqb, length, get_or}
+use Rattle.std.specs.Prelude.{ℕ, ◌+◌, ◌-◌, ◌*◌, ◌^◌, ◌<◌, ◌≤◌, ◌≡◌, cond, List, [], ◌∷◌, eqb, length, get_or}
 use Rattle.text.specs.Bytes.{marks}
 
 -- t fills s: it is s where s has no mark, and has a digit where s has one

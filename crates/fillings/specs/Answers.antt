@@ -1,5 +1,5 @@
 -- Document 01, "Wet slips": what a listing answers, and what it leaves in the lent slice.
-use Rattle.refusal.specs.Basics.{ℕ, Bool, cond, List, ◌++◌, leb, ltb, length, drop}
+use Rattle.std.specs.Prelude.{ℕ, Bool, cond, List, ◌++◌, leb, ltb, length, drop}
 use Rattle.refusal.specs.Refusal.{none}
 use Rattle.refusal.specs.declared.Refusal.TheVariants.{Room, Size, Marks}
 use Rattle.text.specs.Bytes.{marks}

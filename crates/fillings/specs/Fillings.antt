@@ -1,5 +1,5 @@
 -- Document 01, "Wet slips": the fillings of a text, over any rule p that says which filled texts are accepted.
-use Rattle.refusal.specs.Basics.{ℕ, zero, suc, ◌^◌, Bool, cond, List, [], ◌∷◌}
+use Rattle.std.specs.Prelude.{ℕ, zero, suc, ◌^◌, Bool, cond, List, [], ◌∷◌}
 use Rattle.text.specs.Bytes.{marks}
 use Rattle.filling.specs.Filling.{fill}
 

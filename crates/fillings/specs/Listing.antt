@@ -1,5 +1,5 @@
 -- What is claimed of a listing (proofs/Theorems.antt): its members, their order and their number.
-use Rattle.refusal.specs.Basics.{ℕ, zero, suc, ◌<◌, ◌≡◌, Bool, cond, List, [], ◌∷◌, length, get_or}
+use Rattle.std.specs.Prelude.{ℕ, zero, suc, ◌<◌, ◌≡◌, Bool, cond, List, [], ◌∷◌, length, get_or}
 use Rattle.std.specs.Prelude.{◌⊎◌}
 
 -- k stands in the list

@@ -1,6 +1,6 @@
 -- How the code lists: mark by mark, and what it asks of each filling. It mirrors src/; proofs/ leads from it to the listing of
 -- Fillings.antt, and wet/proofs/Accepts.antt to what the rules ask.
-use Rattle.refusal.specs.Basics.{ℕ, ◌*◌, ◌^◌, Bool, List, cond, ◌&&◌}
+use Rattle.std.specs.Prelude.{ℕ, ◌*◌, ◌^◌, Bool, List, cond, ◌&&◌}
 use Rattle.text.specs.Bytes.{marks}
 use Rattle.filling.specs.Filling.{fill}
 use Rattle.fillings.specs.Fillings.{among}

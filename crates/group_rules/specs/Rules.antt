@@ -1,5 +1,5 @@
 -- Document 01, "The wage file", its list for 301: the rule of each place, by its field's number. f are the place's own bytes.
-use Rattle.refusal.specs.Basics.{ℕ, true, false, cond, List, eqb}
+use Rattle.std.specs.Prelude.{ℕ, true, false, cond, List, eqb}
 use Rattle.text.specs.Bytes.{bytes_verdict}
 use Rattle.classes.specs.declared.Class.TheVariants.{Digits}
 use Rattle.wage_contents.specs.Contents.{date_verdict, iban_place_verdict, currency_verdict}

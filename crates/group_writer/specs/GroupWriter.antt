@@ -1,5 +1,5 @@
 -- Document 01, "The wage file", the writer: "a 301 from its fields and its group's lent 309 lines, whose number and sum it works out".
-use Rattle.refusal.specs.Basics.{ℕ, ◌/◌, List, [], ◌∷◌, length, get_or}
+use Rattle.std.specs.Prelude.{ℕ, ◌/◌, List, [], ◌∷◌, length, get_or}
 use Rattle.refusal.specs.Refusal.{first_of}
 use Rattle.refusal.specs.declared.Answer.{Answer}
 use Rattle.text.specs.Digits.{digits_text}

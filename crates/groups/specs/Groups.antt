@@ -1,5 +1,5 @@
 -- Document 01, "Reference models": the check groups of a reference, and all that is asked of formed parts.
-use Rattle.refusal.specs.Basics.{ℕ, Bool, true, ◌&&◌, List, [], ◌∷◌, take, drop}
+use Rattle.std.specs.Prelude.{ℕ, Bool, true, ◌&&◌, List, [], ◌∷◌, take, drop}
 use Rattle.text.specs.Split.{joined}
 use Rattle.check_digits.specs.CheckDigit.{passes}
 use Rattle.models.specs.declared.Group.{Group}

@@ -1,6 +1,6 @@
 -- What is asked of a text by where its parts end: it mirrors src/, and proofs/Laws.antt leads from `obeys_at` to `parts_right` of
 -- Groups.antt.
-use Rattle.refusal.specs.Basics.{ℕ, ◌+◌, ◌-◌, Bool, true, cond, ◌&&◌, ◌||◌, List, eqb}
+use Rattle.std.specs.Prelude.{ℕ, ◌+◌, ◌-◌, Bool, true, cond, ◌&&◌, ◌||◌, List, eqb}
 use Rattle.check_digits.specs.CheckDigit.{passes}
 use Rattle.models.specs.declared.Group.{Group}
 use Rattle.models.specs.declared.Model.{Model}

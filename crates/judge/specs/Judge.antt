@@ -1,6 +1,6 @@
 -- Document 01, "The wage file": the judge, which stands in one condition and reads a line at a step. "Order in a line: 17, 1, 2, 5 (type), 10,
 -- 12, 13, then the fields in order".
-use Rattle.refusal.specs.Basics.{ℕ, cond, ◌&&◌, List, [], ◌∷◌, eqb, ltb}
+use Rattle.std.specs.Prelude.{ℕ, cond, ◌&&◌, List, [], ◌∷◌, eqb, ltb}
 use Rattle.refusal.specs.Refusal.{in_line}
 use Rattle.refusal.specs.declared.Answer.{Answer}
 use Rattle.refusal.specs.declared.Answer.TheVariants as answer

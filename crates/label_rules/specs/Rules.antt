@@ -1,6 +1,6 @@
 -- Document 01, "The wage file", its list for 300: the rule of each place, by its field's number. f are the place's own bytes, s the line that it
 -- stands in.
-use Rattle.refusal.specs.Basics.{ℕ, true, false, cond, List, eqb}
+use Rattle.std.specs.Prelude.{ℕ, true, false, cond, List, eqb}
 use Rattle.text.specs.Bytes.{bytes_verdict}
 use Rattle.classes.specs.declared.Class.TheVariants.{Digits}
 use Rattle.wage_places.specs.declared.LineType.TheVariants.{Label}

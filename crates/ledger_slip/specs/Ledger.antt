@@ -1,5 +1,5 @@
 -- Document 02, W1: a slip of either currency. "Read both kinds and say which it was."
-use Rattle.refusal.specs.Basics.{ℕ, cond, List}
+use Rattle.std.specs.Prelude.{ℕ, cond, List}
 use Rattle.refusal.specs.declared.Answer.{Answer}
 use Rattle.refusal.specs.declared.Answer.TheVariants as answer
 use Rattle.text.specs.declared.Part.{Part}

@@ -1,6 +1,6 @@
 -- Document 01, "The wage file", the writer of a 301: a line of its group's lent 309 lines. "the first refusal in them, 10 for another type, with
 -- its line in the group".
-use Rattle.refusal.specs.Basics.{ℕ, List}
+use Rattle.std.specs.Prelude.{ℕ, List}
 use Rattle.refusal.specs.Refusal.{in_line}
 use Rattle.refusal.specs.declared.Answer.{Answer}
 use Rattle.refusal.specs.declared.Answer.TheVariants as answer

@@ -1,5 +1,5 @@
 -- Document 01, "Wet slips": the listing program reads one line, and its first space divides it.
-use Rattle.refusal.specs.Basics.{ℕ, Bool, true, false, cond, List, [], ◌∷◌, eqb}
+use Rattle.std.specs.Prelude.{ℕ, Bool, true, false, cond, List, [], ◌∷◌, eqb}
 
 -- what stands before the first byte c; all of it where there is none
 unfoldable pub before : ℕ → List ℕ → List ℕ

@@ -1,5 +1,5 @@
 -- How the code keeps a line, byte by byte, in two lent arrays: it mirrors src/, and proofs/Theorems.antt says what is kept.
-use Rattle.refusal.specs.Basics.{ℕ, ◌+◌, true, false, cond, List, [], ◌∷◌, eqb, ltb, length, set}
+use Rattle.std.specs.Prelude.{ℕ, ◌+◌, true, false, cond, List, [], ◌∷◌, eqb, ltb, length, set}
 use Rattle.line.specs.declared.Seen.{Seen}
 
 -- nothing seen yet

@@ -1,5 +1,5 @@
 -- Document 01, "The wage file", the writer: one line into lent room. The refusals of the day, the kind and the room, and what is left there.
-use Rattle.refusal.specs.Basics.{ℕ, ◌≡◌, cond, ◌||◌, List, ◌++◌, eqb, leb, drop}
+use Rattle.std.specs.Prelude.{ℕ, ◌≡◌, cond, ◌||◌, List, ◌++◌, eqb, leb, drop}
 use Rattle.refusal.specs.Refusal.{none}
 use Rattle.refusal.specs.declared.Answer.{Answer}
 use Rattle.refusal.specs.declared.Answer.TheVariants.{Accepted, Refused}

@@ -1,6 +1,7 @@
 -- Document 01, "Wet slips": "The listing program reads one line, an IBAN or a model, one space and a reference, and writes the count and the
 -- filled texts, or `refused` and the number (the first space divides; no LF is 1)."
-use Rattle.refusal.specs.Basics.{ℕ, cond, List, [], ◌∷◌, ◌++◌, ltb, length, spelt}
+use Rattle.std.specs.Prelude.{ℕ, cond, List, [], ◌∷◌, ◌++◌, ltb, length}
+use Rattle.refusal.specs.Basics.{spelt}
 use Rattle.refusal.specs.Refusal.{none, refusal_number}
 use Rattle.refusal.specs.declared.Refusal.TheVariants.{Size}
 use Rattle.line.specs.Line.{has, line_of, head_of, tail_of}

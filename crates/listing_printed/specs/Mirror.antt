@@ -1,6 +1,6 @@
 -- The same of a kept line: what was seen of it, and the bytes kept of its two sides (the crate `line`). proofs/Theorems.antt says that the line
 -- as it was kept has the whole line's answer.
-use Rattle.refusal.specs.Basics.{ℕ, cond, List, take}
+use Rattle.std.specs.Prelude.{ℕ, cond, List, take}
 use Rattle.refusal.specs.Refusal.{none}
 use Rattle.refusal.specs.declared.Refusal.TheVariants.{Size}
 use Rattle.line.specs.declared.Seen.{Seen}

@@ -1,5 +1,5 @@
 -- Document 01, "Reference models": a model's text, and what judging it answers.
-use Rattle.refusal.specs.Basics.{ℕ, cond, ◌&&◌, List, eqb, length, get_or}
+use Rattle.std.specs.Prelude.{ℕ, cond, ◌&&◌, List, eqb, length, get_or}
 use Rattle.verdict.specs.Verdict.{only_if}
 use Rattle.text.specs.Digits.{two_digits}
 use Rattle.text.specs.declared.Found.{Found}

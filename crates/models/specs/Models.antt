@@ -1,5 +1,5 @@
 -- Document 01, "Reference models", and document 02, W4: the sixteen models, each as one value.
-use Rattle.refusal.specs.Basics.{ℕ, ◌+◌, ◌-◌, true, false, cond, List, [], ◌∷◌, eqb}
+use Rattle.std.specs.Prelude.{ℕ, ◌+◌, ◌-◌, true, false, cond, List, [], ◌∷◌, eqb}
 use Rattle.check_digits.specs.declared.Rule.{Rule}
 use Rattle.check_digits.specs.declared.Rule.TheVariants.{Ini, Mod1110}
 use Rattle.models.specs.declared.Group.{Group}

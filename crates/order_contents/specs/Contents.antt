@@ -1,6 +1,6 @@
 -- Document 01, "The wage file": what only a 309 holds, each kind of content once, as a verdict. Within a field 3 with its byte, 5, 7, 8, 9.
 -- "3 is also given .. in a reference for one not digit, hyphen or trailing blank; in a description. Every other wrong byte or content is 5."
-use Rattle.refusal.specs.Basics.{ℕ, Bool, true, false, cond, not, ◌&&◌, ◌||◌, List, eqb, length, get_or}
+use Rattle.std.specs.Prelude.{ℕ, Bool, true, false, cond, not, ◌&&◌, ◌||◌, List, eqb, length, get_or}
 use Rattle.verdict.specs.Verdict.{only_if}
 use Rattle.text.specs.Bytes.{all_of, trimmed}
 use Rattle.classes.specs.declared.Class.TheVariants.{Digits, Reference, Letters, Blanks, Description}

@@ -1,5 +1,5 @@
 -- Document 02, W4: what a model asks its parts to hold.
-use Rattle.refusal.specs.Basics.{ℕ, Bool, true, ◌||◌, List, [], ◌∷◌, eqb, ltb, length, drop}
+use Rattle.std.specs.Prelude.{ℕ, Bool, true, ◌||◌, List, [], ◌∷◌, eqb, ltb, length, drop}
 use Rattle.sums.specs.Sums.{number_in}
 use Rattle.codes.specs.Codes.{is_code}
 use Rattle.models.specs.declared.Content.{Content}

@@ -1,5 +1,5 @@
 -- What parts hold, by where they end: it mirrors src/, and proofs/Laws.antt leads from it to `contents_right` of Contents.antt.
-use Rattle.refusal.specs.Basics.{ℕ, ◌-◌, Bool, ◌||◌, List, eqb}
+use Rattle.std.specs.Prelude.{ℕ, ◌-◌, Bool, ◌||◌, List, eqb}
 use Rattle.models.specs.declared.Asked.{Asked}
 use Rattle.models.specs.declared.Model.{Model}
 use Rattle.models.specs.Every.{every}

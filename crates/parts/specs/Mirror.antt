@@ -1,6 +1,6 @@
 -- Where the parts of a text end, packed into one number: it mirrors src/, and proofs/Readers.antt leads from what is read to `formed` of
 -- Parts.antt.
-use Rattle.refusal.specs.Basics.{ℕ, ◌+◌, ◌-◌, ◌*◌, ◌/◌, ◌%◌, ◌^◌, Bool, cond, not, ◌&&◌, ◌||◌, List, [], ◌∷◌, eqb, length}
+use Rattle.std.specs.Prelude.{ℕ, ◌+◌, ◌-◌, ◌*◌, ◌/◌, ◌%◌, ◌^◌, Bool, cond, not, ◌&&◌, ◌||◌, List, [], ◌∷◌, eqb, length}
 use Rattle.text.specs.Bytes.{all_of}
 use Rattle.classes.specs.declared.Class.TheVariants.{Digits}
 use Rattle.text.specs.declared.Found.{Found}

@@ -1,5 +1,5 @@
 -- Document 01, "Reference models": the parts of a reference, a model's lengths, and its check groups.
-use Rattle.refusal.specs.Basics.{ℕ, Bool, true, false, ◌&&◌, List, [], ◌∷◌, leb, ltb, length}
+use Rattle.std.specs.Prelude.{ℕ, Bool, true, false, ◌&&◌, List, [], ◌∷◌, leb, ltb, length}
 use Rattle.text.specs.Bytes.{all_of}
 use Rattle.text.specs.Split.{split}
 use Rattle.classes.specs.declared.Class.TheVariants.{Digits}

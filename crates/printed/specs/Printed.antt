@@ -1,5 +1,6 @@
 -- What the programs print: words, numbers in decimal digits, and a refusal with its place.
-use Rattle.refusal.specs.Basics.{ℕ, zero, suc, ◌+◌, ◌/◌, ◌≡◌, cond, List, [], ◌∷◌, ◌++◌, ltb, length, spelt}
+use Rattle.std.specs.Prelude.{ℕ, zero, suc, ◌+◌, ◌/◌, ◌≡◌, cond, List, [], ◌∷◌, ◌++◌, ltb, length}
+use Rattle.refusal.specs.Basics.{spelt}
 use Rattle.std.proofs.lemmas.List.Edits.{sets}
 use Rattle.text.specs.Digits.{digits_text}
 use Rattle.refusal.specs.declared.Place.{Place}

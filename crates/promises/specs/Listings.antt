@@ -1,5 +1,5 @@
 -- Demand 3, said of one call: what it was lent, what it answered, and what it left.
-use Rattle.refusal.specs.Basics.{ℕ, ◌^◌, ◌<◌, ◌≤◌, ◌≡◌, Bool, true, List, length, get_or, take, drop}
+use Rattle.std.specs.Prelude.{ℕ, ◌^◌, ◌<◌, ◌≤◌, ◌≡◌, Bool, true, List, length, get_or, take, drop}
 use Rattle.std.specs.Prelude.{◌↔◌}
 use Rattle.text.specs.Bytes.{marks}
 use Rattle.filling.specs.Filling.{fill}

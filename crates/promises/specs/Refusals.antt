@@ -1,5 +1,5 @@
 -- Demand 1: what a call may tell; and which refusal comes first, of one slip, of one wage line, of one wage file.
-use Rattle.refusal.specs.Basics.{ℕ, ◌-◌, ◌<◌, ◌≤◌, ◌≡◌, Bool, true, false, cond, ◌&&◌, List, [], ltb, length, get_or, take}
+use Rattle.std.specs.Prelude.{ℕ, ◌-◌, ◌<◌, ◌≤◌, ◌≡◌, Bool, true, false, cond, ◌&&◌, List, [], ltb, length, get_or, take}
 use Rattle.std.specs.Prelude.{◌⊎◌}
 use Rattle.refusal.specs.Refusal.{none, is_tabled, in_line}
 use Rattle.refusal.specs.declared.Answer.TheVariants.{Accepted, Refused}

@@ -1,5 +1,5 @@
 -- Document 02, W5: the running total. "Begun at zero with a fresh judge", then a line at a call.
-use Rattle.refusal.specs.Basics.{ℕ, List, [], ◌∷◌, ◌++◌}
+use Rattle.std.specs.Prelude.{ℕ, List, [], ◌∷◌, ◌++◌}
 use Rattle.tally.specs.declared.Tally.{Tally}
 use Rattle.tally.specs.Tally.{no_orders}
 use Rattle.desk_record.specs.declared.Record.{Record}

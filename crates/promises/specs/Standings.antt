@@ -1,5 +1,5 @@
 -- Document 02, W2: what is claimed of the calls of standing text.
-use Rattle.refusal.specs.Basics.{ℕ, ◌≡◌, true, false, cond, List, [], eqb, take, drop}
+use Rattle.std.specs.Prelude.{ℕ, ◌≡◌, true, false, cond, List, [], eqb, take, drop}
 use Rattle.refusal.specs.Refusal.{none}
 use Rattle.refusal.specs.declared.Refusal.{Refusal}
 use Rattle.refusal.specs.declared.Refusal.TheVariants.{Size, Sheet, Field}

@@ -1,5 +1,6 @@
 -- What is claimed of references under HR69 (proofs/WageReferences.antt), to be held beside document 02, W4.
-use Rattle.refusal.specs.Basics.{ℕ, ◌<◌, ◌≡◌, true, ◌&&◌, List, spelt, eqb, length, get_or}
+use Rattle.std.specs.Prelude.{ℕ, ◌<◌, ◌≡◌, true, ◌&&◌, List, eqb, length, get_or}
+use Rattle.refusal.specs.Basics.{spelt}
 use Rattle.text.specs.Bytes.{all_of}
 use Rattle.text.specs.Digits.{digits_text}
 use Rattle.classes.specs.declared.Class.TheVariants.{Digits}

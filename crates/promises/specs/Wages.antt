@@ -1,5 +1,5 @@
 -- Demand 2, wage files: what a right one is, said of its bytes.
-use Rattle.refusal.specs.Basics.{ℕ, ◌≡◌, List}
+use Rattle.std.specs.Prelude.{ℕ, ◌≡◌, List}
 use Rattle.wage_line.specs.Pieces.{pieces}
 use Rattle.wage_file.specs.Right.{File, lines_of, RightFile}
 

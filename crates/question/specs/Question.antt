@@ -1,6 +1,6 @@
 -- What a question says (second/README.md, "Cases"): its fields between bars, its verb, the numbers in its fields, and a text of fields laid
 -- out. `|` is 124, a line feed 10.
-use Rattle.refusal.specs.Basics.{ℕ, zero, suc, cond, List, [], ◌∷◌, map, eqb, ltb, length, get_or}
+use Rattle.std.specs.Prelude.{ℕ, zero, suc, cond, List, [], ◌∷◌, map, eqb, ltb, length, get_or}
 use Rattle.text.specs.Bytes.{same}
 use Rattle.text.specs.Digits.{digits_of, value_of}
 use Rattle.text.specs.Split.{split}

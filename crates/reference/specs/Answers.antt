@@ -1,6 +1,6 @@
 -- What judging a reference answers: 5 and 7 of its model, 3 and 4 of its bytes, 8 of its parts, 5 of what they hold and 9 of its groups, in
 -- the order of the slip's fields 11 and 12.
-use Rattle.refusal.specs.Basics.{ℕ, Bool, ◌&&◌, List, leb, length}
+use Rattle.std.specs.Prelude.{ℕ, Bool, ◌&&◌, List, leb, length}
 use Rattle.verdict.specs.Verdict.{only_if, and_then}
 use Rattle.text.specs.Bytes.{bytes_verdict}
 use Rattle.classes.specs.declared.Class.TheVariants.{Reference}

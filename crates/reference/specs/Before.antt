@@ -1,5 +1,5 @@
 -- Document 01's answer to a reference, whatever its parts hold: what W4 (proofs/Before.antt) leaves as it was.
-use Rattle.refusal.specs.Basics.{ℕ, List, leb, length}
+use Rattle.std.specs.Prelude.{ℕ, List, leb, length}
 use Rattle.verdict.specs.Verdict.{only_if, and_then}
 use Rattle.text.specs.Bytes.{bytes_verdict}
 use Rattle.classes.specs.declared.Class.TheVariants.{Reference}

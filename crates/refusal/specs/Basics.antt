@@ -1,7 +1,7 @@
--- The words in which all definitions are written: numbers, truth values, texts as lists of numbers, and equality.
+-- A word as a text. The other words of the definitions (numbers, truth values, lists, equality) are the library's own.
 use Prim.Native.Char.{code}
 use Prim.Native.String.{String, [] as done, ◌∷◌ as ◌before◌}
-pub use Rattle.std.specs.Prelude.{ℕ, zero, suc, ◌+◌, ◌-◌, ◌*◌, ◌/◌, ◌%◌, ◌^◌, ◌<◌, ◌≤◌, ◌≡◌, Bool, true, false, cond, not, ◌&&◌, ◌||◌, List, [], ◌∷◌, ◌++◌, map, eqb, leb, ltb, length, get_or, take, drop, set, replicate}
+use Rattle.std.specs.Prelude.{ℕ, List, [], ◌∷◌}
 
 -- a word as a text: the number of each of its letters, which for a letter of ASCII is its byte
 abbrev pub spelt : String → List ℕ

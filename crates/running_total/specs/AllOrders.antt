@@ -1,5 +1,5 @@
 -- Document 02, W5: "what adding all the orders read so far would give", said without a judge and without a tally that is kept.
-use Rattle.refusal.specs.Basics.{ℕ, Bool, true, false, cond, List, [], ◌∷◌, length}
+use Rattle.std.specs.Prelude.{ℕ, Bool, true, false, cond, List, [], ◌∷◌, length}
 use Rattle.sums.specs.Sums.{sum_of}
 use Rattle.tally.specs.declared.Tally.{Tally}
 use Rattle.wage_places.specs.declared.LineType.TheVariants.{Label, Group, Order, Closing}

@@ -1,6 +1,6 @@
 -- Document 02, W5: a step that is lent a tally. "A refused line leaves it as it stood"; 29, "line number kept and field 0, given last and exactly
 -- when the line would leave the lent tally beyond 1,000,000 groups or orders or to 10^21 or more".
-use Rattle.refusal.specs.Basics.{ℕ, cond, List, [], ◌∷◌}
+use Rattle.std.specs.Prelude.{ℕ, cond, List, [], ◌∷◌}
 use Rattle.tally.specs.declared.Tally.{Tally}
 use Rattle.tally.specs.declared.Growth.{Growth}
 use Rattle.tally.specs.declared.Growth.TheVariants.{Nothing}

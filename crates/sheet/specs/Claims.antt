@@ -1,5 +1,5 @@
 -- What is claimed of sheets (proofs/Theorems.antt): a sheet written from a list of fields, and what a right sheet is.
-use Rattle.refusal.specs.Basics.{ℕ, ◌+◌, ◌<◌, ◌≤◌, ◌≡◌, Bool, true, false, cond, List, [], ◌∷◌, ◌++◌, map, eqb, ltb, length, take, drop}
+use Rattle.std.specs.Prelude.{ℕ, ◌+◌, ◌<◌, ◌≤◌, ◌≡◌, Bool, true, false, cond, List, [], ◌∷◌, ◌++◌, map, eqb, ltb, length, take, drop}
 use Rattle.text.specs.Split.{split}
 use Rattle.text.specs.Lines.{join_lines, lines_among}
 use Rattle.slip_fields.specs.declared.Currency.TheVariants.{Euro}

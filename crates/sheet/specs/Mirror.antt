@@ -1,6 +1,6 @@
 -- What reading a sheet finds, as the code keeps it: by the number of a field where its text begins and how many bytes it has.
 -- proofs/Tables.antt leads from it to specs/Sheet.antt, and nobody has to read it to believe that.
-use Rattle.refusal.specs.Basics.{ℕ, ◌+◌, ◌-◌, cond, List, [], ◌∷◌, eqb, ltb, length, get_or, set, replicate}
+use Rattle.std.specs.Prelude.{ℕ, ◌+◌, ◌-◌, cond, List, [], ◌∷◌, eqb, ltb, length, get_or, set, replicate}
 use Rattle.text.specs.Split.{split}
 use Rattle.sheet.specs.declared.Lines.{Lines}
 use Rattle.sheet.specs.declared.Held.{Held}

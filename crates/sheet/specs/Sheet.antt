@@ -1,6 +1,6 @@
 -- Document 02, W2: one sheet of field lines. "`number=text` with LF, numbers 4 to 9, 13 and 14, no leading zero, ascending, each at most
 -- once, each text obeying its field's rule in 01".
-use Rattle.refusal.specs.Basics.{ℕ, ◌+◌, ◌-◌, Bool, cond, ◌&&◌, ◌||◌, List, [], ◌∷◌, eqb, leb, ltb, length, get_or, drop}
+use Rattle.std.specs.Prelude.{ℕ, ◌+◌, ◌-◌, Bool, cond, ◌&&◌, ◌||◌, List, [], ◌∷◌, eqb, leb, ltb, length, get_or, drop}
 use Rattle.text.specs.Split.{split}
 use Rattle.text.specs.Lines.{lines_among}
 use Rattle.slip_fields.specs.declared.Currency.TheVariants.{Euro}

@@ -1,5 +1,5 @@
 -- Document 01, "The slip's fourteen fields": what reading a slip answers, and its fields.
-use Rattle.refusal.specs.Basics.{ℕ, ◌+◌, ◌-◌, Bool, cond, ◌&&◌, List, [], ◌∷◌, eqb, leb, length, get_or}
+use Rattle.std.specs.Prelude.{ℕ, ◌+◌, ◌-◌, Bool, cond, ◌&&◌, List, [], ◌∷◌, eqb, leb, length, get_or}
 use Rattle.refusal.specs.Refusal.{none, first_of}
 use Rattle.verdict.specs.Verdict.{answer_at}
 use Rattle.refusal.specs.declared.Answer.{Answer}

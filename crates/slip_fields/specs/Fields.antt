@@ -1,6 +1,7 @@
 -- Document 01, "The slip's fourteen fields", and document 02, W1: what each field must be in a slip's currency. Within a field 3 with its
 -- byte, 4, 5, then 6 to 9.
-use Rattle.refusal.specs.Basics.{ℕ, cond, ◌||◌, List, eqb, length, spelt}
+use Rattle.std.specs.Prelude.{ℕ, cond, ◌||◌, List, eqb, length}
+use Rattle.refusal.specs.Basics.{spelt}
 use Rattle.verdict.specs.Verdict.{only_if, and_then}
 use Rattle.text.specs.Bytes.{bytes_verdict, same, eur}
 use Rattle.classes.specs.declared.Class.{Class}

@@ -1,6 +1,6 @@
 -- The most bytes of each field of a slip, as document 01, "The slip's fourteen fields", leaves them: with their line feeds the fourteen
 -- are at most 483 bytes.
-use Rattle.refusal.specs.Basics.{ℕ, ◌*◌, cond, eqb}
+use Rattle.std.specs.Prelude.{ℕ, ◌*◌, cond, eqb}
 use Rattle.slip_fields.specs.Fields.{most_of}
 
 -- the most bytes of field n; a text's characters have at most two bytes each, so 60, 54, 54, 50, 50, 54 for 4 to 9 and 70 for 14

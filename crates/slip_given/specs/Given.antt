@@ -1,5 +1,5 @@
 -- Document 01, "The slip's fourteen fields": what a writer of slips answers of the fields that it is given.
-use Rattle.refusal.specs.Basics.{ℕ, ◌+◌, List, [], ◌∷◌}
+use Rattle.std.specs.Prelude.{ℕ, ◌+◌, List, [], ◌∷◌}
 use Rattle.refusal.specs.Refusal.{first_of}
 use Rattle.verdict.specs.Verdict.{answer_in}
 use Rattle.refusal.specs.declared.Answer.{Answer}

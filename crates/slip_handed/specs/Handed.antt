@@ -1,5 +1,5 @@
 -- Document 01, "The slip's fourteen fields", and document 02, W1: what an accepted slip hands back.
-use Rattle.refusal.specs.Basics.{ℕ, zero, suc, ◌+◌, ◌-◌, Bool, cond, ◌&&◌, List, [], ◌∷◌, leb, length}
+use Rattle.std.specs.Prelude.{ℕ, zero, suc, ◌+◌, ◌-◌, Bool, cond, ◌&&◌, List, [], ◌∷◌, leb, length}
 use Rattle.refusal.specs.Refusal.{is_accepted}
 use Rattle.refusal.specs.declared.Answer.{Answer}
 use Rattle.refusal.specs.declared.Answer.TheVariants.{Accepted, Refused}

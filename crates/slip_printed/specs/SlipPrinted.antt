@@ -1,5 +1,6 @@
 -- What the programs `slipfile` and `ledger` print of a slip: `accepted` and its fields 3 to 14, a line each, or its refusal with its place.
-use Rattle.refusal.specs.Basics.{ℕ, zero, suc, ◌-◌, List, [], ◌∷◌, ◌++◌, spelt}
+use Rattle.std.specs.Prelude.{ℕ, zero, suc, ◌-◌, List, [], ◌∷◌, ◌++◌}
+use Rattle.refusal.specs.Basics.{spelt}
 use Rattle.refusal.specs.declared.Answer.{Answer}
 use Rattle.refusal.specs.declared.Answer.TheVariants.{Accepted, Refused}
 use Rattle.text.specs.Split.{split}

@@ -1,5 +1,5 @@
 -- What is claimed of slips written and read (proofs/Theorems.antt): a slip's amount and fields, and what is read back.
-use Rattle.refusal.specs.Basics.{ℕ, ◌-◌, ◌^◌, ◌<◌, ◌≤◌, ◌≡◌, List, [], length, get_or}
+use Rattle.std.specs.Prelude.{ℕ, ◌-◌, ◌^◌, ◌<◌, ◌≤◌, ◌≡◌, List, [], length, get_or}
 use Rattle.refusal.specs.declared.Answer.TheVariants.{Accepted}
 use Rattle.text.specs.Split.{split}
 use Rattle.text.specs.Digits.{digits_text}

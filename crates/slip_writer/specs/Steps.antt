@@ -1,5 +1,5 @@
 -- What is promised of a slip written: the answer, and what is left in the lent room.
-use Rattle.refusal.specs.Basics.{ℕ, ◌≡◌, List, length}
+use Rattle.std.specs.Prelude.{ℕ, ◌≡◌, List, length}
 use Rattle.slip_writer.specs.declared.Written.{Written}
 use Rattle.slip_writer.specs.Writer.{slip_text, written_in_room, write_answer, left_by_slip}
 

@@ -1,5 +1,5 @@
 -- Document 01, "The slip's fourteen fields": what the writer of slips answers, and what it leaves in the lent room.
-use Rattle.refusal.specs.Basics.{ℕ, ◌^◌, cond, List, [], ◌∷◌, ◌++◌, ltb, length, drop}
+use Rattle.std.specs.Prelude.{ℕ, ◌^◌, cond, List, [], ◌∷◌, ◌++◌, ltb, length, drop}
 use Rattle.refusal.specs.Refusal.{none}
 use Rattle.refusal.specs.declared.Answer.{Answer}
 use Rattle.refusal.specs.declared.Answer.TheVariants as answer

@@ -1,5 +1,5 @@
 -- Document 01, "The wage file": what 10, 12 and 13 say of a line where the judge stands, and the record after a right line.
-use Rattle.refusal.specs.Basics.{ℕ, ◌+◌, cond, ◌&&◌, List, eqb, ltb}
+use Rattle.std.specs.Prelude.{ℕ, ◌+◌, cond, ◌&&◌, List, eqb, ltb}
 use Rattle.verdict.specs.Verdict.{only_if, and_then}
 use Rattle.sums.specs.Sums.{no_cents, sum_of, added, same_sum, number_of, number_in}
 use Rattle.wage_places.specs.declared.LineType.{LineType}

@@ -1,5 +1,5 @@
 -- Document 02, W2: a slip written with standing text, what the call answers and what it leaves in the lent room.
-use Rattle.refusal.specs.Basics.{ℕ, ◌+◌, ◌≡◌, cond, List, [], ◌∷◌, eqb, length}
+use Rattle.std.specs.Prelude.{ℕ, ◌+◌, ◌≡◌, cond, List, [], ◌∷◌, eqb, length}
 use Rattle.refusal.specs.Refusal.{none}
 use Rattle.refusal.specs.declared.Answer.{Answer}
 use Rattle.refusal.specs.declared.Answer.TheVariants as answer

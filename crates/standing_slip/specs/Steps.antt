@@ -1,5 +1,5 @@
 -- The fields of a slip by what reading both sheets found, as the code has them.
-use Rattle.refusal.specs.Basics.{ℕ, cond, ◌&&◌, List, eqb, length}
+use Rattle.std.specs.Prelude.{ℕ, cond, ◌&&◌, List, eqb, length}
 use Rattle.lent_fields.specs.Fields.{given_of}
 use Rattle.slip_given.specs.Given.{eleven}
 use Rattle.sheet.specs.declared.Lines.{Lines}

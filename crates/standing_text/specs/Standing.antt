@@ -1,5 +1,5 @@
 -- Document 02, W2: standing text for slips, from the farm's sheet and the association's.
-use Rattle.refusal.specs.Basics.{ℕ, cond, List, [], eqb, take, drop}
+use Rattle.std.specs.Prelude.{ℕ, cond, List, [], eqb, take, drop}
 use Rattle.refusal.specs.Refusal.{none}
 use Rattle.refusal.specs.declared.Answer.{Answer}
 use Rattle.refusal.specs.declared.Answer.TheVariants.{Accepted, Refused}

@@ -1,5 +1,5 @@
 -- The parts of a reference as stretches of its text, by where its parts end: it mirrors src/, and proofs/Laws.antt says which parts a stretch is.
-use Rattle.refusal.specs.Basics.{ℕ, ◌+◌, ◌-◌, cond, ◌&&◌, List, [], eqb, leb, length, take, drop}
+use Rattle.std.specs.Prelude.{ℕ, ◌+◌, ◌-◌, cond, ◌&&◌, List, [], eqb, leb, length, take, drop}
 use Rattle.parts.specs.Mirror.{end_of}
 
 -- the byte at which part k begins, counted from 0

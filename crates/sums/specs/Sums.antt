@@ -1,6 +1,6 @@
 -- Exact sums of cents: "sums exact to twenty digits". A sum is two numbers, `high` times 10^18 and `low`. It is kept under a limit of `most`
 -- times 10^18, 100 for twenty digits; the limit stands for itself and all above.
-use Rattle.refusal.specs.Basics.{ℕ, ◌+◌, ◌*◌, ◌/◌, ◌%◌, Bool, cond, List, eqb, ltb, take}
+use Rattle.std.specs.Prelude.{ℕ, ◌+◌, ◌*◌, ◌/◌, ◌%◌, Bool, cond, List, eqb, ltb, take}
 use Rattle.text.specs.Digits.{digits_of, value_of}
 use Rattle.sums.specs.declared.Sum.{Sum}
 

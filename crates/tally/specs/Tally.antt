@@ -1,5 +1,5 @@
 -- Document 02, W5: "a small tally of groups, orders and exact total", what a line adds to it, and where it ends.
-use Rattle.refusal.specs.Basics.{◌+◌, Bool, ◌&&◌, leb}
+use Rattle.std.specs.Prelude.{◌+◌, Bool, ◌&&◌, leb}
 use Rattle.sums.specs.Sums.{no_cents, fits, added}
 use Rattle.tally.specs.declared.Tally.{Tally}
 use Rattle.tally.specs.declared.Growth.{Growth}

@@ -1,5 +1,6 @@
 -- The first byte of a text that a field does not permit, and what else is asked of its bytes.
-use Rattle.refusal.specs.Basics.{ℕ, suc, Bool, true, false, cond, ◌&&◌, List, [], ◌∷◌, eqb, spelt}
+use Rattle.std.specs.Prelude.{ℕ, suc, Bool, true, false, cond, ◌&&◌, List, [], ◌∷◌, eqb}
+use Rattle.refusal.specs.Basics.{spelt}
 use Rattle.verdict.specs.Verdict.{wrong_at}
 use Rattle.classes.specs.declared.Class.{Class}
 use Rattle.classes.specs.declared.Class.TheVariants.{Blanks}

@@ -1,5 +1,5 @@
 -- The lines of a text, each ended by a line feed: those of a slip, and those of a sheet.
-use Rattle.refusal.specs.Basics.{ℕ, ◌≡◌, true, List, [], ◌∷◌, ◌++◌}
+use Rattle.std.specs.Prelude.{ℕ, ◌≡◌, true, List, [], ◌∷◌, ◌++◌}
 use Rattle.classes.specs.declared.Class.TheVariants.{Line}
 use Rattle.text.specs.Bytes.{all_of}
 

@@ -1,5 +1,5 @@
 -- The pieces of a text between the bytes that divide it: a slip's fields, a reference's parts.
-use Rattle.refusal.specs.Basics.{ℕ, cond, List, [], ◌∷◌, ◌++◌, eqb}
+use Rattle.std.specs.Prelude.{ℕ, cond, List, [], ◌∷◌, ◌++◌, eqb}
 
 -- a byte more at the front of the first piece
 abbrev pub longer : ℕ → List (List ℕ) → List (List ℕ)

@@ -1,5 +1,5 @@
 -- A list written at a place of a lent slice, as far as there is room: what writers and listings leave, step by step.
-use Rattle.refusal.specs.Basics.{ℕ, ◌+◌, ◌≡◌, List, length}
+use Rattle.std.specs.Prelude.{ℕ, ◌+◌, ◌≡◌, List, length}
 use Rattle.std.proofs.lemmas.List.Edits.{sets}
 
 -- xs was written from the place `at` on, and `next` is the place behind it

@@ -1,5 +1,5 @@
 -- Document 02, W1: "Show a kuna amount also in cents at the fixed 7.53450, nearest cent".
-use Rattle.refusal.specs.Basics.{ℕ, ◌+◌, ◌-◌, ◌*◌, ◌/◌, ◌<◌}
+use Rattle.std.specs.Prelude.{ℕ, ◌+◌, ◌-◌, ◌*◌, ◌/◌, ◌<◌}
 
 -- how far two numbers are apart
 abbrev pub distance : ℕ → ℕ → ℕ

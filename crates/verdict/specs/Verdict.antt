@@ -1,7 +1,7 @@
 -- What a rule says of a text before it is known where the text stands: its verdict, one number. 0 refuses nothing; a number below 32 is the
 -- refusal of that number in document 01's table, told of the text's first byte; 32 + i is a 3 whose first offending byte is i, counted from
 -- the text's first byte. Every rule of a field or a place is a chain of these.
-use Rattle.refusal.specs.Basics.{ℕ, ◌+◌, ◌-◌, ◌≤◌, ◌<◌, Bool, cond, eqb, leb}
+use Rattle.std.specs.Prelude.{ℕ, ◌+◌, ◌-◌, ◌≤◌, ◌<◌, Bool, cond, eqb, leb}
 use Rattle.refusal.specs.declared.Answer.{Answer}
 use Rattle.refusal.specs.declared.Answer.TheVariants.{Accepted, Refused}
 use Rattle.refusal.specs.Refusal.{refusal_of}

@@ -2,7 +2,7 @@
 -- a field 3 with its byte, 5, 6, 11.
 -- "Numeric fields are digits only (else 3), zeros for absent, unless stated. 3 is also given in an IBAN place for a byte not A to Z, digit or
 -- blank .. Every other wrong byte or content is 5."
-use Rattle.refusal.specs.Basics.{ℕ, Bool, cond, not, ◌&&◌, ◌||◌, List, eqb, leb, take, drop}
+use Rattle.std.specs.Prelude.{ℕ, Bool, cond, not, ◌&&◌, ◌||◌, List, eqb, leb, take, drop}
 use Rattle.verdict.specs.Verdict.{and_then, only_if}
 use Rattle.text.specs.Bytes.{bytes_verdict, all_of, same, eur}
 use Rattle.classes.specs.declared.Class.{Class}

@@ -1,5 +1,5 @@
 -- Document 01, "The wage file", the writer: "the judge's for the fields, 4 (another length) first in each".
-use Rattle.refusal.specs.Basics.{ℕ, ◌≡◌, cond, List, [], ◌∷◌, map, eqb, length, replicate}
+use Rattle.std.specs.Prelude.{ℕ, ◌≡◌, cond, List, [], ◌∷◌, map, eqb, length, replicate}
 use Rattle.std.proofs.lemmas.List.Edits.{sets}
 use Rattle.refusal.specs.Refusal.{none}
 use Rattle.refusal.specs.declared.Answer.{Answer}

@@ -1,6 +1,6 @@
 -- Document 01, "The wage file": the rule of a place, by its line's type and its field's number, and a line's places in order. f are the
 -- place's own bytes, s the line that it stands in.
-use Rattle.refusal.specs.Basics.{ℕ, zero, suc, cond, ◌≡◌, List, [], ◌∷◌, eqb, length, get_or}
+use Rattle.std.specs.Prelude.{ℕ, zero, suc, cond, ◌≡◌, List, [], ◌∷◌, eqb, length, get_or}
 use Rattle.refusal.specs.Refusal.{none, first_of}
 use Rattle.verdict.specs.Verdict.{answer_at}
 use Rattle.refusal.specs.declared.Answer.{Answer}

@@ -1,5 +1,5 @@
 -- Document 01, "The wage file": what a whole lent file is answered.
-use Rattle.refusal.specs.Basics.{ℕ, List}
+use Rattle.std.specs.Prelude.{ℕ, List}
 use Rattle.wage_line.specs.Pieces.{pieces}
 use Rattle.condition.specs.Record.{begun, ended}
 use Rattle.judge.specs.Judge.{steps}

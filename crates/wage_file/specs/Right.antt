@@ -1,6 +1,6 @@
 -- Document 01, "The wage file": which lines are a right file, said without a judge. "One 300; then one or more groups, each one 301 and one or
 -- more 309; then one 399 and nothing after", each line's fields right, each group's number and exact sum as declared.
-use Rattle.refusal.specs.Basics.{ℕ, ◌+◌, ◌<◌, ◌≤◌, ◌≡◌, true, List, [], ◌∷◌, ◌++◌, length, get_or}
+use Rattle.std.specs.Prelude.{ℕ, ◌+◌, ◌<◌, ◌≤◌, ◌≡◌, true, List, [], ◌∷◌, ◌++◌, length, get_or}
 use Rattle.dates.specs.Dates.{is_date}
 use Rattle.sums.specs.Sums.{sum_of, number_of, number_in}
 use Rattle.wage_places.specs.declared.LineType.TheVariants.{Label, Group, Order, Closing}

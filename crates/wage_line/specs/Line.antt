@@ -1,5 +1,6 @@
 -- Document 01, "The wage file": a line's size, ends and type, and its parts.
-use Rattle.refusal.specs.Basics.{ℕ, Bool, cond, ◌&&◌, List, [], eqb, length, get_or, spelt}
+use Rattle.std.specs.Prelude.{ℕ, Bool, cond, ◌&&◌, List, [], eqb, length, get_or}
+use Rattle.refusal.specs.Basics.{spelt}
 use Rattle.refusal.specs.Refusal.{none}
 use Rattle.refusal.specs.declared.Refusal.TheVariants.{Size, Ends, Form}
 use Rattle.wage_places.specs.declared.LineType.{LineType}

@@ -1,5 +1,5 @@
 -- Document 01, "The wage file": "A whole lent file gives the answer of its 1,002-byte pieces, one by one; a short last piece is 1".
-use Rattle.refusal.specs.Basics.{ℕ, zero, suc, ◌+◌, cond, List, [], ◌∷◌, leb, length, take, drop}
+use Rattle.std.specs.Prelude.{ℕ, zero, suc, ◌+◌, cond, List, [], ◌∷◌, leb, length, take, drop}
 
 -- at most n pieces
 unfoldable pub pieces_of : ℕ → List ℕ → List (List ℕ)

@@ -1,6 +1,6 @@
 -- Document 01, "The wage file", the writer of a 301: its group's lent 309 lines. "1 if the lent lines are not whole, 10 if there are none, 12
 -- above 99,999, then the first refusal in them, 10 for another type, with its line in the group".
-use Rattle.refusal.specs.Basics.{ℕ, ◌+◌, ◌/◌, ◌%◌, cond, List, [], ◌∷◌, eqb, leb, length}
+use Rattle.std.specs.Prelude.{ℕ, ◌+◌, ◌/◌, ◌%◌, cond, List, [], ◌∷◌, eqb, leb, length}
 use Rattle.refusal.specs.Refusal.{none, first_of}
 use Rattle.refusal.specs.declared.Answer.{Answer}
 use Rattle.refusal.specs.declared.Answer.TheVariants as answer

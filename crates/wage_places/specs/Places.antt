@@ -1,6 +1,6 @@
 -- Document 01, "The wage file", its lists for 300, 301 and 309: the places of a line and their bytes, as 004's layout tables number them. "Places not named
 -- are not read; 35–174 (name, address, seat), one field 2, are not judged."
-use Rattle.refusal.specs.Basics.{ℕ, ◌+◌, ◌-◌, cond, List, [], ◌∷◌, eqb, take, drop}
+use Rattle.std.specs.Prelude.{ℕ, ◌+◌, ◌-◌, cond, List, [], ◌∷◌, eqb, take, drop}
 use Rattle.wage_places.specs.declared.LineType.{LineType}
 use Rattle.wage_places.specs.declared.LineType.TheVariants.{Label, Group, Order, Closing}
 use Rattle.wage_places.specs.declared.Spot.{Spot}

@@ -1,6 +1,7 @@
 -- What the program `wagefile` prints. Document 01, "Wet slips": "The file program reads eight digits and LF, the day (else 11), then a wage
 -- file line by line, and writes `accepted 5 lines 1 groups 2 orders` or `refused 6 line 2 field 1 byte 0`".
-use Rattle.refusal.specs.Basics.{ℕ, cond, ◌&&◌, List, ◌++◌, eqb, length, get_or, take, drop, spelt}
+use Rattle.std.specs.Prelude.{ℕ, cond, ◌&&◌, List, ◌++◌, eqb, length, get_or, take, drop}
+use Rattle.refusal.specs.Basics.{spelt}
 use Rattle.classes.specs.declared.Class.TheVariants.{Digits}
 use Rattle.text.specs.Bytes.{all_of}
 use Rattle.text.specs.Digits.{digits_of, value_of}

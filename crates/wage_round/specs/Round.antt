@@ -1,6 +1,6 @@
 -- Document 01, "The wage file", the writer: what the writer was given for a whole file and which file its lines are; and what it is given when
 -- a line, or a whole file, is read and written again.
-use Rattle.refusal.specs.Basics.{ℕ, ◌<◌, ◌≤◌, ◌≡◌, List, [], ◌∷◌, map, length, get_or}
+use Rattle.std.specs.Prelude.{ℕ, ◌<◌, ◌≤◌, ◌≡◌, List, [], ◌∷◌, map, length, get_or}
 use Rattle.refusal.specs.declared.Answer.TheVariants.{Accepted}
 use Rattle.text.specs.Split.{joined}
 use Rattle.wage_places.specs.declared.LineType.{LineType}

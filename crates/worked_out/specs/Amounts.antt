@@ -1,5 +1,5 @@
 -- Document 01, "The wage file": "sums are exact".
-use Rattle.refusal.specs.Basics.{ℕ, ◌+◌, List, [], ◌∷◌}
+use Rattle.std.specs.Prelude.{ℕ, ◌+◌, List, [], ◌∷◌}
 use Rattle.sums.specs.Sums.{number_in}
 use Rattle.wage_places.specs.declared.LineType.TheVariants.{Order}
 use Rattle.wage_places.specs.Places.{part_of}
