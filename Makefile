@@ -31,7 +31,7 @@ all: $(STATIC) $(SHARED) $(PROGRAMS)
 	@echo "there: $^"
 
 $(STATIC):
-	@echo "$@ is proved and written: with the programs about seven minutes on two cores"
+	@echo "$@ is proved and written: some minutes, fewer where its crates were checked before"
 	@callers/library
 
 $(SHARED): $(STATIC) VERSION callers/build
@@ -39,8 +39,8 @@ $(SHARED): $(STATIC) VERSION callers/build
 	@callers/build
 
 $(PROGRAMS): target/bin/%:
-	@echo "$@ is proved and built: some minutes, fewer once the library is there"
-	@rt check $*
+	@echo "$@ is proved and built: half a minute once the library is there"
+	@tools/programs $* > /dev/null
 
 install: $(STATIC) $(SHARED) $(PROGRAMS)
 	@install -d $(addprefix $(DESTDIR),$(BINDIR) $(LIBDIR)/pkgconfig $(INCLUDEDIR) $(DOCDIR))
@@ -73,7 +73,7 @@ release:
 	@tools/release
 
 help:
-	@echo "make            builds what is missing: the library and the programs, about seven minutes where nothing is there"
+	@echo "make            builds what is missing: the library and the programs, some minutes where nothing is there"
 	@echo "make install    the header, the libraries, lanecockle.pc, the programs and their papers"
 	@echo "                  PREFIX=/usr/local   where they are to stand; BINDIR, LIBDIR, INCLUDEDIR, DOCDIR are below it"
 	@echo "                  DESTDIR=            a folder in front of it, for packages"

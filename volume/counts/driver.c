@@ -1,6 +1,6 @@
 /* The workloads of volume/count through the library: what inputs.rs writes at standard input, a line with the name and a sum of the
    answers of each workload at standard output. Between two calls of `mark` one workload is done, and nothing else. Freestanding, with
-   include/lanecockle.h: volume/count builds it for this machine and for x86-64, and links it with a libdesk.a. */
+   include/lanecockle.h: volume/count builds it, and links it with a libdesk.a. */
 #include "lanecockle.h"
 
 long read(int, void *, unsigned long);
@@ -15,11 +15,7 @@ static uint64_t sum;
 
 /* a segment begins: the counters look for calls of this */
 __attribute__((noinline)) void mark(void) {
-#ifdef __x86_64__
-    __asm__ volatile("movabs $0x1a4ec0c41e5eed5, %%rax" ::: "rax", "memory"); /* what the tally knows it by */
-#else
     __asm__ volatile("" ::: "memory");
-#endif
 }
 
 static void say(const char *text, uint64_t n) {
