@@ -1,6 +1,5 @@
--- The contract of `lanecockle_judge_step_tally`, as `One` (refusal/specs/One.antt) and the theorems about calls (promises) take one. Where
--- the borrow checker covers a signature, Rattle makes this: `Kinds.ps`, `Kinds.r`, `Reads.Post`. It covers no reference to a struct, so the
--- three stand here, in the same words.
+-- The contract of `lanecockle_judge_step_tally`, as `One` (refusal/specs/One.antt) and the theorems about calls (promises) take one: what
+-- Rattle makes as `Kinds.ps`, `Kinds.r`, `Reads.Post`, in the same words. It was written when Rattle made none for a reference to a struct.
 --     ps, r        the kinds of the parameters and of the result
 --     Post         what the function's own `ensures` says, read off its clauses: where they change, this changes
 -- Assumes nothing.
