@@ -1,5 +1,5 @@
-// Runs the cases of a person's choosing on check digits, accounts, references, listings and slips, those of document 01 and
-// of its sources among them: one question a line on standard input, each written back with its answer. An independent
+// Runs the cases of a person's choosing on check digits, accounts, references, listings and slips, the examples printed
+// beside the rules among them: one question a line on standard input, each written back with its answer. An independent
 // second implementation answers the same questions (`second cases`), and the gate compares.
 //
 // A question is a verb and its fields, divided by bars; second/README.md lists the verbs. Those of the wage file are

@@ -2,7 +2,7 @@
 // field from 3 to 14 on a line of its own as `number=text`, and for a kuna slip `cents=` and its amount in cents; or one
 // refusal with its place.
 //
-// What is written is `ledgerPrinted` of what was read (slip_printed/specs/SlipPrinted.antt); where a read fails it is nothing,
+// What is written is `ledger_printed` of what was read (slip_printed/specs/SlipPrinted.antt); where a read fails it is nothing,
 // and standard error has a line.
 #![tactic(auto)]
 

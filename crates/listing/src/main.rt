@@ -1,8 +1,8 @@
-// The listing program of document 01, "Wet slips": reads one line, an IBAN or a model, one space and a reference, and
-// writes the count and the filled texts, or `refused` and the number.
+// The listing program: reads one line, an IBAN or a model, one space and a reference, with `?` for each digit that is not
+// readable, and writes the count and the filled texts, or `refused` and the number.
 //
 // A line of any length is kept by `line` as far as a listing can tell it from another. `listing_printed` puts what is written
-// of it into lent room, line by line; its theorems say that this is `listingPrinted` of the whole input.
+// of it into lent room, line by line; its theorems say that this is `listing_printed` of the whole input.
 #![tactic(auto)]
 
 use fillings::Listed;
@@ -51,7 +51,7 @@ fn read_some<R: Read>(input: &mut R, seen: Seen, head: &mut [u8], tail: &mut [u8
 }
 
 // Reads until the line or the input ends, or a read fails. A proved loop has to end, and nothing says that an input
-// does: so its turns have a number, which no run uses up.
+// does: so the loop has a last turn, which no run comes to.
 fn read_line<R: Read>(input: &mut R, head: &mut [u8], tail: &mut [u8]) -> Progress {
     let mut seen = line::fresh();
     for _ in 0..u64::MAX {

@@ -1,7 +1,7 @@
 // Reads a slip from standard input, of whatever size, and writes `accepted` and each field from 3 to 14 on a line of
 // its own as `number=text`, or one refusal with its place.
 //
-// What is written is `slipPrinted` of what was read (slip_printed/specs/SlipPrinted.antt); where a read fails it is nothing,
+// What is written is `slip_printed` of what was read (slip_printed/specs/SlipPrinted.antt); where a read fails it is nothing,
 // and standard error has a line.
 #![tactic(auto)]
 

@@ -1,7 +1,7 @@
-// The file program of document 01, "Wet slips": reads eight digits and a line feed, the day, then a wage file line by line,
+// Judges a wage file: reads eight digits and a line feed, the day, then the file line by line,
 // and writes one line: `accepted 5 lines 1 groups 2 orders`, or one refusal with its place.
 //
-// What is written is `filePrinted` of what was read (wage_printed/specs/FilePrinted.antt); where a read fails it is nothing,
+// What is written is `file_printed` of what was read (wage_printed/specs/FilePrinted.antt); where a read fails it is nothing,
 // and standard error has a line. A file of any size is read 64 lines at a time into one buffer; `printed_in_parts`
 // (wage_printed/proofs/Theorems.antt) says that this prints the line of the whole file.
 #![tactic(auto)]
@@ -53,8 +53,8 @@ fn read_some<R: Read>(input: &mut R, j: Judge, buffer: &mut [u8]) -> Progress {
     }
 }
 
-// Reads until the input ends, a line is refused or a read fails. A proved loop has to end: its turns have a number, which no
-// run uses up.
+// Reads until the input ends, a line is refused or a read fails. A proved loop has to end: so it has a last turn, which no
+// run comes to.
 fn read_lines<R: Read>(input: &mut R, from: Judge, buffer: &mut [u8]) -> Progress {
     let mut p = Progress {
         judge: from,

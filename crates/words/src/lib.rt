@@ -4,7 +4,7 @@
 // contract (docs/DECISIONS.md): the calls that write are safe and end.
 #![tactic(auto)]
 
-ghost use Rattle.std.specs.Prelude.{◌≡◌, ◌+◌, ◌≤◌, ◌<◌, length, take, drop, false};
+ghost use Rattle.std.specs.Prelude.{◌≡◌, ◌-◌, ◌≤◌, ◌<◌, length, take, drop, false};
 ghost use Rattle.std.specs.Io.KnownBytes.{Consumes, IsAtEnd};
 
 use std::io::Read;
@@ -39,12 +39,17 @@ pub fn read_once<R: Read>(input: &mut R, chunk: &mut [u8]) -> Got
 
 // Reads once, behind the first bytes of a buffer.
 fn read_behind<R: Read>(input: &mut R, buf: &mut [u8], done: usize) -> Got
-    requires { done ≤ length buf.old }
-    ensures within { done + result.size ≤ length buf.new }
+    ensures within { result.size ≤ length buf.new - done }
     ensures front { take done buf.new ≡ take done buf.old }
     ensures bytes { Consumes (R.remaining input.old) (R.remaining input.new) (take result.size (drop done buf.new)) }
     ensures end { result.failed ≡ false → result.size ≡ 0 → done < length buf.new → IsAtEnd (R.remaining input.new) }
 {
+    if buf.len() < done {
+        return Got {
+            size: 0,
+            failed: false,
+        };
+    }
     read_once(input, &mut buf[done..])
 }
 
