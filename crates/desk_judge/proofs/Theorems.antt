@@ -1,6 +1,5 @@
 -- What is promised of the judge's calls: they fit together, and a place that is told is the one that is handed back. Assumes nothing.
 use Rattle.refusal.proofs.Basics.{◌≡◌, refl, ap, ℕ, take, drop, List}
-use Rattle.refusal.specs.declared.Answer.TheVariants.{Refused}
 use Rattle.text.specs.declared.Part.{Part}
 use Rattle.wage_line.specs.declared.Typed.{Typed}
 use Rattle.wage_line.specs.declared.Typed.TheVariants as typed

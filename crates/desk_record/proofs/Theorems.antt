@@ -1,6 +1,5 @@
 -- What is promised of the judge's record: nothing is lost on the way through numbers. Assumes nothing.
 use Rattle.refusal.proofs.Basics.{◌≡◌, refl, ap}
-use Rattle.refusal.specs.declared.Answer.TheVariants.{Refused}
 use Rattle.condition.specs.declared.Condition.{Condition}
 use Rattle.condition.specs.declared.Condition.TheVariants as condition
 use Rattle.condition.specs.declared.Judge.{Judge}

@@ -9,7 +9,6 @@ use Rattle.wage_line.specs.declared.Typed.{Typed}
 use Rattle.wage_line.specs.declared.Typed.TheVariants as typed
 use Rattle.wage_line.specs.Line.{typed_of}
 use Rattle.wage_fields.specs.Rules.{places_answer}
-use Rattle.condition.specs.declared.Condition.TheVariants.{Refused}
 use Rattle.condition.specs.declared.Judge.{Judge}
 use Rattle.condition.specs.Record.{at_line, beyond, is_refused, is_sound, next_line, refused_with, stage_of}
 use Rattle.standing.specs.Standing.{after, stand_verdict}

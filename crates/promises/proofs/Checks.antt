@@ -2,7 +2,6 @@
 -- `lanecockle_check_digits` and `lanecockle_make_digit`. Assumes nothing.
 use Rattle.refusal.proofs.Basics.{◌≡◌, refl, arith, ℕ, ◌+◌, ◌-◌, ◌<◌, length, le-leb, ne_eqb, eqb-false, List, [], ◌∷◌, ◌++◌, Bool, true, false, cond, ◌&&◌, eqb, leb, ◌↔◌, ◌⊎◌, inl, inr}
 use Rattle.refusal.specs.Refusal.{refusal_number}
-use Rattle.refusal.specs.declared.Answer.TheVariants.{Refused}
 use Rattle.verdict.specs.Verdict.{only_if, and_then}
 use Rattle.classes.specs.declared.Class.{Class}
 use Rattle.classes.specs.declared.Class.TheVariants.{Digits, Account, Reference}

@@ -1,7 +1,6 @@
 -- Demand 3, wet slips, of the calls `lanecockle_list_iban`, `lanecockle_list_reference` and `lanecockle_filled`. Assumes nothing.
 use Rattle.refusal.proofs.Basics.{◌≡◌, refl, ap, ◌∙◌, arith, ℕ, ◌<◌, ◌≤◌, length, take, drop, ltb-true, ltb-false, eq-eqb, le-leb, List, ◌++◌, Bool, true, false, cond, eqb, leb, ltb, take-append_seam, drop-append_seam, ◌⊎◌, inl, inr}
 use Rattle.refusal.specs.Refusal.{none, refusal_number, needed_of}
-use Rattle.refusal.specs.declared.Answer.TheVariants.{Refused}
 use Rattle.refusal.specs.declared.Refusal.{Refusal}
 use Rattle.refusal.specs.declared.Refusal.TheVariants as refused
 use Rattle.classes.specs.declared.Class.TheVariants.{WetReference}

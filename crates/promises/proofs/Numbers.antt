@@ -4,7 +4,7 @@ use Rattle.refusal.specs.Refusal.{none}
 use Rattle.refusal.specs.declared.Answer.{Answer}
 use Rattle.refusal.specs.declared.Answer.TheVariants.{Accepted, Refused}
 use Rattle.refusal.specs.declared.Refusal.{Refusal}
-use Rattle.refusal.specs.declared.Refusal.TheVariants.{Size, Form, Digit}
+use Rattle.refusal.specs.declared.Refusal.TheVariants.{Size, Form}
 use Rattle.check_digits.specs.declared.Made.{Made}
 use Rattle.check_digits.specs.declared.Made.TheVariants as made
 use Rattle.fillings.specs.declared.Listed.{Listed}

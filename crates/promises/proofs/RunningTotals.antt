@@ -3,7 +3,7 @@
 use Rattle.refusal.proofs.Basics.{◌≡◌, refl, sym, ap, ◌∙◌, arith, ℕ, ◌≤◌, ◌*◌, List, [], Bool, true, false, eqb, ne_eqb, eqb-true, le-ltb, false≢true, ◌↔◌}
 use Rattle.refusal.specs.Refusal.{refusal_number}
 use Rattle.refusal.specs.declared.Refusal.{Refusal}
-use Rattle.sums.specs.Sums.{limb, cents_of, fits}
+use Rattle.sums.specs.Sums.{limb, cents_of}
 use Rattle.tally.specs.declared.Tally.{Tally}
 use Rattle.tally.specs.Tally.{is_within, grown}
 use Rattle.tally.proofs.Laws.{within_small}

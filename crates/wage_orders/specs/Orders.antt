@@ -6,7 +6,6 @@ use Rattle.refusal.specs.declared.Answer.{Answer}
 use Rattle.refusal.specs.declared.Answer.TheVariants as answer
 use Rattle.refusal.specs.declared.Answer.TheVariants.{Accepted}
 use Rattle.refusal.specs.declared.Refusal.TheVariants.{Size, Misplaced, Orders}
-use Rattle.wage_line.specs.declared.Typed.TheVariants.{Refused}
 use Rattle.wage_line.specs.Pieces.{pieces}
 use Rattle.lent_order.specs.Order.{lent_order_answer}
 

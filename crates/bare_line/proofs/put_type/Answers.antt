@@ -1,5 +1,4 @@
 -- `wage_draft::put_type` meets its contract. Assumes nothing.
-use Rattle.refusal.proofs.Basics.{rules}
 use Rattle.wage_line.specs.Line.{type_text}
 use Rattle.bare_line.proofs.put_type.Goals as goal
 

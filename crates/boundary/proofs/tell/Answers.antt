@@ -1,5 +1,4 @@
 -- `boundary::tell` meets its contract. Assumes nothing.
-use Rattle.refusal.proofs.Basics.{rules}
 use Rattle.boundary.specs.Told.{told_of}
 use Rattle.boundary.proofs.tell.Goals as goal
 

@@ -1,5 +1,4 @@
 -- `judge::begin` meets its contract: the definition's choice on the test. Assumes nothing.
-use Rattle.refusal.proofs.Basics.{rules}
 use Rattle.condition.specs.Record.{begun}
 use Rattle.condition.proofs.begin.Goals as goal
 

@@ -1,5 +1,5 @@
 -- `judge::end` meets its contract: each return is the definition's choice on the tests that led there. Assumes nothing.
-use Rattle.refusal.proofs.Basics.{sym, ◌∙◌, rules, arith, eq-eqb, ne_eqb}
+use Rattle.refusal.proofs.Basics.{sym, ◌∙◌, arith, eq-eqb, ne_eqb}
 use Rattle.condition.specs.Record.{ended}
 use Rattle.condition.proofs.Laws.{sound_within}
 use Rattle.condition.proofs.end.Goals as goal

@@ -1,5 +1,4 @@
 -- `judge::is_sound` meets its contract: the tests joined are the definition's. Assumes nothing.
-use Rattle.refusal.proofs.Basics.{rules}
 use Rattle.condition.specs.Record.{is_sound}
 use Rattle.condition.proofs.is_sound.Goals as goal
 

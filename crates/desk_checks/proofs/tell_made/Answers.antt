@@ -1,5 +1,4 @@
 -- `desk_checks::tell_made` meets its contract. Assumes nothing.
-use Rattle.refusal.proofs.Basics.{rules}
 use Rattle.desk_checks.specs.Made.{made_of}
 use Rattle.desk_checks.proofs.tell_made.Goals as goal
 

@@ -1,5 +1,5 @@
 -- `desk_judge::place_part` meets its contract. Assumes nothing.
-use Rattle.refusal.proofs.Basics.{sym, ◌∙◌, rules}
+use Rattle.refusal.proofs.Basics.{sym, ◌∙◌}
 use Rattle.desk_judge.specs.Wages.{place_part}
 use Rattle.desk_judge.proofs.place_part.Goals as goal
 

@@ -1,5 +1,4 @@
 -- `desk_judge::tell_ending` meets its contract. Assumes nothing.
-use Rattle.refusal.proofs.Basics.{rules}
 use Rattle.desk_judge.specs.Wages.{ended_of}
 use Rattle.desk_judge.proofs.tell_ending.Goals as goal
 

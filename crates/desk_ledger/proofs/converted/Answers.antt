@@ -1,5 +1,4 @@
 -- `desk_ledger::converted` meets its contract: the nearest cent is one number. Assumes nothing.
-use Rattle.refusal.proofs.Basics.{rules}
 use Rattle.units.proofs.Theorems.{nearest_is}
 use Rattle.desk_ledger.proofs.converted.Goals as goal
 

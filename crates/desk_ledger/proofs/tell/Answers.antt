@@ -1,5 +1,4 @@
 -- `desk_ledger::tell` meets its contract: the arm says what the slip is. Assumes nothing.
-use Rattle.refusal.proofs.Basics.{rules}
 use Rattle.desk_ledger.specs.Ledgers.{ledger_told}
 use Rattle.desk_ledger.proofs.tell.Goals as goal
 

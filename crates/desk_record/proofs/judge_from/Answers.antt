@@ -1,5 +1,4 @@
 -- `desk_record::judge_from` meets its contract. Assumes nothing.
-use Rattle.refusal.proofs.Basics.{rules}
 use Rattle.desk_record.specs.Record.{judge_of}
 use Rattle.desk_record.proofs.judge_from.Goals as goal
 

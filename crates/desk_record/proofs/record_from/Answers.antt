@@ -1,5 +1,4 @@
 -- `desk_record::record_from` meets its contract. Assumes nothing.
-use Rattle.refusal.proofs.Basics.{rules}
 use Rattle.desk_record.specs.Record.{record_of}
 use Rattle.desk_record.proofs.record_from.Goals as goal
 

@@ -1,5 +1,4 @@
 -- `desk_slips::lanecockle_slip_write` meets its contract: a slip written from two empty sheets, told. Assumes nothing.
-use Rattle.refusal.proofs.Basics.{rules}
 use Rattle.desk_slips.proofs.Laws.{slip_told}
 use Rattle.desk_slips.proofs.lanecockle_slip_write.Goals as goal
 

@@ -1,5 +1,4 @@
 -- `desk_slips::tell_amount` meets its contract. Assumes nothing.
-use Rattle.refusal.proofs.Basics.{rules}
 use Rattle.desk_slips.specs.Slips.{cents_told}
 use Rattle.desk_slips.proofs.tell_amount.Goals as goal
 

@@ -1,5 +1,4 @@
 -- `desk_slips::tell_written` meets its contract. Assumes nothing.
-use Rattle.refusal.proofs.Basics.{rules}
 use Rattle.desk_slips.specs.Slips.{written_of}
 use Rattle.desk_slips.proofs.tell_written.Goals as goal
 

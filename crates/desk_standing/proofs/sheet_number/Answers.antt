@@ -1,5 +1,4 @@
 -- `desk_standing::sheet_number` meets its contract: the arm says which sheet it is. Assumes nothing.
-use Rattle.refusal.proofs.Basics.{rules}
 use Rattle.desk_standing.specs.Standings.{sheet_number}
 use Rattle.desk_standing.proofs.sheet_number.Goals as goal
 

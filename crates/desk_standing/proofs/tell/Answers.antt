@@ -1,5 +1,4 @@
 -- `desk_standing::tell` meets its contract. Assumes nothing.
-use Rattle.refusal.proofs.Basics.{rules}
 use Rattle.desk_standing.specs.Standings.{standing_told}
 use Rattle.desk_standing.proofs.tell.Goals as goal
 

@@ -1,5 +1,4 @@
 -- `desk_standing::tell_slip` meets its contract. Assumes nothing.
-use Rattle.refusal.proofs.Basics.{rules}
 use Rattle.desk_standing.specs.Standings.{written_told}
 use Rattle.desk_standing.proofs.tell_slip.Goals as goal
 

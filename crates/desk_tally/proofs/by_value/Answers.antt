@@ -1,5 +1,4 @@
 -- `desk_tally::by_value` meets its contract: the judge's record of the step, and its tally. Assumes nothing.
-use Rattle.refusal.proofs.Basics.{rules}
 use Rattle.desk_tally.specs.Tallied.{tallied_of}
 use Rattle.desk_tally.proofs.by_value.Goals as goal
 

@@ -1,5 +1,4 @@
 -- `desk_wet::tell_listed` meets its contract. Assumes nothing.
-use Rattle.refusal.proofs.Basics.{rules}
 use Rattle.desk_wet.specs.Listed.{listed_of}
 use Rattle.desk_wet.proofs.tell_listed.Goals as goal
 

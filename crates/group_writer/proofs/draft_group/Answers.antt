@@ -1,5 +1,4 @@
 -- `group_writer::draft_group` meets its contract: a 301 is drafted in three runs of fields. Assumes nothing.
-use Rattle.refusal.proofs.Basics.{rules}
 use Rattle.wage_places.specs.declared.LineType.TheVariants.{Group}
 use Rattle.bare_line.proofs.Theorems.{bare}
 use Rattle.group_writer.proofs.Laws.{group_first, group_worked, group_last}

@@ -1,5 +1,4 @@
 -- `group_writer::draft_worked` meets its contract: the digits are two fields, one behind the other. Assumes nothing.
-use Rattle.refusal.proofs.Basics.{rules}
 use Rattle.room.proofs.Digits.{digits_length}
 use Rattle.group_writer.proofs.Laws.{two_fields}
 use Rattle.group_writer.proofs.draft_worked.Goals as goal

@@ -1,5 +1,4 @@
 -- `group_writer::put_worked` meets its contract: three runs of digits fill the room, and the last two are the sum's. Assumes nothing.
-use Rattle.refusal.proofs.Basics.{rules}
 use Rattle.group_writer.proofs.Laws.{worked_digits}
 use Rattle.group_writer.proofs.put_worked.Goals as goal
 

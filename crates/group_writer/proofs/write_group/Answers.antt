@@ -1,8 +1,8 @@
 -- `group_writer::write_group` meets its contract: the sizes, the day, the kind, the orders, then the line. Assumes nothing.
-use Rattle.refusal.proofs.Basics.{sym, ◌∙◌, rules, not-true, not-false}
+use Rattle.refusal.proofs.Basics.{sym, ◌∙◌, not-true, not-false}
 use Rattle.wage_orders.proofs.Theorems.{accepted_small}
 use Rattle.line_room.proofs.Laws.{refused_first, accepted_first, day_wrong, day_right, kind_wrong, kind_right}
-use Rattle.wage_writer.proofs.Laws.{sizes_wrong, sizes_right}
+use Rattle.wage_writer.proofs.Laws.{sizes_right}
 use Rattle.group_writer.specs.GroupWriter.{group_answer}
 use Rattle.group_writer.proofs.write_group.Goals as goal
 

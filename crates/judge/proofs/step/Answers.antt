@@ -1,5 +1,4 @@
 -- `judge::step` meets its contract: each return is the definition's choice on the tests that led there. Assumes nothing.
-use Rattle.refusal.proofs.Basics.{sym, ◌∙◌, rules, arith, ltb-true, ltb, both_true}
 use Rattle.judge.specs.Judge.{stepped}
 use Rattle.judge.proofs.step.Goals as goal
 

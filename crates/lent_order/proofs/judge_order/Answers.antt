@@ -1,5 +1,5 @@
 -- `wage_orders::judge_order` meets its contract, type by type. Assumes nothing.
-use Rattle.refusal.proofs.Basics.{sym, ◌∙◌, rules}
+use Rattle.refusal.proofs.Basics.{sym, ◌∙◌}
 use Rattle.lent_order.specs.Order.{lent_order_answer}
 use Rattle.lent_order.proofs.judge_order.Goals as goal
 

@@ -1,5 +1,5 @@
 -- `line_room::write_closing` meets its contract: the day, then the line, which has no fields. Assumes nothing.
-use Rattle.refusal.proofs.Basics.{refl, sym, ◌∙◌, rules, not-true, not-false}
+use Rattle.refusal.proofs.Basics.{refl, sym, ◌∙◌, not-true, not-false}
 use Rattle.wage_places.specs.declared.LineType.TheVariants.{Closing}
 use Rattle.bare_line.proofs.Theorems.{bare}
 use Rattle.line_room.specs.LineRoom.{closing_answer}

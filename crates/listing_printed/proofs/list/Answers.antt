@@ -1,5 +1,5 @@
 -- `listing_printed::list` meets its contract: 1 without a line feed, else the listing that the space tells. Assumes nothing.
-use Rattle.refusal.proofs.Basics.{refl, rules, not-true, not-false}
+use Rattle.refusal.proofs.Basics.{refl, not-true, not-false}
 use Rattle.listing_printed.specs.Mirror.{kept_listing, kept_fillings}
 use Rattle.listing_printed.proofs.list.Goals as goal
 

@@ -1,7 +1,7 @@
 -- `listing_printed::put_filled` meets its contract: the filled text stands at the front of the room, and the line feed is put behind it.
 -- Assumes nothing.
-use Rattle.refusal.proofs.Basics.{sym, ◌∙◌, rules}
-use Rattle.listing_printed.proofs.Laws.{line_put, no_line_put}
+use Rattle.refusal.proofs.Basics.{sym, ◌∙◌}
+use Rattle.listing_printed.proofs.Laws.{line_put}
 use Rattle.listing_printed.proofs.put_filled.Goals as goal
 
 pub returns-in-Accepted : goal.returns-in-Accepted

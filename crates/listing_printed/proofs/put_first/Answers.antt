@@ -1,5 +1,4 @@
 -- `listing_printed::put_first` meets its contract: each arm puts its texts one behind the other. Assumes nothing.
-use Rattle.refusal.proofs.Basics.{rules}
 use Rattle.printed.proofs.Laws.{puts_then}
 use Rattle.listing_printed.specs.Listing.{first_line}
 use Rattle.listing_printed.proofs.put_first.Goals as goal

@@ -1,5 +1,5 @@
 -- `listing_printed::text` meets its contract: the side that the space tells. Assumes nothing.
-use Rattle.refusal.proofs.Basics.{rules, left, entered}
+use Rattle.refusal.proofs.Basics.{left, entered}
 use Rattle.listing_printed.specs.Mirror.{kept_text}
 use Rattle.listing_printed.proofs.text.Goals as goal
 

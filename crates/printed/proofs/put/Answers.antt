@@ -1,7 +1,7 @@
 -- `printed::put` meets its contract. Assumes nothing.
-use Rattle.refusal.proofs.Basics.{sym, ap, ◌∙◌, rules, arith, length, length-sets}
+use Rattle.refusal.proofs.Basics.{sym, arith}
 use Rattle.room.proofs.Laws.{sets_past}
-use Rattle.printed.proofs.Laws.{ends_short, ends_whole}
+use Rattle.printed.proofs.Laws.{ends_short}
 use Rattle.printed.proofs.put.Goals as goal
 
 pub returns-then-out-at : goal.returns-then-out-at

@@ -1,5 +1,4 @@
 -- `printed::put_counted` meets its contract. Assumes nothing.
-use Rattle.refusal.proofs.Basics.{rules}
 use Rattle.printed.proofs.Laws.{puts_then}
 use Rattle.printed.proofs.put_counted.Goals as goal
 

@@ -1,5 +1,5 @@
 -- `printed::put_number` meets its contract. Assumes nothing.
-use Rattle.refusal.proofs.Basics.{sym, ap, ◌∙◌, rules, arith, ℕ, ◌+◌, length, length-sets}
+use Rattle.refusal.proofs.Basics.{sym, ap, ◌∙◌, arith, ℕ, ◌+◌, length, length-sets}
 use Rattle.room.proofs.Laws.{sets_past}
 use Rattle.printed.specs.Printed.{decimal}
 use Rattle.printed.proofs.Laws.{ends_short, ends_whole, decimal_length, put_width}

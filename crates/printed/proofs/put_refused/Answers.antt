@@ -1,5 +1,4 @@
 -- `printed::put_refused` meets its contract. Assumes nothing.
-use Rattle.refusal.proofs.Basics.{rules}
 use Rattle.printed.specs.Printed.{refused_text}
 use Rattle.printed.proofs.Laws.{puts_then}
 use Rattle.printed.proofs.put_refused.Goals as goal

@@ -1,6 +1,5 @@
 -- `printed::width` meets its contract. The loop's invariant: the digits counted and those of what is left are all. Assumes nothing.
-use Rattle.refusal.proofs.Basics.{◌≡◌, ◌∙◌, arith, ◌+◌, ◌-◌, ◌^◌, ◌≤◌, ◌<◌}
-use Rattle.printed.specs.Printed.{width_in}
+use Rattle.refusal.proofs.Basics.{◌≡◌, ◌∙◌, arith, ◌+◌, ◌-◌}
 use Rattle.printed.proofs.Laws.{width_one, width_more}
 use Rattle.printed.proofs.width.Goals as goal
 

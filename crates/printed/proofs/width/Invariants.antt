@@ -1,7 +1,6 @@
 -- `printed::width` meets its contract. The loop's invariant: the digits counted and those of what is left are all. Assumes nothing.
-use Rattle.refusal.proofs.Basics.{◌≡◌, ◌∙◌, arith, ◌+◌, ◌-◌, ◌^◌, ◌≤◌, ◌<◌}
+use Rattle.refusal.proofs.Basics.{◌≡◌, ◌+◌, ◌-◌, ◌^◌, ◌≤◌, ◌<◌}
 use Rattle.printed.specs.Printed.{width_in}
-use Rattle.printed.proofs.Laws.{width_one, width_more}
 use Rattle.printed.proofs.width.Given as goal
 
 abbrev pub invariant-loop-rest : goal.invariant-loop-rest

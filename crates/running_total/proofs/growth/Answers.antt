@@ -1,5 +1,5 @@
 -- `running_total::growth` meets its contract: the arm says what the type is. Assumes nothing.
-use Rattle.refusal.proofs.Basics.{sym, ◌∙◌, rules}
+use Rattle.refusal.proofs.Basics.{sym, ◌∙◌}
 use Rattle.running_total.specs.RunningTotal.{growth_in}
 use Rattle.running_total.proofs.growth.Goals as goal
 

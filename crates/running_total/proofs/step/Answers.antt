@@ -1,5 +1,5 @@
 -- `running_total::step` meets its contract: the judge's refusal first, then 29, then the tally with what the line adds. Assumes nothing.
-use Rattle.refusal.proofs.Basics.{◌≡◌, sym, ap, ◌∙◌, rules, true, false, cond}
+use Rattle.refusal.proofs.Basics.{◌≡◌, sym, ap, ◌∙◌, true, false, cond}
 use Rattle.tally.specs.declared.Growth.{Growth}
 use Rattle.tally.specs.Tally.{is_within, grown}
 use Rattle.tally.proofs.Laws.{grows_within, grows}

@@ -1,5 +1,5 @@
 -- `slip_printed::print` meets its contract: the arm says what the slip is. Assumes nothing.
-use Rattle.refusal.proofs.Basics.{sym, ◌∙◌, rules}
+use Rattle.refusal.proofs.Basics.{sym, ◌∙◌}
 use Rattle.slip_printed.specs.SlipPrinted.{slip_printed}
 use Rattle.slip_printed.proofs.print.Goals as goal
 

@@ -1,5 +1,5 @@
 -- `slip_printed::print_ledger` meets its contract: the arm says what the slip is. Assumes nothing.
-use Rattle.refusal.proofs.Basics.{sym, ◌∙◌, rules}
+use Rattle.refusal.proofs.Basics.{sym, ◌∙◌}
 use Rattle.printed.proofs.Laws.{puts_then}
 use Rattle.slip_printed.specs.SlipPrinted.{ledger_printed}
 use Rattle.slip_printed.proofs.print_ledger.Goals as goal

@@ -1,5 +1,4 @@
 -- `slip_printed::put_cents` meets its contract: the nearest cent is one number. Assumes nothing.
-use Rattle.refusal.proofs.Basics.{rules}
 use Rattle.units.proofs.Theorems.{nearest_is}
 use Rattle.printed.proofs.Laws.{puts_then}
 use Rattle.slip_printed.specs.SlipPrinted.{cents_line}

@@ -1,5 +1,4 @@
 -- `slip_printed::put_field` meets its contract. Assumes nothing.
-use Rattle.refusal.proofs.Basics.{rules}
 use Rattle.printed.proofs.Laws.{puts_then}
 use Rattle.slip_printed.specs.SlipPrinted.{field_line}
 use Rattle.slip_printed.proofs.put_field.Goals as goal

@@ -1,9 +1,7 @@
 -- `slip_printed::put_fields` meets its contract. The loop's invariant: what puts the lines that are left, puts all. Assumes nothing.
-use Rattle.refusal.proofs.Basics.{◌≡◌, refl, ◌∙◌, rules, arith, ℕ, ◌-◌, ◌≤◌, length, List}
+use Rattle.refusal.proofs.Basics.{◌≡◌, ℕ, ◌-◌, ◌≤◌, length, List}
 use Rattle.printed.specs.Printed.{Puts}
-use Rattle.printed.proofs.Laws.{puts_then, puts_none, puts_within, puts_length}
 use Rattle.slip_printed.specs.SlipPrinted.{field_lines}
-use Rattle.slip_printed.proofs.Laws.{lines_on, lines_end}
 use Rattle.slip_printed.proofs.put_fields.Given as goal
 
 abbrev pub invariant-loop-n : goal.invariant-loop-n

@@ -1,9 +1,5 @@
 -- `standing::after_sound` meets its contract: the arm says the type, and a sound record has small counts. Assumes nothing.
-use Rattle.refusal.proofs.Basics.{◌≡◌, ap, rules, arith, ℕ}
-use Rattle.condition.specs.declared.Condition.{Condition}
-use Rattle.condition.specs.declared.Counts.{Counts}
-use Rattle.condition.specs.declared.Open.{Open}
-use Rattle.condition.specs.declared.Judge.{Judge}
+use Rattle.refusal.proofs.Basics.{arith}
 use Rattle.condition.proofs.Laws.{sound_within}
 use Rattle.standing.proofs.after_sound.Goals as goal
 

@@ -1,5 +1,5 @@
 -- `judge::judge_standing` meets its contract: each return is the definition's choice on the tests that led there. Assumes nothing.
-use Rattle.refusal.proofs.Basics.{rules, eq-eqb, ne_eqb, lt-ltb, le-ltb}
+use Rattle.refusal.proofs.Basics.{eq-eqb, ne_eqb, lt-ltb, le-ltb}
 use Rattle.standing.specs.Standing.{stand_verdict}
 use Rattle.standing.proofs.judge_standing.Goals as goal
 

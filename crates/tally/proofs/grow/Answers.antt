@@ -1,5 +1,5 @@
 -- `tally::grow` meets its contract: the definition's choice on the test, and the arm says what is added. Assumes nothing.
-use Rattle.refusal.proofs.Basics.{sym, ◌∙◌, rules, arith}
+use Rattle.refusal.proofs.Basics.{sym, ◌∙◌, arith}
 use Rattle.tally.proofs.Laws.{within_small}
 use Rattle.tally.proofs.grow.Goals as goal
 

@@ -1,5 +1,4 @@
 -- `tally::is_within` meets its contract: the tests joined are the definition's. Assumes nothing.
-use Rattle.refusal.proofs.Basics.{rules}
 use Rattle.tally.specs.Tally.{is_within}
 use Rattle.tally.proofs.is_within.Goals as goal
 

@@ -1,5 +1,4 @@
 -- `wage_draft::draft` meets its contract: the line's size, then the draft in scratch room. Assumes nothing.
-use Rattle.refusal.proofs.Basics.{rules}
 use Rattle.wage_draft.proofs.Laws.{scratch_short}
 use Rattle.wage_draft.proofs.draft.Goals as goal
 

@@ -1,5 +1,5 @@
 -- `wage_draft::draft_aside` meets its contract: the line is copied, drafted there, and put back if it is right. Assumes nothing.
-use Rattle.refusal.proofs.Basics.{sym, ◌∙◌, rules}
+use Rattle.refusal.proofs.Basics.{sym, ◌∙◌}
 use Rattle.wage_draft.proofs.Laws.{put_whole, scratch_refused, scratch_accepted}
 use Rattle.wage_draft.proofs.draft_aside.Goals as goal
 

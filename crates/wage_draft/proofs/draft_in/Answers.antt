@@ -1,9 +1,7 @@
 -- `wage_draft::draft_in` meets its contract. The loop's invariant: what is left to be drafted is the whole draft. Assumes nothing.
-use Rattle.refusal.proofs.Basics.{◌≡◌, refl, ◌∙◌, rules, arith, ◌≤◌, ◌-◌, length, take, drop}
+use Rattle.refusal.proofs.Basics.{◌∙◌, arith}
 use Rattle.wage_places.specs.Places.{spots}
-use Rattle.lent_fields.specs.Fields.{fields_of}
-use Rattle.wage_draft.specs.Draft.{drafted}
-use Rattle.wage_draft.proofs.Laws.{Left, draft_last, draft_past, draft_on, draft_stops}
+use Rattle.wage_draft.proofs.Laws.{draft_last, draft_past, draft_on, draft_stops}
 use Rattle.lent_fields.proofs.Laws.{field_ends}
 use Rattle.wage_draft.proofs.draft_in.Goals as goal
 

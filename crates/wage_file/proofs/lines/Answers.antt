@@ -1,8 +1,7 @@
 -- `wage_file::lines` meets its contract. The loop's invariant: the record is the one that the lines from `at` on lead to from `j`. Assumes nothing.
-use Rattle.refusal.proofs.Basics.{◌≡◌, refl, sym, ◌∙◌, arith, ◌≤◌, ◌-◌, length, drop}
+use Rattle.refusal.proofs.Basics.{sym, ◌∙◌, arith, drop}
 use Rattle.wage_line.specs.Pieces.{pieces}
 use Rattle.wage_line.proofs.PieceLaws.{piece_advances}
-use Rattle.judge.specs.Judge.{steps}
 use Rattle.judge.proofs.Theorems.{refusal_stays_on}
 use Rattle.wage_file.proofs.Laws.{lines_on, lines_end}
 use Rattle.wage_file.proofs.lines.Goals as goal

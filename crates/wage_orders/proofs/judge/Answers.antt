@@ -1,5 +1,5 @@
 -- `wage_orders::judge` meets its contract. Assumes nothing.
-use Rattle.refusal.proofs.Basics.{refl, rules, le-leb, lt-leb, eq-eqb, ne_eqb, taken, left, entered}
+use Rattle.refusal.proofs.Basics.{refl, le-leb, lt-leb, eq-eqb, ne_eqb, taken, left, entered}
 use Rattle.wage_orders.specs.Orders.{group_orders}
 use Rattle.wage_orders.proofs.judge.Goals as goal
 

@@ -1,9 +1,7 @@
 -- `wage_orders::judge_lines` meets its contract. The loop's invariant: the answer is that of the lines from `at` on, the line there being `n`.
 -- Assumes nothing.
-use Rattle.refusal.proofs.Basics.{◌≡◌, refl, sym, ◌∙◌, rules, arith, ◌+◌, ◌-◌, ◌≤◌, length, drop}
-use Rattle.wage_line.specs.Pieces.{pieces}
+use Rattle.refusal.proofs.Basics.{sym, ◌∙◌, arith}
 use Rattle.wage_line.proofs.PieceLaws.{piece_advances}
-use Rattle.wage_orders.specs.Orders.{orders_from}
 use Rattle.wage_orders.proofs.Laws.{orders_on, orders_stop, orders_end}
 use Rattle.wage_orders.proofs.judge_lines.Goals as goal
 

@@ -1,10 +1,8 @@
 -- `wage_orders::judge_lines` meets its contract. The loop's invariant: the answer is that of the lines from `at` on, the line there being `n`.
 -- Assumes nothing.
-use Rattle.refusal.proofs.Basics.{◌≡◌, refl, sym, ◌∙◌, rules, arith, ◌+◌, ◌-◌, ◌≤◌, length, drop}
+use Rattle.refusal.proofs.Basics.{◌≡◌, ◌+◌, ◌-◌, ◌≤◌, length, drop}
 use Rattle.wage_line.specs.Pieces.{pieces}
-use Rattle.wage_line.proofs.PieceLaws.{piece_advances}
 use Rattle.wage_orders.specs.Orders.{orders_from}
-use Rattle.wage_orders.proofs.Laws.{orders_on, orders_stop, orders_end}
 use Rattle.wage_orders.proofs.judge_lines.Given as goal
 
 abbrev pub invariant-lines : goal.invariant-lines

@@ -1,5 +1,5 @@
 -- `wage_printed::day` meets its contract. Assumes nothing.
-use Rattle.refusal.proofs.Basics.{sym, ◌∙◌, rules, arith, not-true, not-false}
+use Rattle.refusal.proofs.Basics.{sym, ◌∙◌, arith, not-true, not-false}
 use Rattle.wage_printed.proofs.Laws.{no_nine, no_feed, no_digits, day_digits}
 use Rattle.wage_printed.proofs.day.Goals as goal
 

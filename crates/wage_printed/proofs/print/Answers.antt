@@ -1,5 +1,4 @@
 -- `wage_printed::print` meets its contract. Assumes nothing.
-use Rattle.refusal.proofs.Basics.{rules}
 use Rattle.wage_printed.specs.FilePrinted.{ending_printed}
 use Rattle.wage_printed.proofs.print.Goals as goal
 

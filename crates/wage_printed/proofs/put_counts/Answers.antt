@@ -1,5 +1,4 @@
 -- `wage_printed::put_counts` meets its contract. Assumes nothing.
-use Rattle.refusal.proofs.Basics.{rules}
 use Rattle.printed.proofs.Laws.{puts_then}
 use Rattle.wage_printed.specs.FilePrinted.{ending_printed}
 use Rattle.wage_printed.proofs.put_counts.Goals as goal

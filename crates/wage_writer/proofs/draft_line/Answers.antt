@@ -1,5 +1,4 @@
 -- `wage_writer::draft_line` meets its contract: the blanks are dressed, and all places drafted. Assumes nothing.
-use Rattle.refusal.proofs.Basics.{rules}
 use Rattle.bare_line.proofs.Theorems.{bare}
 use Rattle.wage_writer.proofs.Laws.{all_places}
 use Rattle.wage_writer.proofs.draft_line.Goals as goal

@@ -1,7 +1,7 @@
 -- `wage_writer::write_label` meets its contract: the sizes, the day, then the line. Assumes nothing.
-use Rattle.refusal.proofs.Basics.{sym, ◌∙◌, rules, not-true, not-false}
+use Rattle.refusal.proofs.Basics.{sym, ◌∙◌, not-true, not-false}
 use Rattle.line_room.proofs.Laws.{day_wrong, day_right}
-use Rattle.wage_writer.proofs.Laws.{sizes_wrong, sizes_right}
+use Rattle.wage_writer.proofs.Laws.{sizes_right}
 use Rattle.wage_writer.specs.Writer.{label_answer}
 use Rattle.wage_writer.proofs.write_label.Goals as goal
 

@@ -1,7 +1,7 @@
 -- `wage_writer::write_order` meets its contract: the sizes, the day, the kind, then the line. Assumes nothing.
-use Rattle.refusal.proofs.Basics.{sym, ◌∙◌, rules, not-true, not-false}
+use Rattle.refusal.proofs.Basics.{sym, ◌∙◌, not-true, not-false}
 use Rattle.line_room.proofs.Laws.{day_wrong, day_right, kind_wrong, kind_right}
-use Rattle.wage_writer.proofs.Laws.{sizes_wrong, sizes_right}
+use Rattle.wage_writer.proofs.Laws.{sizes_right}
 use Rattle.wage_writer.specs.Writer.{order_answer}
 use Rattle.wage_writer.proofs.write_order.Goals as goal
 
