@@ -21,9 +21,9 @@ pub data OneOf (n : ℕ) : Type 0 where
   thirteen : n ≡ 13 → OneOf n
   fourteen : n ≡ 14 → OneOf n
 
-pub one_of : (n : ℕ) → is_standing n ≡ true → OneOf n
+pub one_of_lem : (n : ℕ) → is_standing n ≡ true → OneOf n
 unfolding is_standing
-one_of n e = go (leb 4 n) (leb n 9) (eqb n 13) (eqb n 14) refl refl refl refl e
+one_of_lem n e = go (leb 4 n) (leb n 9) (eqb n 13) (eqb n 14) refl refl refl refl e
   where
     go : (a b c d : Bool) → leb 4 n ≡ a → leb n 9 ≡ b → eqb n 13 ≡ c → eqb n 14 ≡ d → ((a && b) || (c || d)) ≡ true → OneOf n
     go true true c d p q r t h = low (leb-true 4 n p) (leb-true n 9 q)
@@ -36,7 +36,7 @@ one_of n e = go (leb 4 n) (leb n 9) (eqb n 13) (eqb n 14) refl refl refl refl e
 
 -- so it is small
 pub standing_within : (n : ℕ) → is_standing n ≡ true → (4 ≤ n) × (n ≤ 14)
-standing_within n h = go (one_of n h)
+standing_within n h = go (one_of_lem n h)
   where
     go : OneOf n → (4 ≤ n) × (n ≤ 14)
     go (low a b) = (a, omega arith)

@@ -15,7 +15,7 @@ use Rattle.slip_fields.proofs.Plain.{text_exactly, thirteenth_exactly}
 use Rattle.sheet.specs.declared.Held.TheVariants.{At}
 use Rattle.sheet.specs.Sheet.{is_standing, line_number, text_start, line_text, is_right, bad_from, bad_line, held_from, line_held}
 use Rattle.sheet.specs.Claims.{FieldLine, number_text, line_of, sheet_text, RightLines, none, more, field_of, fields_in, text_among, is_among, StandsAs, is_held}
-use Rattle.sheet.proofs.Laws.{OneOf, low, thirteen, fourteen, one_of, numbered, text_within}
+use Rattle.sheet.proofs.Laws.{OneOf, low, thirteen, fourteen, one_of_lem, numbered, text_within}
 use Rattle.sheet.proofs.Tables.{right_above, right_on, right_last}
 
 -- ---------------------------------------------------------------------------
@@ -24,7 +24,7 @@ use Rattle.sheet.proofs.Tables.{right_above, right_on, right_last}
 -- a written line has its number and its text
 pub line_read : (n : ℕ) (t : List ℕ) → is_standing n ≡ true → (line_number (number_text n ++ (61 ∷ t)) ≡ n) × (drop (text_start n) (number_text n ++ (61 ∷ t)) ≡ t)
 unfolding line_number
-line_read n t h = go (one_of n h)
+line_read n t h = go (one_of_lem n h)
   where
     go : OneOf n → (line_number (number_text n ++ (61 ∷ t)) ≡ n) × (drop (text_start n) (number_text n ++ (61 ∷ t)) ≡ t)
     go (low a b) =
@@ -183,7 +183,7 @@ module _ (n : ℕ) (above : 0 < n) where
 -- the empty text does, of a field with standing text
 pub empty_obeys : (n : ℕ) → is_standing n ≡ true → field_verdict Euro n [] [] ≡ 0
 unfolding first_wrong characters
-empty_obeys n h = go (one_of n h)
+empty_obeys n h = go (one_of_lem n h)
   where
     go : OneOf n → field_verdict Euro n [] [] ≡ 0
     go (low a b) = (text_exactly Euro [] [] n (inl (a, b))).1 (refl, omega arith)
