@@ -189,7 +189,7 @@ module _ (day : ℕ) where
     pub running_cents : (r.condition ≡ 4 → ⊥) → cents_of t.total ≡ amounts (among is_order ss)
     running_cents e =
         let takes = unrefused_number (steps (begun day) ss) (λ f. e (ap (λ (x : Record). x.condition) running_same_judge ∙ f)) in
-        ap (λ (u : Tally). cents_of u.total) (running_total_lem e) ∙ from_zero_cents day ss takes
+        ap (λ (u : Tally). cents_of u.total) ((run_is ss r t run).1 ∙ from_zero_tally day ss takes) ∙ from_zero_cents day ss takes
 
 -- ---------------------------------------------------------------------------
 -- The file's own total in the record: "10^21 or more there is 17"
