@@ -15,9 +15,6 @@ told_one κs a z z' w w' p q = p ∙ sym q
 pub needed_one : One _ here.needed.Kinds.ps here.needed.Kinds.r here.needed.Reads.Post
 needed_one κs a z z' w w' p q = p ∙ sym q
 
-pub is_accepted_one : One _ here.is_accepted.Kinds.ps here.is_accepted.Kinds.r here.is_accepted.Reads.Post
-is_accepted_one κs a z z' w w' p q = p ∙ sym q
-
 pub made_one : One _ here.made.Kinds.ps here.made.Kinds.r here.made.Reads.Post
 made_one κs a z z' w w' p q = p ∙ sym q
 

@@ -3,8 +3,8 @@
 use Rattle.refusal.proofs.Basics.{◌≡◌, refl, arith, ℕ}
 use Rattle.refusal.specs.declared.Refusal.{Refusal}
 use Rattle.refusal.specs.declared.Refusal.TheVariants.{Size, Ends, Byte, Length, Form, Check, Model, Parts, Digit, Misplaced, Date, Orders, Sum, Unfinished, Room, Marks, Beyond, Sheet, Field, Overfull}
-use Rattle.refusal.specs.declared.Answer.TheVariants.{Accepted, Refused}
-use Rattle.refusal.specs.Refusal.{refusal_number, refusal_place, needed_of, refusal_of}
+use Rattle.std.specs.Prelude.{Ok, Err}
+use Rattle.refusal.specs.Refusal.{Answer, refusal_number, refusal_place, needed_of, refusal_of}
 
 -- ---------------------------------------------------------------------------
 -- The paper's number, the place and the needed number say all that a refusal holds
@@ -31,5 +31,5 @@ numbers_tell_all (Sheet p) = refl
 numbers_tell_all (Field p) = refl
 numbers_tell_all (Overfull p) = refl
 
-pub refused_not_accepted : (r : Refusal) → Refused r ≡ Accepted → ⊥
+pub refused_not_accepted : (r : Refusal) → ◌≡◌ {A = Answer} (Err r) (Ok tt) → ⊥
 refused_not_accepted r e = let z : ◌≡◌ {A = ℕ} 0 1 = cc in omega arith

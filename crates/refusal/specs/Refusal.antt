@@ -1,10 +1,8 @@
 -- Document 01, "Refusal numbers", and document 02: what the paper's number, place and needed number of each refusal are.
-use Rattle.std.specs.Prelude.{ℕ, Bool, true, false, cond, ◌&&◌, ◌||◌, eqb, leb}
+use Rattle.std.specs.Prelude.{ℕ, Bool, true, false, cond, ◌&&◌, ◌||◌, eqb, leb, Result, Ok, Err}
 use Rattle.refusal.specs.declared.Place.{Place}
 use Rattle.refusal.specs.declared.Refusal.{Refusal}
 use Rattle.refusal.specs.declared.Refusal.TheVariants.{Size, Ends, Byte, Length, Form, Check, Model, Parts, Digit, Misplaced, Date, Orders, Sum, Unfinished, Room, Marks, Beyond, Sheet, Field, Overfull}
-use Rattle.refusal.specs.declared.Answer.{Answer}
-use Rattle.refusal.specs.declared.Answer.TheVariants.{Accepted, Refused}
 
 -- "0 stands for none": the place of a refusal that tells none
 abbrev pub none : Place
@@ -117,17 +115,21 @@ moved q r = refusal_of (refusal_number r) q (needed_of r)
 abbrev pub in_line : ℕ → Refusal → Refusal
 in_line n r = moved (record { line = n; field = (refusal_place r).field; byte = (refusal_place r).byte }) r
 
+-- what a judging call answers: acceptance, or a refusal
+abbrev pub Answer : Type 0
+Answer = Result Unit Refusal
+
 -- an answer's number: 0 is acceptance
 abbrev pub answer_number : Answer → ℕ
-answer_number Accepted = 0
-answer_number (Refused r) = refusal_number r
+answer_number (Ok u) = 0
+answer_number (Err r) = refusal_number r
 
 -- an answer refuses nothing
 abbrev pub is_accepted : Answer → Bool
-is_accepted Accepted = true
-is_accepted (Refused r) = false
+is_accepted (Ok u) = true
+is_accepted (Err r) = false
 
 -- the first refusal stands
 abbrev pub first_of : Answer → Answer → Answer
-first_of Accepted rest = rest
-first_of (Refused r) rest = Refused r
+first_of (Ok u) rest = rest
+first_of (Err r) rest = Err r

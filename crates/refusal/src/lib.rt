@@ -5,7 +5,7 @@
 #![tactic(auto)]
 
 ghost use Rattle.std.specs.Prelude.{◌≡◌};
-ghost use Rattle.refusal.specs.Refusal.{none, refusal_number, refusal_place, needed_of, refusal_of, moved, in_line, is_accepted};
+ghost use Rattle.refusal.specs.Refusal.{none, refusal_number, refusal_place, needed_of, refusal_of, moved, in_line};
 
 // Where a refusal stands. Lines and fields count from 1, bytes from 0; 0 stands for "none".
 #[derive(Clone, Copy)]
@@ -43,12 +43,8 @@ pub enum Refusal {
     Overfull(Place),
 }
 
-// What a judging call answers.
-#[derive(Clone, Copy)]
-pub enum Answer {
-    Accepted,
-    Refused(Refusal),
-}
+// What a judging call answers: acceptance, or a refusal.
+pub type Answer = Result<(), Refusal>;
 
 // The place of a refusal that tells none.
 pub fn nowhere() -> Place
@@ -124,16 +120,6 @@ pub fn needed(refusal: Refusal) -> usize
     match refusal {
         Refusal::Room(_, n) => n,
         _ => 0,
-    }
-}
-
-// Whether an answer refuses nothing.
-pub fn is_accepted(a: Answer) -> bool
-    ensures { result ≡ is_accepted a }
-{
-    match a {
-        Answer::Accepted => true,
-        Answer::Refused(_) => false,
     }
 }
 

@@ -1,6 +1,6 @@
 -- Laws of a text's blanks: the text without those at its end.
 -- Assumes nothing.
-use Rattle.refusal.proofs.Basics.{◌≡◌, refl, sym, ap, ◌∙◌, arith, ℕ, suc, ◌-◌, ◌≤◌, ◌<◌, length, take, get_or, ne_eqb, List, [], ◌∷◌, ◌++◌, Bool, true, false, cond, ◌&&◌, false≢true, eqb, take-suc, left}
+use Rattle.refusal.proofs.Basics.{◌≡◌, refl, sym, ap, arith, ℕ, suc, ◌≤◌, length, List, [], ◌∷◌, ◌++◌, Bool, true, false, cond, ◌&&◌, false≢true, eqb, left}
 use Rattle.classes.specs.declared.Class.TheVariants.{Blanks}
 use Rattle.text.specs.Bytes.{all_of, trimmed}
 
@@ -23,7 +23,7 @@ blank_more [] = refl
 blank_more (b ∷ s) = ap (λ (t : Bool). eqb b 32 && t) (blank_more s)
 
 -- one blank more at the end is taken away
-trimmed_blank : (s : List ℕ) → trimmed (s ++ (32 ∷ [])) ≡ trimmed s
+pub trimmed_blank : (s : List ℕ) → trimmed (s ++ (32 ∷ [])) ≡ trimmed s
 unfolding trimmed all_of
 trimmed_blank [] = refl
 trimmed_blank (b ∷ s) = rw (blank_more s, trimmed_blank s)
@@ -41,29 +41,16 @@ module _ (x : ℕ) (h : eqb x 32 ≡ false) where
       go false e = refl
 
   -- a text that ends in no blank stays as it is
-  trimmed_same : (s : List ℕ) → trimmed (s ++ (x ∷ [])) ≡ s ++ (x ∷ [])
+  pub trimmed_same : (s : List ℕ) → trimmed (s ++ (x ∷ [])) ≡ s ++ (x ∷ [])
   unfolding trimmed all_of
   trimmed_same [] = rw h
   trimmed_same (b ∷ s) = sym (left (eqb b 32 && all_of Blanks (s ++ (x ∷ []))) [] (b ∷ trimmed (s ++ (x ∷ []))) (b ∷ (s ++ (x ∷ []))) (not_blank (b ∷ s)) (ap (λ (l : List ℕ). b ∷ l) (sym (trimmed_same s))))
 
--- of the first n bytes, n above 0
-module _ (s : List ℕ) (n : ℕ) (some : 0 < n) (fits : n ≤ length s) where
-  -- the bytes before the last, and the last
-  one_less : take n s ≡ take (n - 1) s ++ (get_or s (n - 1) 0 ∷ [])
-  one_less = let e : n ≡ suc (n - 1) = omega arith in ap (λ (k : ℕ). take k s) e ∙ take-suc s (n - 1) 0 (omega arith)
-
-  -- the last is blank
-  pub trimmed_back : get_or s (n - 1) 0 ≡ 32 → trimmed (take n s) ≡ trimmed (take (n - 1) s)
-  trimmed_back e = rw (one_less, e) (trimmed_blank (take (n - 1) s))
-
-  -- the last is no blank
-  pub trimmed_ends : (get_or s (n - 1) 0 ≡ 32 → ⊥) → trimmed (take n s) ≡ take n s
-  trimmed_ends e = rw one_less (trimmed_same (get_or s (n - 1) 0) (ne_eqb _ 32 e) (take (n - 1) s))
-
 -- nothing is left of nothing
-pub trimmed_nothing : [] ≡ trimmed []
+pub trimmed_of_nothing : (s : List ℕ) → length s ≡ 0 → trimmed s ≡ s
 unfolding trimmed
-trimmed_nothing = refl
+trimmed_of_nothing [] e = refl
+trimmed_of_nothing (b ∷ s) e = absurd (omega arith)
 
 -- what is left is no longer than the whole
 pub trimmed_shorter : (s : List ℕ) → length (trimmed s) ≤ length s

@@ -1,12 +1,12 @@
 -- Laws that every crate's proofs cite: of choices on a test, of tests, and of the texts that loops walk through.
 -- Assumes nothing.
-use Rattle.refusal.proofs.Basics.{◌≡◌, refl, sym, ap, subst, ◌∙◌, arith, ℕ, suc, ◌+◌, ◌-◌, ◌*◌, ◌≤◌, ◌<◌, length, take, drop, get_or, length-drop, take-append-drop, ne_eqb, eq-eqb, leb-true, leb-false, List, [], ◌∷◌, ◌++◌, Bool, true, false, cond, ◌&&◌, and-true, and_assoc, false≢true, eqb, leb, drop-cons, drop-length, take_all, zero-add, add-zero, add-one, and_first, and_second, both_true}
+use Rattle.refusal.proofs.Basics.{◌≡◌, refl, sym, ap, subst, ◌∙◌, arith, ℕ, suc, ◌+◌, ◌-◌, ◌*◌, ◌≤◌, ◌<◌, length, take, drop, get_or, length-drop, take-append-drop, ne_eqb, eq-eqb, leb-true, leb-false, List, [], ◌∷◌, ◌++◌, Bool, true, false, cond, not, ◌&&◌, and-true, and_assoc, false≢true, eqb, leb, drop-cons, drop-length, take_all, zero-add, add-zero, add-one, and_first, and_second, both_true}
 use Rattle.classes.specs.declared.Class.{Class}
-use Rattle.text.specs.declared.Found.{Found}
-use Rattle.text.specs.declared.Found.TheVariants.{At, Nothing}
+use Rattle.std.specs.Prelude.{Option, Some, None, is_some, is_none, count_by}
+use Rattle.std.specs.List.{fold}
 use Rattle.text.specs.Digits.{digits_of, value_from}
-use Rattle.verdict.specs.Verdict.{Within}
-use Rattle.verdict.proofs.Verdicts.{plain_within, byte_at_within}
+use Rattle.verdict.specs.Verdict.{passed, Within}
+use Rattle.verdict.proofs.Verdicts.{pass_within, byte_at_within, fault_no_pass}
 use Rattle.classes.specs.Classes.{is_digit, permits}
 use Rattle.text.specs.Bytes.{later, first_bad, found, bytes_verdict, all_of, count_of}
 
@@ -31,42 +31,42 @@ value_append v (x ∷ xs) ys = value_append (v * 10 + x) xs ys
 -- The scan for a byte that a class does not permit, from place i on
 
 -- i places further on
-unfoldable pub shifted : ℕ → Found → Found
-shifted i (At k) = At (i + k)
-shifted i Nothing = Nothing
+unfoldable pub shifted : ℕ → Option ℕ → Option ℕ
+shifted i (Some k) = Some (i + k)
+shifted i None = None
 
-pub shifted_zero : (f : Found) → f ≡ shifted 0 f
+pub shifted_zero : (f : Option ℕ) → f ≡ shifted 0 f
 unfolding shifted
-shifted_zero (At k) = ap At (sym (zero-add k))
-shifted_zero Nothing = refl
+shifted_zero (Some k) = ap Some (sym (zero-add k))
+shifted_zero None = refl
 
-pub shifted_later : (i : ℕ) (f : Found) → shifted i (later f) ≡ shifted (i + 1) f
+pub shifted_later : (i : ℕ) (f : Option ℕ) → shifted i (later f) ≡ shifted (i + 1) f
 unfolding shifted
-shifted_later i (At k) = ap At (omega arith)
-shifted_later i Nothing = refl
+shifted_later i (Some k) = ap Some (omega arith)
+shifted_later i None = refl
 
 module _ (k : Class) (s : List ℕ) (i : ℕ) where
   pub scan_on : i < length s → permits k (get_or s i 0) ≡ true → shifted i (first_bad k (drop i s)) ≡ shifted (i + 1) (first_bad k (drop (i + 1) s))
   unfolding first_bad
   scan_on h e = rw (drop-cons s i 0 h, e, add-one) (shifted_later i (first_bad k (drop (suc i) s)) ∙ rw add-one)
 
-  pub scan_stops : i < length s → permits k (get_or s i 0) ≡ false → At i ≡ shifted i (first_bad k (drop i s))
+  pub scan_stops : i < length s → permits k (get_or s i 0) ≡ false → Some i ≡ shifted i (first_bad k (drop i s))
   unfolding first_bad shifted
-  scan_stops h e = rw (drop-cons s i 0 h, e) (ap At (sym (add-zero i)))
+  scan_stops h e = rw (drop-cons s i 0 h, e) (ap Some (sym (add-zero i)))
 
-  pub scan_ends : length s ≤ i → i ≤ length s → Nothing ≡ shifted i (first_bad k (drop i s))
+  pub scan_ends : length s ≤ i → i ≤ length s → None ≡ shifted i (first_bad k (drop i s))
   unfolding first_bad shifted
   scan_ends h g = let e : i ≡ length s = omega arith in rw (e, drop-length)
 
 -- a scan's place is below a number
-abbrev pub Below : ℕ → Found → Type 0
-Below n (At i) = i < n
-Below n Nothing = Unit
+abbrev pub Below : ℕ → Option ℕ → Type 0
+Below n (Some i) = i < n
+Below n None = Unit
 
 -- one place further on, in a text of a byte more
-pub below_later : (n : ℕ) (f : Found) → Below n f → Below (suc n) (later f)
-below_later n (At i) h = omega arith
-below_later n Nothing h = tt
+pub below_later : (n : ℕ) (f : Option ℕ) → Below n f → Below (suc n) (later f)
+below_later n (Some i) h = omega arith
+below_later n None h = tt
 
 -- what the scan for a class finds
 pub bad_below : (k : Class) (s : List ℕ) → Below (length s) (first_bad k s)
@@ -74,56 +74,58 @@ unfolding first_bad
 bad_below k [] = tt
 bad_below k (b ∷ s) = go (permits k b) (bad_below k s)
   where
-    go : (t : Bool) → Below (length s) (first_bad k s) → Below (suc (length s)) (cond t (later (first_bad k s)) (At 0))
+    go : (t : Bool) → Below (length s) (first_bad k s) → Below (suc (length s)) (cond t (later (first_bad k s)) (Some 0))
     go true h = below_later (length s) (first_bad k s) h
     go false h = omega arith
 
 -- a place that it found
-pub found_below : (k : Class) (s : List ℕ) (i : ℕ) → first_bad k s ≡ At i → i < length s
-found_below k s i e = subst (λ (f : Found). Below (length s) f) e (bad_below k s)
+pub found_below : (k : Class) (s : List ℕ) (i : ℕ) → first_bad k s ≡ Some i → i < length s
+found_below k s i e = subst (λ (f : Option ℕ). Below (length s) f) e (bad_below k s)
 
 -- so its 3 tells a byte of the text
-pub found_within : (n : ℕ) (f : Found) → Below n f → Within n (found f)
-found_within n (At i) h = byte_at_within n i h
-found_within n Nothing h = plain_within n 0 (omega arith)
+pub found_within : (n : ℕ) (f : Option ℕ) → Below n f → Within n (found f)
+found_within n (Some i) h = byte_at_within n i h
+found_within n None h = pass_within n
 
 pub bytes_within : (k : Class) (s : List ℕ) → Within (length s) (bytes_verdict k s)
 unfolding bytes_verdict
 bytes_within k s = found_within (length s) (first_bad k s) (bad_below k s)
 
+is_none_later : (f : Option ℕ) → is_none (later f) ≡ is_none f
+is_none_later (Some k) = refl
+is_none_later None = refl
+
 -- nothing was found where every byte is permitted
-unfoldable pub is_nothing : Found → Bool
-is_nothing (At k) = false
-is_nothing Nothing = true
-
-is_nothing_later : (f : Found) → is_nothing (later f) ≡ is_nothing f
-unfolding is_nothing
-is_nothing_later (At k) = refl
-is_nothing_later Nothing = refl
-
-pub all_of_nothing : (k : Class) (s : List ℕ) → is_nothing (first_bad k s) ≡ all_of k s
-unfolding first_bad all_of is_nothing
+pub all_of_nothing : (k : Class) (s : List ℕ) → is_none (first_bad k s) ≡ all_of k s
+unfolding first_bad all_of
 all_of_nothing k [] = refl
 all_of_nothing k (b ∷ s) = go (permits k b) (all_of_nothing k s)
   where
-    go : (t : Bool) → is_nothing (first_bad k s) ≡ all_of k s → is_nothing (cond t (later (first_bad k s)) (At 0)) ≡ (t && all_of k s)
-    go true e = is_nothing_later (first_bad k s) ∙ e
+    go : (t : Bool) → is_none (first_bad k s) ≡ all_of k s → is_none (cond t (later (first_bad k s)) (Some 0)) ≡ (t && all_of k s)
+    go true e = is_none_later (first_bad k s) ∙ e
     go false e = refl
 
+-- as it is told of what was found
+pub none_told : (f : Option ℕ) (r : Bool) → is_some f ≡ not r → r ≡ is_none f
+none_told (Some k) true e = e
+none_told (Some k) false e = refl
+none_told None true e = refl
+none_told None false e = e
+
 -- and then there is no 3
-pub all_passes : (k : Class) (s : List ℕ) → all_of k s ≡ true → bytes_verdict k s ≡ 0
-unfolding bytes_verdict is_nothing
+pub all_passes : (k : Class) (s : List ℕ) → all_of k s ≡ true → bytes_verdict k s ≡ passed
+unfolding bytes_verdict
 all_passes k s e = go (first_bad k s) (all_of_nothing k s ∙ e)
   where
-    go : (f : Found) → is_nothing f ≡ true → found f ≡ 0
-    go (At i) h = absurd (false≢true h)
-    go Nothing h = refl
+    go : (f : Option ℕ) → is_none f ≡ true → found f ≡ passed
+    go (Some i) h = absurd (false≢true h)
+    go None h = refl
 
-pub nothing_found : (f : Found) → found f ≡ 0 → f ≡ Nothing
-nothing_found (At i) h = absurd (omega arith)
-nothing_found Nothing h = refl
+pub nothing_found : (f : Option ℕ) → found f ≡ passed → f ≡ None
+nothing_found (Some i) h = fault_no_pass _ h
+nothing_found None h = refl
 
-pub none_bad : (k : Class) (s : List ℕ) → all_of k s ≡ true → first_bad k s ≡ Nothing
+pub none_bad : (k : Class) (s : List ℕ) → all_of k s ≡ true → first_bad k s ≡ None
 unfolding bytes_verdict
 none_bad k s e = nothing_found (first_bad k s) (all_passes k s e)
 
@@ -138,9 +140,9 @@ unfolding all_of
 first_wrong_lem k [] h e = absurd (h refl)
 first_wrong_lem k (b ∷ s) h e = and_first (permits k b) (all_of k s) e
 
-pub passes_all : (k : Class) (s : List ℕ) → bytes_verdict k s ≡ 0 → all_of k s ≡ true
-unfolding bytes_verdict is_nothing
-passes_all k s e = sym (all_of_nothing k s) ∙ ap is_nothing (nothing_found (first_bad k s) e)
+pub passes_all : (k : Class) (s : List ℕ) → bytes_verdict k s ≡ passed → all_of k s ≡ true
+unfolding bytes_verdict
+passes_all k s e = sym (all_of_nothing k s) ∙ ap is_none (nothing_found (first_bad k s) e)
 
 -- a class permits two texts joined where it permits each
 pub all_append : (k : Class) (s t : List ℕ) → all_of k (s ++ t) ≡ (all_of k s && all_of k t)
@@ -191,20 +193,19 @@ module _ (k : Class) (s : List ℕ) (i : ℕ) where
   tested_all h g before = let e : i ≡ length s = omega arith in rw (e, drop-length) (sym (and-true before))
 
 -- ---------------------------------------------------------------------------
--- How many bytes c there are from place i on
+-- How many bytes c there are
 
-module _ (c : ℕ) (s : List ℕ) (i n : ℕ) where
-  pub count_more : i < length s → get_or s i 0 ≡ c → n + count_of c (drop i s) ≡ n + 1 + count_of c (drop (i + 1) s)
-  unfolding count_of
-  count_more h e = rw (drop-cons s i 0 h, add-one i, eq-eqb (get_or s i 0) c e) (omega arith)
-
-  pub count_same : i < length s → (get_or s i 0 ≡ c → ⊥) → n + count_of c (drop i s) ≡ n + count_of c (drop (i + 1) s)
-  unfolding count_of
-  count_same h e = rw (drop-cons s i 0 h, add-one i, ne_eqb (get_or s i 0) c e)
-
-  pub count_end : length s ≤ i → i ≤ length s → n ≡ n + count_of c (drop i s)
-  unfolding count_of
-  count_end h g = let e : i ≡ length s = omega arith in rw (e, drop-length) (sym (add-zero n))
+pub counted : (c : ℕ) (s : List ℕ) → count_by (λ b. eqb b c) s ≡ count_of c s
+unfolding count_of
+counted c s = go 0 s ∙ zero-add _
+  where
+    go : (n : ℕ) (t : List ℕ) → fold (λ (a x : ℕ). a + cond (eqb x c) 1 0) n t ≡ n + count_of c t
+    go n [] = sym (add-zero n)
+    go n (b ∷ t) = more (eqb b c) (go (n + cond (eqb b c) 1 0) t)
+      where
+        more : (d : Bool) → fold (λ (a x : ℕ). a + cond (eqb x c) 1 0) (n + cond d 1 0) t ≡ n + cond d 1 0 + count_of c t → fold (λ (a x : ℕ). a + cond (eqb x c) 1 0) (n + cond d 1 0) t ≡ n + cond d (suc (count_of c t)) (count_of c t)
+        more true e = e ∙ omega arith
+        more false e = e ∙ omega arith
 
 -- ---------------------------------------------------------------------------
 -- Parts

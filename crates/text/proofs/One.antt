@@ -29,6 +29,3 @@ trim_one κs a z z' w w' p q = p ∙ sym q
 
 pub count_one : One _ here.count.Kinds.ps here.count.Kinds.r here.count.Reads.Post
 count_one κs a z z' w w' p q = p ∙ sym q
-
-pub is_same_one : One _ here.is_same.Kinds.ps here.is_same.Kinds.r here.is_same.Reads.Post
-is_same_one κs a z z' w w' p q = p ∙ sym q

@@ -1,33 +1,32 @@
 -- The first byte of a text that a field does not permit, and what else is asked of its bytes.
-use Rattle.std.specs.Prelude.{ℕ, suc, Bool, true, false, cond, ◌&&◌, List, [], ◌∷◌, eqb}
+use Rattle.std.specs.Prelude.{ℕ, suc, Bool, true, cond, ◌&&◌, List, [], ◌∷◌, eqb, Option, Some, None}
+use Rattle.std.specs.Str.{bytes_eq}
 use Rattle.refusal.specs.Basics.{spelt}
-use Rattle.verdict.specs.Verdict.{wrong_at}
+use Rattle.verdict.specs.Verdict.{Verdict, passed, wrong_at}
 use Rattle.classes.specs.declared.Class.{Class}
 use Rattle.classes.specs.declared.Class.TheVariants.{Blanks}
-use Rattle.text.specs.declared.Found.{Found}
-use Rattle.text.specs.declared.Found.TheVariants.{At, Nothing}
 use Rattle.classes.specs.Classes.{permits}
 
 -- ---------------------------------------------------------------------------
 -- "For 3, byte is the first offending byte"
 
 -- one place further on
-abbrev pub later : Found → Found
-later (At i) = At (suc i)
-later Nothing = Nothing
+abbrev pub later : Option ℕ → Option ℕ
+later (Some i) = Some (suc i)
+later None = None
 
 -- the place of the first byte that the class does not permit
-unfoldable pub first_bad : Class → List ℕ → Found
-first_bad k [] = Nothing
-first_bad k (b ∷ s) = cond (permits k b) (later (first_bad k s)) (At 0)
+unfoldable pub first_bad : Class → List ℕ → Option ℕ
+first_bad k [] = None
+first_bad k (b ∷ s) = cond (permits k b) (later (first_bad k s)) (Some 0)
 
 -- 3 with its byte, where a scan found one
-abbrev pub found : Found → ℕ
-found (At i) = wrong_at i
-found Nothing = 0
+abbrev pub found : Option ℕ → Verdict
+found (Some i) = wrong_at i
+found None = passed
 
 -- 3 with its byte, unless a class permits all
-unfoldable pub bytes_verdict : Class → List ℕ → ℕ
+unfoldable pub bytes_verdict : Class → List ℕ → Verdict
 bytes_verdict k s = found (first_bad k s)
 
 -- every byte is permitted
@@ -58,11 +57,8 @@ marks s = count_of 63 s
 -- Words
 
 -- the same bytes
-unfoldable pub same : List ℕ → List ℕ → Bool
-same [] [] = true
-same [] (b ∷ t) = false
-same (a ∷ s) [] = false
-same (a ∷ s) (b ∷ t) = eqb a b && same s t
+abbrev pub same : List ℕ → List ℕ → Bool
+same s t = bytes_eq s t
 
 -- the currency
 abbrev pub eur : List ℕ

@@ -1,7 +1,5 @@
 -- The digits of a text, and the number that digits write.
-use Rattle.std.specs.Prelude.{ℕ, zero, suc, ◌+◌, ◌-◌, ◌*◌, ◌/◌, ◌%◌, ◌^◌, cond, ◌&&◌, List, [], ◌∷◌}
-use Rattle.text.specs.declared.Found.{Found}
-use Rattle.text.specs.declared.Found.TheVariants.{At, Nothing}
+use Rattle.std.specs.Prelude.{ℕ, zero, suc, ◌+◌, ◌-◌, ◌*◌, ◌/◌, ◌%◌, ◌^◌, cond, ◌&&◌, List, [], ◌∷◌, Option, Some, None}
 use Rattle.classes.specs.Classes.{is_digit}
 
 -- the digits of a text as numbers, first to last; a hyphen, or whatever is no digit, is passed over
@@ -19,8 +17,8 @@ abbrev pub value_of : List ℕ → ℕ
 value_of ds = value_from 0 ds
 
 -- the number that two bytes write, where both are digits
-abbrev pub two_digits : ℕ → ℕ → Found
-two_digits a b = cond (is_digit a && is_digit b) (At ((a - 48) * 10 + (b - 48))) Nothing
+abbrev pub two_digits : ℕ → ℕ → Option ℕ
+two_digits a b = cond (is_digit a && is_digit b) (Some ((a - 48) * 10 + (b - 48))) None
 
 -- the last n digits of a number as a text, with zeros in front; `0` is 48
 unfoldable pub digits_text : ℕ → ℕ → List ℕ

@@ -6,17 +6,11 @@
 
 ghost use Rattle.std.specs.Prelude.{◌≡◌, ◌&&◌, ℕ, leb, take};
 ghost use Rattle.text.specs.Digits.{two_digits};
-ghost use Rattle.text.specs.Bytes.{first_bad, bytes_verdict, all_of, trimmed, count_of, same};
+ghost use Rattle.text.specs.Bytes.{first_bad, bytes_verdict, all_of, trimmed, count_of};
 ghost use Rattle.classes.specs.Classes.{permits};
 
 use classes::Class;
-
-// Where a scan stopped.
-#[derive(Clone, Copy)]
-pub enum Found {
-    At(usize),
-    Nothing,
-}
+use verdict::{Fault, Verdict};
 
 // A part of lent bytes: where it begins, and how many bytes it has.
 #[repr(C)]
@@ -37,51 +31,45 @@ pub fn front(s: &[u8], n: usize) -> &[u8]
 }
 
 // The number that two bytes write, where both are digits.
-pub fn two_digits(a: u8, b: u8) -> Found
+pub fn two_digits(a: u8, b: u8) -> Option<usize>
     ensures { result ≡ two_digits a b }
 {
-    if !classes::is_digit(a) {
-        return Found::Nothing;
+    if classes::is_digit(a) && classes::is_digit(b) {
+        return Some(usize::from(a - b'0') * 10 + usize::from(b - b'0'));
     }
-    if !classes::is_digit(b) {
-        return Found::Nothing;
-    }
-    Found::At(((a - 48) as usize) * 10 + (b - 48) as usize)
+    None
 }
 
 // The place of the first byte that the class does not permit, looked for byte by byte.
-fn first_wrong(class: Class, s: &[u8]) -> Found
+fn first_wrong(class: Class, s: &[u8]) -> Option<usize>
     ensures { result ≡ first_bad class s.now }
 {
-    let mut i = 0;
-    while i < s.len() {
-        if !classes::permitted(class, s[i]) {
-            return Found::At(i);
+    for (i, b) in s.iter().enumerate() {
+        if !classes::permitted(class, *b) {
+            return Some(i);
         }
-        i += 1;
     }
-    Found::Nothing
+    None
 }
 
 // The place of the first byte that the class does not permit. Digits are asked most often, and are tested in one go first.
-pub fn first_bad(class: Class, s: &[u8]) -> Found
+pub fn first_bad(class: Class, s: &[u8]) -> Option<usize>
     ensures { result ≡ first_bad class s.now }
 {
-    if let Class::Digits = class {
-        if all_within(48, 57, s) {
-            return Found::Nothing;
-        }
+    match class {
+        Class::Digits if all_within(b'0', b'9', s) => None,
+        _ => first_wrong(class, s),
     }
-    first_wrong(class, s)
 }
 
-// 3 with its byte, unless a class permits all: a verdict.
-pub fn judge(class: Class, s: &[u8]) -> usize
+// 3 with its byte, unless a class permits all.
+#[tactic(auto, unfolding(crate::specs::Bytes::bytes_verdict))]
+pub fn judge(class: Class, s: &[u8]) -> Verdict
     ensures { result ≡ bytes_verdict class s.now }
 {
     match first_bad(class, s) {
-        Found::At(i) => 32 + i,
-        Found::Nothing => 0,
+        Some(i) => Err(Fault::Byte(i)),
+        None => Ok(()),
     }
 }
 
@@ -100,11 +88,8 @@ fn all_within(least: u8, most: u8, s: &[u8]) -> bool
         return false;
     }
     let mut right = true;
-    let mut i = 0;
-    while i < s.len() {
-        let b = s[i];
-        right = right & ((least <= b) & (b <= most));
-        i += 1;
+    for b in s {
+        right = right & ((least <= *b) & (*b <= most));
     }
     right
 }
@@ -120,21 +105,12 @@ pub fn all_blank(s: &[u8]) -> bool
 pub fn all_of(class: Class, s: &[u8]) -> bool
     ensures { result ≡ all_of class s.now }
 {
-    if let Class::Digits = class {
-        return all_within(48, 57, s);
-    }
-    if let Class::Letters = class {
-        return all_within(65, 90, s);
-    }
-    if let Class::Blanks = class {
-        return all_blank(s);
-    }
-    if let Class::Zeros = class {
-        return all_within(48, 48, s);
-    }
-    match first_bad(class, s) {
-        Found::At(_) => false,
-        Found::Nothing => true,
+    match class {
+        Class::Digits => all_within(b'0', b'9', s),
+        Class::Letters => all_within(b'A', b'Z', s),
+        Class::Blanks => all_blank(s),
+        Class::Zeros => all_within(b'0', b'0', s),
+        _ => first_bad(class, s).is_none(),
     }
 }
 
@@ -143,10 +119,8 @@ pub fn all_described(s: &[u8]) -> bool
     ensures { result ≡ all_of Class.Description s.now }
 {
     let mut right = true;
-    let mut i = 0;
-    while i < s.len() {
-        right = right & classes::described(s[i]);
-        i += 1;
+    for b in s {
+        right = right & classes::described(*b);
     }
     right
 }
@@ -155,47 +129,20 @@ pub fn all_described(s: &[u8]) -> bool
 pub fn trim(s: &[u8]) -> &[u8]
     ensures { result.now ≡ trimmed s.now }
 {
-    let mut n = s.len();
-    while 0 < n {
-        let last = n - 1;
-        if s[last] != 32 {
-            return &s[..n];
+    let mut left = s;
+    while let Some((last, front)) = left.split_last() {
+        if *last != b' ' {
+            return left;
         }
-        n = last;
+        left = front;
     }
-    &s[..0]
+    left
 }
 
 // How many bytes c a text has.
+#[tactic(auto, using(crate::proofs::Laws::counted))]
 pub fn count(c: u8, s: &[u8]) -> usize
     ensures { result ≡ count_of c s.now }
 {
-    let mut n = 0;
-    let mut i = 0;
-    while i < s.len() {
-        if s[i] == c {
-            n += 1;
-            i += 1;
-        } else {
-            i += 1;
-        }
-    }
-    n
-}
-
-// Whether two texts are the same bytes.
-pub fn is_same(a: &[u8], b: &[u8]) -> bool
-    ensures { result ≡ same a.now b.now }
-{
-    if a.len() != b.len() {
-        return false;
-    }
-    let mut i = 0;
-    while i < a.len() {
-        if a[i] != b[i] {
-            return false;
-        }
-        i += 1;
-    }
-    true
+    s.iter().filter(|b| **b == c).count()
 }

@@ -1,191 +1,166 @@
 -- Laws of verdicts: what a chain of rules answers, when it refuses nothing, and where its byte lies.
 -- Assumes nothing.
-use Rattle.refusal.proofs.Basics.{◌≡◌, refl, sym, ap, ◌∙◌, arith, ℕ, ◌+◌, ◌-◌, ◌≤◌, ◌<◌, ne_eqb, eqb-true, Bool, true, false, cond, ◌&&◌, false≢true, eqb, leb, ◌↔◌, both_true, and_second}
-use Rattle.refusal.specs.declared.Answer.{Answer}
-use Rattle.refusal.specs.declared.Answer.TheVariants.{Accepted, Refused}
+use Rattle.refusal.proofs.Basics.{◌≡◌, refl, sym, ap, ◌∙◌, arith, ℕ, ◌≤◌, ◌<◌, Bool, true, false, cond, ◌&&◌, false≢true, ◌↔◌, both_true, and_second}
+use Rattle.std.specs.Prelude.{Ok, Err}
 use Rattle.refusal.specs.declared.Place.{Place}
 use Rattle.refusal.specs.declared.Refusal.{Refusal}
-use Rattle.refusal.specs.declared.Refusal.TheVariants.{Size, Ends, Byte, Length, Form, Check, Model, Parts, Digit, Misplaced, Date, Orders, Sum, Unfinished, Room, Marks, Beyond, Sheet, Field, Overfull}
-use Rattle.refusal.specs.Refusal.{refusal_number, refusal_place, needed_of, refusal_of, first_of}
-use Rattle.verdict.specs.Verdict.{wrong_at, only_if, and_then, verdict_number, verdict_byte, answer_of, Within}
-
--- ---------------------------------------------------------------------------
--- What a chain answers, as its code goes
-
--- the first rule refuses
-pub refused : (v w r : ℕ) → (v ≡ 0 → ⊥) → r ≡ v → r ≡ and_then v w
-refused v w r h e = rw (ne_eqb v 0 h) e
-
--- it refuses nothing: what answers the rest answers the whole
-pub passed : (v w r : ℕ) → v ≡ 0 → r ≡ w → r ≡ and_then v w
-passed v w r h e = rw h e
-
--- a test fails
-pub failed : (b : Bool) (n w : ℕ) → b ≡ false → eqb n 0 ≡ false → n ≡ and_then (only_if b n) w
-failed b n w e z = rw (e, z)
-
--- it holds: what answers the rest answers the whole
-pub met : (b : Bool) (n w r : ℕ) → b ≡ true → r ≡ w → r ≡ and_then (only_if b n) w
-met b n w r e h = rw e h
+use Rattle.refusal.specs.Refusal.{Answer, refusal_number, refusal_place, needed_of, first_of}
+use Rattle.verdict.specs.declared.Fault.{Fault}
+use Rattle.verdict.specs.declared.Fault.TheVariants.{Byte, Length, Form, Check, Model, Parts, Digit, Misplaced, Date, Orders, Sum}
+use Rattle.verdict.specs.Verdict.{Verdict, passed, wrong_at, only_if, and_then, refusal_at, verdict_byte, answer_of, Within}
 
 -- ---------------------------------------------------------------------------
 -- Refusing nothing
 
--- two rules refuse nothing where each does
-pub both_pass : (v w : ℕ) → and_then v w ≡ 0 → (v ≡ 0) × (w ≡ 0)
-both_pass v w e = go (eqb v 0) refl e
-  where
-    go : (t : Bool) → eqb v 0 ≡ t → cond t w v ≡ 0 → (v ≡ 0) × (w ≡ 0)
-    go true z h = (eqb-true v 0 z, h)
-    go false z h = absurd (false≢true (sym z ∙ rw h))
+-- a fault refuses something
+pub fault_no_pass : {P : Type 0} (f : Fault) → ◌≡◌ {A = Verdict} (Err f) passed → P
+fault_no_pass f e = let z : ◌≡◌ {A = ℕ} 0 1 = cc in absurd (omega arith)
 
-pub pass_both : (v w : ℕ) → v ≡ 0 → w ≡ 0 → and_then v w ≡ 0
+pub refusal_no_pass : {P : Type 0} (r : Refusal) → ◌≡◌ {A = Answer} (Err r) (Ok tt) → P
+refusal_no_pass r e = let z : ◌≡◌ {A = ℕ} 0 1 = cc in absurd (omega arith)
+
+-- two rules refuse nothing where each does
+pub both_pass : (v w : Verdict) → and_then v w ≡ passed → (v ≡ passed) × (w ≡ passed)
+both_pass (Ok u) w e = (refl, e)
+both_pass (Err f) w e = fault_no_pass f e
+
+pub pass_both : (v w : Verdict) → v ≡ passed → w ≡ passed → and_then v w ≡ passed
 pass_both v w e h = rw (e, h)
 
--- a test's rule where it holds
-pub test_holds : (b : Bool) (n : ℕ) → eqb n 0 ≡ false → only_if b n ≡ 0 → b ≡ true
-test_holds true n z e = refl
-test_holds false n z e = absurd (false≢true (sym z ∙ rw e))
+-- a test's rule where it refuses nothing
+pub test_holds : (b : Bool) (f : Fault) → only_if b f ≡ passed → b ≡ true
+test_holds true f e = refl
+test_holds false f e = fault_no_pass f e
 
--- a test's rule, where it holds
-pub test_exactly : (b : Bool) (n : ℕ) → eqb n 0 ≡ false → (only_if b n ≡ 0) ↔ (b ≡ true)
-test_exactly b n z = (test_holds b n z, λ e. rw e)
+pub test_exactly : (b : Bool) (f : Fault) → (only_if b f ≡ passed) ↔ (b ≡ true)
+test_exactly b f = (test_holds b f, λ e. rw e)
 
 -- two rules, where both refuse nothing
-pub both_exactly : (v w : ℕ) (a b : Bool) → (v ≡ 0) ↔ (a ≡ true) → (w ≡ 0) ↔ (b ≡ true) → (and_then v w ≡ 0) ↔ ((a && b) ≡ true)
+pub both_exactly : (v w : Verdict) (a b : Bool) → (v ≡ passed) ↔ (a ≡ true) → (w ≡ passed) ↔ (b ≡ true) → (and_then v w ≡ passed) ↔ ((a && b) ≡ true)
 both_exactly v w a b p q = (
   λ e. let h = both_pass v w e in sym (and_second a b true (p.0 h.0) (sym (q.0 h.1))),
   λ e. let h = both_true a b e in pass_both v w (p.1 h.0) (q.1 h.1),
 )
 
 -- an answer refuses nothing where its verdict does
-pub answer_accepted : (v field byte : ℕ) → answer_of v field byte ≡ Accepted → v ≡ 0
-answer_accepted v field byte e = go (eqb v 0) refl _ e
-  where
-    go : (t : Bool) → eqb v 0 ≡ t → (r : Refusal) → cond t Accepted (Refused r) ≡ Accepted → v ≡ 0
-    go true z r h = eqb-true v 0 z
-    go false z r h = let z : ◌≡◌ {A = ℕ} 0 1 = cc in absurd (omega arith)
+pub answer_accepted : (v : Verdict) (field byte : ℕ) → answer_of v field byte ≡ Ok tt → v ≡ passed
+answer_accepted (Ok u) field byte e = refl
+answer_accepted (Err f) field byte e = refusal_no_pass _ e
 
-pub accepted_answer : (v field byte : ℕ) → v ≡ 0 → answer_of v field byte ≡ Accepted
+pub accepted_answer : (v : Verdict) (field byte : ℕ) → v ≡ passed → answer_of v field byte ≡ Ok tt
 accepted_answer v field byte e = rw e
 
 -- two answers accept where both do
-pub first_both : (a b : Answer) → first_of a b ≡ Accepted → (a ≡ Accepted) × (b ≡ Accepted)
-first_both Accepted b e = (refl, e)
-first_both (Refused r) b e = let z : ◌≡◌ {A = ℕ} 0 1 = cc in absurd (omega arith)
+pub first_both : (a b : Answer) → first_of a b ≡ Ok tt → (a ≡ Ok tt) × (b ≡ Ok tt)
+first_both (Ok u) b e = (refl, e)
+first_both (Err r) b e = refusal_no_pass r e
 
 -- of three, whichever two are joined first
 pub first_joined : (a b c : Answer) → first_of a (first_of b c) ≡ first_of (first_of a b) c
-first_joined Accepted b c = refl
-first_joined (Refused r) b c = refl
+first_joined (Ok u) b c = refl
+first_joined (Err r) b c = refl
 
 -- ---------------------------------------------------------------------------
 -- What a refusal tells
 
--- its place, and no needed number
-pub told_place_lem : (v field byte : ℕ) (r : Refusal) → answer_of v field byte ≡ Refused r → (refusal_place r ≡ record { line = 0; field = field; byte = byte }) × (needed_of r ≡ 0)
-told_place_lem v field byte r e = go (eqb v 0) e
-  where
-    at : Place
-    at = record { line = 0; field = field; byte = byte }
+-- a fault's is told of its place, and has no needed number
+pub fault_told : (f : Fault) (p : Place) → (refusal_place (refusal_at f p) ≡ p) × (needed_of (refusal_at f p) ≡ 0)
+fault_told (Byte i) p = (refl, refl)
+fault_told Length p = (refl, refl)
+fault_told Form p = (refl, refl)
+fault_told Check p = (refl, refl)
+fault_told Model p = (refl, refl)
+fault_told Parts p = (refl, refl)
+fault_told Digit p = (refl, refl)
+fault_told Misplaced p = (refl, refl)
+fault_told Date p = (refl, refl)
+fault_told Orders p = (refl, refl)
+fault_told Sum p = (refl, refl)
 
-    Tells : Refusal → Type 0
-    Tells x = (refusal_place x ≡ at) × (needed_of x ≡ 0)
-
-    chosen : (b : Bool) (x y : Refusal) → Tells x → Tells y → Tells (cond b x y)
-    chosen true x y f g = f
-    chosen false x y f g = g
-
-    every : (k : ℕ) → Tells (refusal_of k at 0)
-    every k =
-        chosen (eqb k 1) (Size at) _ (refl, refl) (chosen (eqb k 2) (Ends at) _ (refl, refl) (chosen (eqb k 3) (Byte at) _ (refl, refl) (chosen (eqb k 4) (Length at) _ (refl, refl)
-        (chosen (eqb k 5) (Form at) _ (refl, refl) (chosen (eqb k 6) (Check at) _ (refl, refl) (chosen (eqb k 7) (Model at) _ (refl, refl) (chosen (eqb k 8) (Parts at) _ (refl, refl)
-        (chosen (eqb k 9) (Digit at) _ (refl, refl) (chosen (eqb k 10) (Misplaced at) _ (refl, refl) (chosen (eqb k 11) (Date at) _ (refl, refl) (chosen (eqb k 12) (Orders at) _ (refl, refl)
-        (chosen (eqb k 13) (Sum at) _ (refl, refl) (chosen (eqb k 14) (Unfinished at) _ (refl, refl) (chosen (eqb k 15) (Room at 0) _ (refl, refl) (chosen (eqb k 16) (Marks at) _ (refl, refl) (chosen (eqb k 20) (Sheet at) _ (refl, refl) (chosen (eqb k 28) (Field at) _ (refl, refl) (chosen (eqb k 29) (Overfull at) (Beyond at) (refl, refl) (refl, refl)))))))))))))))))))
-
-    go : (b : Bool) → cond b Accepted (Refused (refusal_of (verdict_number v) at 0)) ≡ Refused r → Tells r
-    go true f = let z : ◌≡◌ {A = ℕ} 0 1 = cc in absurd (omega arith)
-    go false f = let z : refusal_of (verdict_number v) at 0 ≡ r = cc in rw (← z) (every (verdict_number v))
+-- so is a verdict's
+pub told_place_lem : (v : Verdict) (field byte : ℕ) (r : Refusal) → answer_of v field byte ≡ Err r → (refusal_place r ≡ record { line = 0; field = field; byte = byte }) × (needed_of r ≡ 0)
+told_place_lem (Ok u) field byte r e = refusal_no_pass r (sym e)
+told_place_lem (Err f) field byte r e =
+    let z : refusal_at f (record { line = 0; field = field; byte = byte }) ≡ r = cc in
+    rw (← z) (fault_told f _)
 
 -- ---------------------------------------------------------------------------
--- A verdict is 0, a number of document 01's table, or a 3 whose byte lies within the text
+-- A verdict's 3 tells a byte within the text
 
--- so it is in a text that is no shorter
-pub wider_within : (m n v : ℕ) → m ≤ n → Within m v → Within n v
-wider_within m n v h w = (omega (arith, w.0), w.1)
+-- so it does in a text that is no shorter
+pub wider_within : (m n : ℕ) (v : Verdict) → m ≤ n → Within m v → Within n v
+wider_within m n v h w i e = let g = w i e in omega arith
+
+-- every fault but a 3
+abbrev pub is_plain : Fault → Bool
+is_plain (Byte i) = false
+is_plain Length = true
+is_plain Form = true
+is_plain Check = true
+is_plain Model = true
+is_plain Parts = true
+is_plain Digit = true
+is_plain Misplaced = true
+is_plain Date = true
+is_plain Orders = true
+is_plain Sum = true
 
 module _ (n : ℕ) where
-  -- 0, or a number of the table
-  pub plain_within : (k : ℕ) → k < 18 → Within n k
-  plain_within k h = (omega arith, λ g. omega arith)
+  pub pass_within : Within n passed
+  pass_within i e = fault_no_pass (Byte i) (sym e)
+
+  pub plain_within : (f : Fault) → is_plain f ≡ true → Within n (Err f)
+  plain_within f h i e = let z : f ≡ Byte i = cc in absurd (false≢true (ap is_plain (sym z) ∙ h))
 
   -- a 3 at a byte of the text
   pub byte_at_within : (i : ℕ) → i < n → Within n (wrong_at i)
-  byte_at_within i h = (omega arith, λ g. omega arith)
+  byte_at_within i h k e = let z : i ≡ k = cc in omega arith
 
-  pub choice_within : (b : Bool) (v w : ℕ) → Within n v → Within n w → Within n (cond b v w)
+  pub choice_within : (b : Bool) (v w : Verdict) → Within n v → Within n w → Within n (cond b v w)
   choice_within true v w g h = g
   choice_within false v w g h = h
 
-  pub then_within : (v w : ℕ) → Within n v → Within n w → Within n (and_then v w)
-  then_within v w g h = choice_within (eqb v 0) w v h g
+  pub then_within : (v w : Verdict) → Within n v → Within n w → Within n (and_then v w)
+  then_within (Ok u) w g h = h
+  then_within (Err f) w g h = g
 
-  pub only_within : (b : Bool) (k : ℕ) → k < 18 → Within n (only_if b k)
-  only_within b k h = choice_within b 0 k (plain_within 0 (omega arith)) (plain_within k h)
+  pub only_within : (b : Bool) (f : Fault) → is_plain f ≡ true → Within n (only_if b f)
+  only_within b f h = choice_within b passed (Err f) pass_within (plain_within f h)
 
   -- so its byte is a place of the text, or its first
-  pub byte_within : (v : ℕ) → Within n v → verdict_byte v ≤ n
-  byte_within v w = go (leb 32 v) refl w.0
-    where
-      go : (t : Bool) → leb 32 v ≡ t → v < 32 + n → cond t (v - 32) 0 ≤ n
-      go true e h = omega arith
-      go false e h = omega arith
+  pub byte_within : (v : Verdict) → Within n v → verdict_byte v ≤ n
+  byte_within (Ok u) w = omega arith
+  byte_within (Err (Byte i)) w = let h = w i refl in omega arith
+  byte_within (Err Length) w = omega arith
+  byte_within (Err Form) w = omega arith
+  byte_within (Err Check) w = omega arith
+  byte_within (Err Model) w = omega arith
+  byte_within (Err Parts) w = omega arith
+  byte_within (Err Digit) w = omega arith
+  byte_within (Err Misplaced) w = omega arith
+  byte_within (Err Date) w = omega arith
+  byte_within (Err Orders) w = omega arith
+  byte_within (Err Sum) w = omega arith
 
 -- ---------------------------------------------------------------------------
 -- No rule says 29
 
--- the refusal of a number is a 29 of that number alone
-pub overfull_alone : (k : ℕ) (p : Place) (m : ℕ) → refusal_number (refusal_of k p m) ≡ 29 → k ≡ 29
-overfull_alone k p m =
-    chosen (eqb k 1) (Size p) _ (apart (Size p) refl) (chosen (eqb k 2) (Ends p) _ (apart (Ends p) refl) (chosen (eqb k 3) (Byte p) _ (apart (Byte p) refl)
-    (chosen (eqb k 4) (Length p) _ (apart (Length p) refl) (chosen (eqb k 5) (Form p) _ (apart (Form p) refl) (chosen (eqb k 6) (Check p) _ (apart (Check p) refl)
-    (chosen (eqb k 7) (Model p) _ (apart (Model p) refl) (chosen (eqb k 8) (Parts p) _ (apart (Parts p) refl) (chosen (eqb k 9) (Digit p) _ (apart (Digit p) refl)
-    (chosen (eqb k 10) (Misplaced p) _ (apart (Misplaced p) refl) (chosen (eqb k 11) (Date p) _ (apart (Date p) refl) (chosen (eqb k 12) (Orders p) _ (apart (Orders p) refl)
-    (chosen (eqb k 13) (Sum p) _ (apart (Sum p) refl) (chosen (eqb k 14) (Unfinished p) _ (apart (Unfinished p) refl) (chosen (eqb k 15) (Room p m) _ (apart (Room p m) refl)
-    (chosen (eqb k 16) (Marks p) _ (apart (Marks p) refl) (chosen (eqb k 20) (Sheet p) _ (apart (Sheet p) refl) (chosen (eqb k 28) (Field p) _ (apart (Field p) refl)
-    (last (eqb k 29) refl))))))))))))))))))
-  where
-    Tells : Refusal → Type 0
-    Tells x = refusal_number x ≡ 29 → k ≡ 29
-
-    apart : (x : Refusal) → eqb (refusal_number x) 29 ≡ false → Tells x
-    apart x f e = absurd (false≢true (sym f ∙ ap (λ (i : ℕ). eqb i 29) e))
-
-    chosen : (b : Bool) (x y : Refusal) → Tells x → Tells y → Tells (cond b x y)
-    chosen true x y f g = f
-    chosen false x y f g = g
-
-    last : (b : Bool) → eqb k 29 ≡ b → Tells (cond b (Overfull p) (Beyond p))
-    last true f e = eqb-true k 29 f
-    last false f e = apart (Beyond p) refl e
-
--- a verdict has another number
-pub never_29 : (n v : ℕ) → Within n v → verdict_number v ≡ 29 → ⊥
-never_29 n v w e = go (leb 32 v) refl e
-  where
-    go : (t : Bool) → leb 32 v ≡ t → cond t 3 v ≡ 29 → ⊥
-    go true f g = omega arith
-    go false f g = let h : 32 ≤ v = w.1 (omega arith) in omega arith
+pub never_29 : (f : Fault) (p : Place) → refusal_number (refusal_at f p) ≡ 29 → ⊥
+never_29 (Byte i) p e = omega arith
+never_29 Length p e = omega arith
+never_29 Form p e = omega arith
+never_29 Check p e = omega arith
+never_29 Model p e = omega arith
+never_29 Parts p e = omega arith
+never_29 Digit p e = omega arith
+never_29 Misplaced p e = omega arith
+never_29 Date p e = omega arith
+never_29 Orders p e = omega arith
+never_29 Sum p e = omega arith
 
 -- and so has what is told of it
-pub answer_never_29 : (n v field byte : ℕ) (r : Refusal) → Within n v → answer_of v field byte ≡ Refused r → refusal_number r ≡ 29 → ⊥
-answer_never_29 n v field byte r w e h = go (eqb v 0) e
-  where
-    at : Place
-    at = record { line = 0; field = field; byte = byte }
-
-    go : (b : Bool) → cond b Accepted (Refused (refusal_of (verdict_number v) at 0)) ≡ Refused r → ⊥
-    go true f = let z : ◌≡◌ {A = ℕ} 0 1 = cc in omega arith
-    go false f =
-        let z : refusal_of (verdict_number v) at 0 ≡ r = cc in
-        never_29 n v w (overfull_alone (verdict_number v) at 0 (ap (λ (x : Refusal). refusal_number x) z ∙ h))
+pub answer_never_29 : (v : Verdict) (field byte : ℕ) (r : Refusal) → answer_of v field byte ≡ Err r → refusal_number r ≡ 29 → ⊥
+answer_never_29 (Ok u) field byte r e h = refusal_no_pass r (sym e)
+answer_never_29 (Err f) field byte r e h =
+    let z : refusal_at f (record { line = 0; field = field; byte = byte }) ≡ r = cc in
+    never_29 f _ (ap (λ (x : Refusal). refusal_number x) z ∙ h)

@@ -1,52 +1,89 @@
-// Verdicts: what a rule says of a text before it is known where that stands, as one number.
+// Verdicts: what a rule says of a text before it is known where that stands.
 //
-// 0 refuses nothing, a number below 32 is that refusal, told of the text's first byte, and 32 + i is a 3 at byte i of the text
-// (specs/Verdict.antt). Whoever knows the place makes an answer of it, once.
+// A verdict refuses nothing, or it is a fault, one of the refusals 3 to 13 without its place (specs/Verdict.antt). Rules are
+// joined by `?`; whoever knows the place makes an answer of the verdict, once.
 #![tactic(auto)]
 
 ghost use Rattle.std.specs.Prelude.{◌≡◌};
-ghost use Rattle.verdict.specs.Verdict.{verdict_byte, verdict_number, answer_of, answer_in};
+ghost use Rattle.verdict.specs.Verdict.{only_if, refusal_at, verdict_byte, answer_of, answer_in};
 
-use refusal::{Answer, Place};
+use refusal::{Answer, Place, Refusal};
 
-// The offending byte that a verdict tells; 0 where it tells none.
-pub fn byte_of(verdict: usize) -> usize
-    ensures { result ≡ verdict_byte verdict }
-{
-    if 32 <= verdict {
-        return verdict - 32;
-    }
-    0
+// What a rule finds wrong: the refusals 3 to 13 of document 01. A 3 tells the byte, counted from the text's first.
+#[derive(Clone, Copy)]
+pub enum Fault {
+    Byte(usize),
+    Length,
+    Form,
+    Check,
+    Model,
+    Parts,
+    Digit,
+    Misplaced,
+    Date,
+    Orders,
+    Sum,
 }
 
-// The number of the refusal that a verdict is.
-fn number_of(verdict: usize) -> usize
-    ensures { result ≡ verdict_number verdict }
+// What a rule says of a text.
+pub type Verdict = Result<(), Fault>;
+
+// A fault told of a place.
+pub fn told(fault: Fault, place: Place) -> Refusal
+    ensures { result ≡ refusal_at fault place }
 {
-    if 32 <= verdict {
-        return 3;
+    match fault {
+        Fault::Byte(_) => Refusal::Byte(place),
+        Fault::Length => Refusal::Length(place),
+        Fault::Form => Refusal::Form(place),
+        Fault::Check => Refusal::Check(place),
+        Fault::Model => Refusal::Model(place),
+        Fault::Parts => Refusal::Parts(place),
+        Fault::Digit => Refusal::Digit(place),
+        Fault::Misplaced => Refusal::Misplaced(place),
+        Fault::Date => Refusal::Date(place),
+        Fault::Orders => Refusal::Orders(place),
+        Fault::Sum => Refusal::Sum(place),
     }
-    verdict
+}
+
+// The offending byte that a verdict tells; 0 where it tells none.
+pub fn byte_of(verdict: Verdict) -> usize
+    ensures { result ≡ verdict_byte verdict }
+{
+    match verdict {
+        Err(Fault::Byte(byte)) => byte,
+        _ => 0,
+    }
 }
 
 // A verdict told of a field and a byte.
-pub fn answer_of(verdict: usize, field: usize, byte: usize) -> Answer
+pub fn answer_of(verdict: Verdict, field: usize, byte: usize) -> Answer
     ensures { result ≡ answer_of verdict field byte }
 {
-    if verdict == 0 {
-        return Answer::Accepted;
+    match verdict {
+        Ok(()) => Ok(()),
+        Err(fault) => Err(told(
+            fault,
+            Place {
+                line: 0,
+                field,
+                byte,
+            },
+        )),
     }
-    let place = Place {
-        line: 0,
-        field,
-        byte,
-    };
-    Answer::Refused(refusal::made(number_of(verdict), place, 0))
 }
 
 // A verdict told of a field, the byte counted within it.
-pub fn answer_in(verdict: usize, field: usize) -> Answer
+pub fn answer_in(verdict: Verdict, field: usize) -> Answer
     ensures { result ≡ answer_in field verdict }
 {
     answer_of(verdict, field, byte_of(verdict))
+}
+
+// The fault f, unless a test holds.
+pub fn only_if(right: bool, fault: Fault) -> Verdict
+    ensures { result ≡ only_if right fault }
+{
+    if right { Ok(()) } else { Err(fault) }
 }

@@ -1,5 +1,5 @@
 -- `text::all_within` meets its contract. The loop's invariant: for a class that permits just the bytes between the two, the answer is the
--- test so far and that of what is left from `i` on. Assumes nothing.
+-- test so far and that of what is left from the byte on. Assumes nothing.
 use Rattle.refusal.proofs.Basics.{sym, ◌∙◌, arith, get_or, lt-leb, le-leb}
 use Rattle.text.proofs.Laws.{all_empty, first_wrong_lem, tested_on, tested_all}
 use Rattle.text.proofs.all_within.Goals as goal
@@ -15,11 +15,11 @@ pub returns-then-most-s : goal.returns-then-most-s
 returns-then-most-s c = let s = c.args.s.now in
     λ k e. first_wrong_lem k s c.if-s-eq0.false (e (get_or s 0 0) ∙ rw (le-leb _ _ c.if-s-least.false, lt-leb _ _ c.if-most-s.true))
 
-pub loop-i-preserved : goal.loop-i-preserved
-loop-i-preserved c = let s = c.args.s.now in
-    let l = c.loop-i in
-    (omega arith, λ k e. l.invariant.1 k e ∙ tested_on k s l.i (omega arith) l.right _ (sym (e (get_or s l.i 0))))
+pub loop-b-preserved : goal.loop-b-preserved
+loop-b-preserved c = let s = c.args.s.now in
+    let l = c.loop-b in
+    λ k e. l.invariant k e ∙ tested_on k s l.b-index (omega arith) l.right _ (sym (e (get_or s l.b-index 0)))
 
 pub returns : goal.returns
-returns c = let l = c.loop-i in
-    λ k e. tested_all k c.args.s.now l.i (omega arith) (omega arith) l.right ∙ sym (l.invariant.1 k e)
+returns c = let l = c.loop-b in
+    λ k e. tested_all k c.args.s.now l.b-index (omega arith) (omega arith) l.right ∙ sym (l.invariant k e)

@@ -4,5 +4,5 @@ use Rattle.classes.specs.declared.Class.TheVariants.{Digits}
 use Rattle.text.proofs.Laws.{none_bad}
 use Rattle.text.proofs.first_bad.Goals as goal
 
-pub returns-then-all_within : goal.returns-then-all_within
-returns-then-all_within c = rw c.in-Digits.is (sym (none_bad Digits _ (sym (c.all_within.ensures Digits (λ b. refl)) ∙ c.if-all_within.true)))
+pub returns-in-Digits : goal.returns-in-Digits
+returns-in-Digits c = rw c.in-Digits.is (sym (none_bad Digits _ (sym (c.all_within.ensures Digits (λ b. refl)) ∙ c.if-all_within.true)))

@@ -1,20 +1,13 @@
--- `text::trim` meets its contract. The loop's invariant: the text without its last blanks is that of its first `n` bytes.
--- Assumes nothing.
-use Rattle.refusal.proofs.Basics.{◌≡◌, sym, ap, ◌∙◌, arith, ℕ, take}
-use Rattle.text.specs.Bytes.{trimmed}
-use Rattle.text.proofs.Blanks.{trimmed_back, trimmed_ends, trimmed_nothing}
+-- `text::trim` meets its contract: what is left of its text is a front and a last byte, or nothing. Assumes nothing.
+use Rattle.refusal.proofs.Basics.{sym, ◌∙◌, ne_eqb}
+use Rattle.text.proofs.Blanks.{trimmed_blank, trimmed_same, trimmed_of_nothing}
 use Rattle.text.proofs.trim.Goals as goal
 
-pub returns-then-s-last-ne32 : goal.returns-then-s-last-ne32
-returns-then-s-last-ne32 c = let l = c.loop-n in
-    sym (l.invariant.1 ∙ trimmed_ends c.args.s.now l.n (omega arith) (omega arith) c.if-s-last-ne32.true)
+pub returns-then-last-ne32 : goal.returns-then-last-ne32
+returns-then-last-ne32 c = sym (c.loop-last.invariant ∙ rw c.in-Some.ensures.cases.0 (trimmed_same _ (ne_eqb _ 32 c.if-last-ne32.true) _))
 
-pub loop-n-preserved : goal.loop-n-preserved
-loop-n-preserved c = let l = c.loop-n in
-    (omega arith, l.invariant.1 ∙ trimmed_back c.args.s.now l.n (omega arith) (omega arith) c.if-s-last-ne32.false)
+pub loop-last-preserved : goal.loop-last-preserved
+loop-last-preserved c = c.loop-last.invariant ∙ rw (c.in-Some.ensures.cases.0, c.if-last-ne32.false) (trimmed_blank _)
 
 pub returns : goal.returns
-returns c = let l = c.loop-n in
-    let s = c.args.s.now in
-    let e : l.n ≡ 0 = omega arith in
-    trimmed_nothing ∙ sym (l.invariant.1 ∙ ap (λ (k : ℕ). trimmed (take k s)) e)
+returns c = sym (c.loop-last.invariant ∙ trimmed_of_nothing _ c.in_default.ensures.cases)

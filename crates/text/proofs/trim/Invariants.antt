@@ -1,11 +1,10 @@
--- `text::trim` meets its contract. The loop's invariant: the text without its last blanks is that of its first `n` bytes.
--- Assumes nothing.
-use Rattle.refusal.proofs.Basics.{◌≡◌, ◌≤◌, length, take}
+-- `text::trim` meets its contract. The loop's invariant: what is left has the same text without its last blanks. Assumes nothing.
+use Rattle.refusal.proofs.Basics.{◌≡◌, length}
 use Rattle.text.specs.Bytes.{trimmed}
 use Rattle.text.proofs.trim.Given as goal
 
-abbrev pub invariant-loop-n : goal.invariant-loop-n
-invariant-loop-n l = (l.n ≤ length l.s) × (trimmed l.s ≡ trimmed (take l.n l.s))
+abbrev pub invariant-loop-last : goal.invariant-loop-last
+invariant-loop-last l = trimmed l.s ≡ trimmed l.left
 
-abbrev pub decreases-loop-n : goal.decreases-loop-n
-decreases-loop-n l = l.n
+abbrev pub decreases-loop-last : goal.decreases-loop-last
+decreases-loop-last l = length l.left
