@@ -12,6 +12,7 @@ ghost use Rattle.account.specs.Answers.{is_iban, iban_check_verdict, iban_verdic
 
 use check_digits::Rule;
 use classes::Class;
+use verdict::{Fault, Verdict};
 
 // Whether a text is `HR` and nineteen digits.
 pub fn is_iban_formed(s: &[u8]) -> bool
@@ -66,33 +67,26 @@ pub fn iban_passes(s: &[u8]) -> bool
 }
 
 // An IBAN's form, then its check: 5, 6. Most are right: that is asked first.
-pub fn check_iban(s: &[u8]) -> usize
+pub fn check_iban(s: &[u8]) -> Verdict
     ensures { result ≡ iban_check_verdict s.now }
 {
     if iban_passes(s) {
-        return 0;
+        return Ok(());
     }
-    if is_iban_formed(s) {
-        return 6;
-    }
-    5
+    verdict::only_if(is_iban_formed(s), Fault::Form)?;
+    Err(Fault::Check)
 }
 
 // An IBAN: 3 with its byte, 4, 5, 6. Of one that is right nothing else is asked.
-pub fn iban(s: &[u8]) -> usize
+pub fn iban(s: &[u8]) -> Verdict
     ensures { result ≡ iban_verdict s.now }
 {
     let check = check_iban(s);
-    if check == 0 {
-        return 0;
+    if check.is_ok() {
+        return Ok(());
     }
-    let bad = text::judge(Class::Account, s);
-    if bad != 0 {
-        return bad;
-    }
-    if s.len() != 21 {
-        return 4;
-    }
+    text::judge(Class::Account, s)?;
+    verdict::only_if(s.len() == 21, Fault::Length)?;
     check
 }
 
@@ -104,18 +98,10 @@ pub fn oib_passes(s: &[u8]) -> bool
 }
 
 // An OIB: 3 with its byte, 4, 6.
-pub fn oib(s: &[u8]) -> usize
+pub fn oib(s: &[u8]) -> Verdict
     ensures { result ≡ oib_verdict s.now }
 {
-    let bad = text::judge(Class::Digits, s);
-    if bad != 0 {
-        return bad;
-    }
-    if s.len() != 11 {
-        return 4;
-    }
-    if oib_passes(s) {
-        return 0;
-    }
-    6
+    text::judge(Class::Digits, s)?;
+    verdict::only_if(s.len() == 11, Fault::Length)?;
+    verdict::only_if(oib_passes(s), Fault::Check)
 }

@@ -8,6 +8,7 @@ ghost use Rattle.std.specs.Prelude.{◌≡◌};
 ghost use Rattle.account_form.specs.AccountForm.{account_formed, account_form_verdict, account_or_iban_verdict};
 
 use classes::Class;
+use verdict::{Fault, Verdict};
 
 // Whether a text is seven digits, a hyphen and ten digits.
 pub fn is_formed(s: &[u8]) -> bool
@@ -26,24 +27,16 @@ pub fn is_formed(s: &[u8]) -> bool
 }
 
 // An account: 3 with its byte, 4, 5.
-pub fn judge(s: &[u8]) -> usize
+pub fn judge(s: &[u8]) -> Verdict
     ensures { result ≡ account_form_verdict s.now }
 {
-    let bad = text::judge(Class::AccountForm, s);
-    if bad != 0 {
-        return bad;
-    }
-    if s.len() != 18 {
-        return 4;
-    }
-    if is_formed(s) {
-        return 0;
-    }
-    5
+    text::judge(Class::AccountForm, s)?;
+    verdict::only_if(s.len() == 18, Fault::Length)?;
+    verdict::only_if(is_formed(s), Fault::Form)
 }
 
 // An account, where the text begins with a digit; else an IBAN.
-pub fn account_or_iban(s: &[u8]) -> usize
+pub fn account_or_iban(s: &[u8]) -> Verdict
     ensures { result ≡ account_or_iban_verdict s.now }
 {
     if s.len() == 0 {

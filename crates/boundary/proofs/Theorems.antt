@@ -1,9 +1,8 @@
 -- What is promised of the boundary: nothing is lost on the way through numbers.
 -- Assumes nothing.
 use Rattle.refusal.proofs.Basics.{◌≡◌, refl, sym, ap, ◌∙◌, arith, ℕ, zero, suc, ◌<◌, true, false≢true}
-use Rattle.refusal.specs.Refusal.{refusal_number, is_tabled, refusal_of}
-use Rattle.refusal.specs.declared.Answer.{Answer}
-use Rattle.refusal.specs.declared.Answer.TheVariants.{Accepted, Refused}
+use Rattle.std.specs.Prelude.{Ok, Err}
+use Rattle.refusal.specs.Refusal.{Answer, refusal_number, is_tabled, refusal_of}
 use Rattle.refusal.specs.declared.Refusal.{Refusal}
 use Rattle.refusal.specs.declared.Refusal.TheVariants.{Size, Ends, Byte, Length, Form, Check, Model, Parts, Digit, Misplaced, Date, Orders, Sum, Unfinished, Room, Marks, Beyond, Sheet, Field, Overfull}
 use Rattle.refusal.proofs.Theorems.{numbers_tell_all}
@@ -55,7 +54,7 @@ number_not_zero r = go (refusal_number r) (number_in_table r)
 -- an answer told as numbers loses nothing
 pub told_apart : (a b : Answer) → told_of a ≡ told_of b → a ≡ b
 unfolding told_of
-told_apart Accepted Accepted e = refl
-told_apart Accepted (Refused q) e = let z : 0 ≡ refusal_number q = ap (λ (t : Told). t.number) e in absurd (omega (arith, number_not_zero q))
-told_apart (Refused r) Accepted e = let z : refusal_number r ≡ 0 = ap (λ (t : Told). t.number) e in absurd (omega (arith, number_not_zero r))
-told_apart (Refused r) (Refused q) e = ap Refused (sym (refusal_told_back r) ∙ (ap refusal_in e ∙ refusal_told_back q))
+told_apart (Ok tt) (Ok tt) e = refl
+told_apart (Ok tt) (Err q) e = let z : 0 ≡ refusal_number q = ap (λ (t : Told). t.number) e in absurd (omega (arith, number_not_zero q))
+told_apart (Err r) (Ok tt) e = let z : refusal_number r ≡ 0 = ap (λ (t : Told). t.number) e in absurd (omega (arith, number_not_zero r))
+told_apart (Err r) (Err q) e = ap Err (sym (refusal_told_back r) ∙ (ap refusal_in e ∙ refusal_told_back q))

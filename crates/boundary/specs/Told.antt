@@ -1,10 +1,8 @@
 -- How answers stand at the boundary: document 01's number, line, field and byte, the needed number, and what an acceptance tells. Number 0 is
 -- acceptance; then all else but what it tells is 0.
-use Rattle.std.specs.Prelude.{ℕ}
-use Rattle.refusal.specs.Refusal.{none, refusal_number, refusal_place, needed_of}
-use Rattle.verdict.specs.Verdict.{answer_in}
-use Rattle.refusal.specs.declared.Answer.{Answer}
-use Rattle.refusal.specs.declared.Answer.TheVariants as answer
+use Rattle.std.specs.Prelude.{ℕ, Err, Ok}
+use Rattle.refusal.specs.Refusal.{Answer, none, refusal_number, refusal_place, needed_of}
+use Rattle.verdict.specs.Verdict.{Verdict, answer_in}
 use Rattle.refusal.specs.declared.Place.{Place}
 use Rattle.refusal.specs.declared.Refusal.{Refusal}
 use Rattle.refusal.specs.declared.Refusal.TheVariants.{Form}
@@ -20,11 +18,11 @@ abbrev pub refusal : Refusal → Told
 refusal r = record { number = refusal_number r; line = (refusal_place r).line; field = (refusal_place r).field; byte = (refusal_place r).byte; needed = needed_of r }
 
 unfoldable pub told_of : Answer → Told
-told_of answer.Accepted = accepted
-told_of (answer.Refused r) = refusal r
+told_of (Ok tt) = accepted
+told_of (Err r) = refusal r
 
 -- a verdict, told of no place
-abbrev pub verdict_told : ℕ → Told
+abbrev pub verdict_told : Verdict → Told
 verdict_told v = told_of (answer_in 0 v)
 
 -- an answer with a value: 0 where it is a refusal

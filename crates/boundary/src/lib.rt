@@ -8,6 +8,7 @@ ghost use Rattle.std.specs.Prelude.{◌≡◌};
 ghost use Rattle.boundary.specs.Told.{accepted, refusal, told_of, verdict_told, valued};
 
 use refusal::{Answer, Refusal};
+use verdict::Verdict;
 
 // An answer: number 0 is acceptance, another one of the refusals; its line, field and byte, and for 15 the needed number.
 #[repr(C)]
@@ -64,13 +65,13 @@ pub fn tell(a: Answer) -> Told
     ensures { result ≡ told_of a }
 {
     match a {
-        Answer::Accepted => accept(),
-        Answer::Refused(r) => refuse(r),
+        Ok(()) => accept(),
+        Err(r) => refuse(r),
     }
 }
 
 // A verdict, told of no place: a 3 tells its byte.
-pub fn tell_verdict(verdict: usize) -> Told
+pub fn tell_verdict(verdict: Verdict) -> Told
     ensures { result ≡ verdict_told verdict }
 {
     tell(verdict::answer_in(verdict, 0))

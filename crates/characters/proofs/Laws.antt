@@ -1,8 +1,8 @@
 -- A text's characters, one after another, from a place of the text on.
 -- Assumes nothing.
 use Rattle.refusal.proofs.Basics.{◌≡◌, refl, sym, ap, ◌∙◌, arith, ℕ, suc, ◌+◌, ◌≤◌, ◌<◌, length, drop, get_or, ne_eqb, lt-leb, le-leb, ltb-true, ltb-false, List, [], ◌∷◌, Bool, true, false, cond, ◌&&◌, ◌||◌, ltb, drop-cons, drop-length, zero-add, add-zero, add-one, taken, left, both_true}
+use Rattle.std.specs.Prelude.{Some, None}
 use Rattle.text.specs.Bytes.{later}
-use Rattle.text.specs.declared.Found.TheVariants.{At, Nothing}
 use Rattle.text.proofs.Laws.{shifted, shifted_zero, shifted_later, Below, below_later}
 use Rattle.verdict.specs.Verdict.{wrong_at}
 use Rattle.verdict.proofs.Verdicts.{refused}
@@ -15,9 +15,9 @@ use Rattle.characters.specs.Characters.{is_single, after_c4, after_c5, is_pair, 
 -- a character of one byte is passed
 pub single_passed : (b : ℕ) (s : List ℕ) → is_single b ≡ true → first_wrong (b ∷ s) ≡ later (first_wrong s)
 unfolding first_wrong
-single_passed b [] e = sym (taken (is_single b) Nothing (At 0) e)
+single_passed b [] e = sym (taken (is_single b) None (Some 0) e)
 single_passed b (c ∷ s) e =
-    sym (taken (is_single b) (later (first_wrong (c ∷ s))) (cond (is_pair b c) (later (later (first_wrong s))) (At 0)) e)
+    sym (taken (is_single b) (later (first_wrong (c ∷ s))) (cond (is_pair b c) (later (later (first_wrong s))) (Some 0)) e)
 
 -- and counted
 pub single_counted : (b : ℕ) (s : List ℕ) → is_single b ≡ true → characters (b ∷ s) ≡ suc (characters s)
@@ -26,17 +26,17 @@ single_counted b [] e = refl
 single_counted b (c ∷ s) e = sym (taken (is_single b) (suc (characters (c ∷ s))) (suc (characters s)) e)
 
 -- nothing else may stand last
-pub lone_wrong : (b : ℕ) → is_single b ≡ false → first_wrong (b ∷ []) ≡ At 0
+pub lone_wrong : (b : ℕ) → is_single b ≡ false → first_wrong (b ∷ []) ≡ Some 0
 unfolding first_wrong
-lone_wrong b e = sym (left (is_single b) Nothing (At 0) (At 0) e refl)
+lone_wrong b e = sym (left (is_single b) None (Some 0) (Some 0) e refl)
 
 module _ (b c : ℕ) (s : List ℕ) (e : is_single b ≡ false) where
   -- a character of two bytes is passed
   pub pair_passed : is_pair b c ≡ true → first_wrong (b ∷ (c ∷ s)) ≡ later (later (first_wrong s))
   unfolding first_wrong
   pair_passed p =
-      sym (left (is_single b) (later (first_wrong (c ∷ s))) (cond (is_pair b c) (later (later (first_wrong s))) (At 0)) (later (later (first_wrong s))) e
-      (taken (is_pair b c) (later (later (first_wrong s))) (At 0) p))
+      sym (left (is_single b) (later (first_wrong (c ∷ s))) (cond (is_pair b c) (later (later (first_wrong s))) (Some 0)) (later (later (first_wrong s))) e
+      (taken (is_pair b c) (later (later (first_wrong s))) (Some 0) p))
 
   -- and counted as one
   pub pair_counted : characters (b ∷ (c ∷ s)) ≡ suc (characters s)
@@ -44,11 +44,11 @@ module _ (b c : ℕ) (s : List ℕ) (e : is_single b ≡ false) where
   pair_counted = sym (left (is_single b) (suc (characters (c ∷ s))) (suc (characters s)) (suc (characters s)) e refl)
 
   -- no other two bytes are
-  pub others_wrong : is_pair b c ≡ false → first_wrong (b ∷ (c ∷ s)) ≡ At 0
+  pub others_wrong : is_pair b c ≡ false → first_wrong (b ∷ (c ∷ s)) ≡ Some 0
   unfolding first_wrong
   others_wrong p =
-      sym (left (is_single b) (later (first_wrong (c ∷ s))) (cond (is_pair b c) (later (later (first_wrong s))) (At 0)) (At 0) e
-      (left (is_pair b c) (later (later (first_wrong s))) (At 0) (At 0) p refl))
+      sym (left (is_single b) (later (first_wrong (c ∷ s))) (cond (is_pair b c) (later (later (first_wrong s))) (Some 0)) (Some 0) e
+      (left (is_pair b c) (later (later (first_wrong s))) (Some 0) (Some 0) p refl))
 
 -- ---------------------------------------------------------------------------
 -- The scan, from place i on
@@ -77,16 +77,16 @@ module _ (s : List ℕ) (i n : ℕ) (p : Passed s i n) where
       }
 
   -- at the end
-  pub passed_all : length s ≤ i → (first_wrong s ≡ Nothing) × (characters s ≡ n)
+  pub passed_all : length s ≤ i → (first_wrong s ≡ None) × (characters s ≡ n)
   unfolding first_wrong characters shifted
   passed_all h =
       let d : drop i s ≡ [] = let e : i ≡ length s = omega arith in rw (e, drop-length) in
       (p.wrong ∙ ap (λ (t : List ℕ). shifted i (first_wrong t)) d, p.count ∙ ap (λ (t : List ℕ). n + characters t) d ∙ add-zero n)
 
   -- what stands at i is wrong where what is left starts wrong
-  pub stands_wrong : first_wrong (drop i s) ≡ At 0 → first_wrong s ≡ At i
+  pub stands_wrong : first_wrong (drop i s) ≡ Some 0 → first_wrong s ≡ Some i
   unfolding shifted
-  stands_wrong e = p.wrong ∙ ap (shifted i) e ∙ ap At (add-zero i)
+  stands_wrong e = p.wrong ∙ ap (shifted i) e ∙ ap Some (add-zero i)
 
   -- two bytes and what is left
   two_first : i + 1 < length s → drop i s ≡ get_or s i 0 ∷ (get_or s (i + 1) 0 ∷ drop (i + 2) s)
@@ -100,21 +100,21 @@ module _ (s : List ℕ) (i n : ℕ) (p : Passed s i n) where
 
   module _ (e : is_single (get_or s i 0) ≡ false) where
     -- one byte is left, no character of its own
-    lone_told : i < length s → length s ≤ i + 1 → first_wrong s ≡ At i
+    lone_told : i < length s → length s ≤ i + 1 → first_wrong s ≡ Some i
     lone_told h g =
         let x : suc i ≡ length s = omega arith in
         let d : drop i s ≡ get_or s i 0 ∷ [] = drop-cons s i 0 h ∙ ap (λ (t : List ℕ). get_or s i 0 ∷ t) (rw (x, drop-length)) in
         stands_wrong (ap first_wrong d ∙ lone_wrong (get_or s i 0) e)
 
     -- two bytes stand next that are no character
-    others_told : i + 1 < length s → is_pair (get_or s i 0) (get_or s (i + 1) 0) ≡ false → first_wrong s ≡ At i
+    others_told : i + 1 < length s → is_pair (get_or s i 0) (get_or s (i + 1) 0) ≡ false → first_wrong s ≡ Some i
     others_told h f = stands_wrong (ap first_wrong (two_first h) ∙ others_wrong (get_or s i 0) (get_or s (i + 1) 0) (drop (i + 2) s) e f)
 
     -- no character stands next
-    pub passed_wrong : i < length s → is_completed (get_or s i 0) s (i + 1) ≡ false → first_wrong s ≡ At i
+    pub passed_wrong : i < length s → is_completed (get_or s i 0) s (i + 1) ≡ false → first_wrong s ≡ Some i
     passed_wrong h = go (ltb (i + 1) (length s)) refl
       where
-        go : (t : Bool) → ltb (i + 1) (length s) ≡ t → (t && is_pair (get_or s i 0) (get_or s (i + 1) 0)) ≡ false → first_wrong s ≡ At i
+        go : (t : Bool) → ltb (i + 1) (length s) ≡ t → (t && is_pair (get_or s i 0) (get_or s (i + 1) 0)) ≡ false → first_wrong s ≡ Some i
         go true x f = others_told (ltb-true (i + 1) (length s) x) f
         go false x f = lone_told h (ltb-false (i + 1) (length s) x)
 
@@ -153,13 +153,13 @@ unfolding first_wrong
 wrong_below [] = tt
 wrong_below (b ∷ []) = go (is_single b)
   where
-    go : (t : Bool) → Below 1 (cond t Nothing (At 0))
+    go : (t : Bool) → Below 1 (cond t None (Some 0))
     go true = tt
     go false = omega arith
 wrong_below (b ∷ (c ∷ s)) = go (is_single b) (is_pair b c) (wrong_below (c ∷ s)) (wrong_below s)
   where
     go : (t u : Bool) → Below (suc (length s)) (first_wrong (c ∷ s)) → Below (length s) (first_wrong s) →
-        Below (suc (suc (length s))) (cond t (later (first_wrong (c ∷ s))) (cond u (later (later (first_wrong s))) (At 0)))
+        Below (suc (suc (length s))) (cond t (later (first_wrong (c ∷ s))) (cond u (later (later (first_wrong s))) (Some 0)))
     go true u f g = below_later (suc (length s)) (first_wrong (c ∷ s)) f
     go false true f g = below_later (suc (length s)) (later (first_wrong s)) (below_later (length s) (first_wrong s) g)
     go false false f g = omega arith
@@ -168,10 +168,10 @@ wrong_below (b ∷ (c ∷ s)) = go (is_single b) (is_pair b c) (wrong_below (c �
 -- The answers, by what the scan came to
 
 -- 3, told of the byte
-pub wrong_told : (most : ℕ) (s : List ℕ) (i : ℕ) → first_wrong s ≡ At i → wrong_at i ≡ characters_verdict most s
+pub wrong_told : (most : ℕ) (s : List ℕ) (i : ℕ) → first_wrong s ≡ Some i → wrong_at i ≡ characters_verdict most s
 wrong_told most s i e = rw e (refused (wrong_at i) _ (wrong_at i) (λ z. omega arith) refl)
 
-module _ (most n : ℕ) (s : List ℕ) (e : (first_wrong s ≡ Nothing) × (characters s ≡ n)) where
+module _ (most n : ℕ) (s : List ℕ) (e : (first_wrong s ≡ None) × (characters s ≡ n)) where
   -- 4
   pub long_told : most < n → 4 ≡ characters_verdict most s
   long_told h = rw (e.0, e.1, lt-leb n most h)

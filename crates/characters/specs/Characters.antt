@@ -1,9 +1,7 @@
 -- Document 01, "The slip's fourteen fields", last paragraph: the characters that a text permits, of one byte or of two, and their number.
-use Rattle.std.specs.Prelude.{ℕ, suc, Bool, cond, not, ◌&&◌, ◌||◌, List, [], ◌∷◌, eqb, leb, ltb, length, get_or}
+use Rattle.std.specs.Prelude.{ℕ, suc, Bool, cond, not, ◌&&◌, ◌||◌, List, [], ◌∷◌, eqb, leb, ltb, length, get_or, Option, Some, None}
 use Rattle.classes.specs.Classes.{is_digit, is_letter}
 use Rattle.text.specs.Bytes.{later}
-use Rattle.text.specs.declared.Found.{Found}
-use Rattle.text.specs.declared.Found.TheVariants.{At, Nothing}
 
 -- ---------------------------------------------------------------------------
 -- Characters
@@ -40,12 +38,12 @@ is_completed b s i = ltb i (length s) && is_pair b (get_or s i 0)
 -- Texts
 
 -- "Any other byte, or a first byte without its second, is 3": the place of the first such byte
-unfoldable pub first_wrong : List ℕ → Found
-first_wrong [] = Nothing
-first_wrong (b ∷ []) = cond (is_single b) Nothing (At 0)
+unfoldable pub first_wrong : List ℕ → Option ℕ
+first_wrong [] = None
+first_wrong (b ∷ []) = cond (is_single b) None (Some 0)
 first_wrong (b ∷ (c ∷ s)) =
     cond (is_single b) (later (first_wrong (c ∷ s)))
-    (cond (is_pair b c) (later (later (first_wrong s))) (At 0))
+    (cond (is_pair b c) (later (later (first_wrong s))) (Some 0))
 
 -- "Lengths count characters": how many a permitted text has
 unfoldable pub characters : List ℕ → ℕ

@@ -7,6 +7,8 @@ ghost use Rattle.std.specs.Prelude.{◌≡◌};
 ghost use Rattle.characters.specs.Characters.{is_small_letter, is_sign, is_single, after_c4, after_c5, is_pair, is_completed};
 ghost use Rattle.characters.specs.Answers.{characters_verdict};
 
+use verdict::{Fault, Verdict};
+
 // Whether a byte is a letter, a to z.
 fn is_small_letter(b: u8) -> bool
     ensures { result ≡ is_small_letter b }
@@ -116,8 +118,8 @@ fn is_completed(b: u8, s: &[u8], at: usize) -> bool
     is_pair(b, s[at])
 }
 
-// A text field of at most `most` characters: 3 with its byte, then 4; a verdict.
-pub fn judge(most: usize, s: &[u8]) -> usize
+// A text field of at most `most` characters: 3 with its byte, then 4.
+pub fn judge(most: usize, s: &[u8]) -> Verdict
     ensures { result ≡ characters_verdict most s.now }
 {
     let mut n: usize = 0;
@@ -129,14 +131,11 @@ pub fn judge(most: usize, s: &[u8]) -> usize
         } else {
             let second = i + 1;
             if !is_completed(s[i], s, second) {
-                return 32 + i;
+                return Err(Fault::Byte(i));
             }
             n += 1;
             i += 2;
         }
     }
-    if n > most {
-        return 4;
-    }
-    0
+    verdict::only_if(n <= most, Fault::Length)
 }

@@ -2,8 +2,8 @@
 -- is that one.
 -- Assumes nothing.
 use Rattle.refusal.proofs.Basics.{◌≡◌, refl, sym, ◌∙◌, arith, ℕ, ◌+◌, ◌-◌, ◌≤◌, ◌<◌, length, length-append, lt-ltb, le-leb, eq-eqb, eqb-true, leb-true, ltb-false, List, [], ◌∷◌, ◌++◌, Bool, true, false, cond, eqb, leb, ltb, lit<, take-append_seam, get_or-append_seam, mod-lt, ◌↔◌, chosen, both_true}
+use Rattle.std.specs.Prelude.{Err, Ok}
 use Rattle.refusal.specs.Refusal.{none}
-use Rattle.refusal.specs.declared.Answer.TheVariants.{Accepted}
 use Rattle.refusal.specs.declared.Refusal.{Refusal}
 use Rattle.refusal.specs.declared.Refusal.TheVariants.{Size, Byte}
 use Rattle.classes.specs.declared.Class.TheVariants.{Digits}
@@ -13,7 +13,6 @@ use Rattle.text.specs.Digits.{digits_of}
 use Rattle.text.proofs.Laws.{all_joined}
 use Rattle.check_digits.specs.declared.Rule.{Rule}
 use Rattle.check_digits.specs.declared.Rule.TheVariants.{Ini, Mod1110}
-use Rattle.check_digits.specs.declared.Made.TheVariants as made
 use Rattle.check_digits.specs.CheckDigit.{check_digit, digit_for, remainder, passes}
 use Rattle.check_digits.specs.Answers.{sized, check_answer, make_answer}
 
@@ -54,12 +53,12 @@ only_made_digit_passes rule s c e = eqb-true c (48 + check_digit rule (digits_of
 -- Made and checked
 
 -- a refusal is no digit
-refused_no_digit : (r : Refusal) (d : ℕ) → made.Refused r ≡ made.Digit d → ⊥
+refused_no_digit : (r : Refusal) (d : ℕ) → Err r ≡ Ok d → ⊥
 refused_no_digit r d e = let z : ◌≡◌ {A = ℕ} 0 1 = cc in omega arith
 
 -- "For one to nineteen digits, a check digit is made by one of the last two rules: the one that passes": where the digit d is made, the text
 -- with a byte behind it is accepted exactly when that byte is d
-pub made_is_checked : (rule : Rule) (s : List ℕ) (d : ℕ) → make_answer rule s ≡ made.Digit d → (c : ℕ) → (check_answer rule (s ++ (c ∷ [])) ≡ Accepted) ↔ (c ≡ 48 + d)
+pub made_is_checked : (rule : Rule) (s : List ℕ) (d : ℕ) → make_answer rule s ≡ Ok d → (c : ℕ) → (check_answer rule (s ++ (c ∷ [])) ≡ Ok tt) ↔ (c ≡ 48 + d)
 unfolding all_of
 made_is_checked rule s d e c =
     let a = chosen (sized 1 19 s) _ _ _ (refused_no_digit (Size none) d) e in

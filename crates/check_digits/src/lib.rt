@@ -21,13 +21,6 @@ pub enum Rule {
     Mod1110,
 }
 
-// What making a check digit answers.
-#[derive(Clone, Copy)]
-pub enum Made {
-    Digit(u8),
-    Refused(Refusal),
-}
-
 // What has been read of the digits so far: for INI the sum of the digits and the sum of those sums, both over 11;
 // for MOD 11,10 the number p.
 #[derive(Clone, Copy)]
@@ -174,26 +167,26 @@ pub fn checked(rule: Rule, s: &[u8]) -> Answer
     ensures { result ≡ check_answer rule s.now }
 {
     if !is_sized(22, s) {
-        return Answer::Refused(Refusal::Size(refusal::nowhere()));
+        return Err(Refusal::Size(refusal::nowhere()));
     }
     if !text::all_of(Class::Digits, s) {
-        return Answer::Refused(Refusal::Byte(refusal::nowhere()));
+        return Err(Refusal::Byte(refusal::nowhere()));
     }
     if ends_right(rule, s) {
-        return Answer::Accepted;
+        return Ok(());
     }
-    Answer::Refused(Refusal::Digit(refusal::nowhere()))
+    Err(Refusal::Digit(refusal::nowhere()))
 }
 
 // Makes the check digit of one to nineteen digits: another length is 1, then a byte that is no digit 3.
-pub fn make(rule: Rule, s: &[u8]) -> Made
+pub fn make(rule: Rule, s: &[u8]) -> Result<u8, Refusal>
     ensures { result ≡ make_answer rule s.now }
 {
     if !is_sized(19, s) {
-        return Made::Refused(Refusal::Size(refusal::nowhere()));
+        return Err(Refusal::Size(refusal::nowhere()));
     }
     if !text::all_of(Class::Digits, s) {
-        return Made::Refused(Refusal::Byte(refusal::nowhere()));
+        return Err(Refusal::Byte(refusal::nowhere()));
     }
-    Made::Digit(check_digit(rule, s))
+    Ok(check_digit(rule, s))
 }

@@ -1,8 +1,7 @@
 -- What is promised of the codes: 55 of three digits, ascending; each is found at its place, and nothing else is found.
 -- Assumes nothing.
 use Rattle.refusal.proofs.Basics.{◌≡◌, refl, arith, ℕ, zero, suc, ◌≤◌, ◌<◌, length, get_or, ltb-true, leb-true, eq-eqb, ne_eqb, List, [], ◌∷◌, Bool, true, false≢true, ◌&&◌, ltb, leb, ◌↔◌, both_true}
-use Rattle.text.specs.declared.Found.{Found}
-use Rattle.text.specs.declared.Found.TheVariants.{At, Nothing}
+use Rattle.std.specs.Prelude.{Option, Some, None}
 use Rattle.codes.specs.Codes.{codes, first_in, code_place, is_found, is_code}
 use Rattle.codes.proofs.Laws.{place_tells}
 
@@ -59,10 +58,10 @@ each_within a b (c ∷ s) zero e h =
 each_within a b (c ∷ s) (suc j) e h = each_within a b s j (both_true (leb a c && leb c b) (all_within a b s) e).1 (omega arith)
 
 -- ---------------------------------------------------------------------------
--- Found exactly where it stands
+-- Option ℕ exactly where it stands
 
 -- what an ascending list holds is found at its place
-found_there : (s : List ℕ) (i : ℕ) → ascending s ≡ true → i < length s → first_in (get_or s i 0) s ≡ At i
+found_there : (s : List ℕ) (i : ℕ) → ascending s ≡ true → i < length s → first_in (get_or s i 0) s ≡ Some i
 unfolding first_in
 found_there [] i e h = absurd (omega arith)
 found_there (c ∷ s) zero e h = rw (eq-eqb c c refl)
@@ -72,31 +71,31 @@ found_there (c ∷ s) (suc j) e h =
 
 module _ (n : ℕ) where
   -- a number is found at a place exactly when it is the code there
-  pub place_exactly : (i : ℕ) → (code_place n ≡ At i) ↔ ((i < 55) × (get_or codes i 0 ≡ n))
+  pub place_exactly : (i : ℕ) → (code_place n ≡ Some i) ↔ ((i < 55) × (get_or codes i 0 ≡ n))
   unfolding code_place
   place_exactly i = (place_tells n codes i, λ w. rw w.1 at (found_there codes i codes_ascending w.0))
 
   -- and nowhere exactly when it is no code
-  pub no_place_exactly : (code_place n ≡ Nothing) ↔ ((i : ℕ) → i < 55 → get_or codes i 0 ≡ n → ⊥)
+  pub no_place_exactly : (code_place n ≡ None) ↔ ((i : ℕ) → i < 55 → get_or codes i 0 ≡ n → ⊥)
   no_place_exactly = (λ e i h q. (let f = (place_exactly i).1 (h, q) in let z : ◌≡◌ {A = ℕ} 0 1 = cc in omega arith), back (code_place n) refl)
     where
-      back : (f : Found) → code_place n ≡ f → ((i : ℕ) → i < 55 → get_or codes i 0 ≡ n → ⊥) → code_place n ≡ Nothing
-      back (At i) e g = let w = (place_exactly i).0 e in absurd (g i w.0 w.1)
-      back Nothing e g = e
+      back : (f : Option ℕ) → code_place n ≡ f → ((i : ℕ) → i < 55 → get_or codes i 0 ≡ n → ⊥) → code_place n ≡ None
+      back (Some i) e g = let w = (place_exactly i).0 e in absurd (g i w.0 w.1)
+      back None e g = e
 
   -- a number is a code exactly when it stands in the list
   pub code_exactly : (is_code n ≡ true) ↔ ((i : ℕ) × (i < 55) × (get_or codes i 0 ≡ n))
   unfolding is_code
   code_exactly = (there (code_place n) refl, λ w. rw ((place_exactly w.0).1 (w.1, w.2)))
     where
-      there : (f : Found) → code_place n ≡ f → is_found f ≡ true → (i : ℕ) × (i < 55) × (get_or codes i 0 ≡ n)
-      there (At i) e t = let w = (place_exactly i).0 e in (i, w.0, w.1)
-      there Nothing e t = absurd (false≢true t)
+      there : (f : Option ℕ) → code_place n ≡ f → is_found f ≡ true → (i : ℕ) × (i < 55) × (get_or codes i 0 ≡ n)
+      there (Some i) e t = let w = (place_exactly i).0 e in (i, w.0, w.1)
+      there None e t = absurd (false≢true t)
 
   -- a code has three digits
-  pub code_bounds : (i : ℕ) → code_place n ≡ At i → (100 ≤ n) × (n ≤ 699)
+  pub code_bounds : (i : ℕ) → code_place n ≡ Some i → (100 ≤ n) × (n ≤ 699)
   code_bounds i e = let w = (place_exactly i).0 e in rw w.1 at (each_within 100 699 codes i codes_within w.0)
 
 -- each code is found at its place
-pub each_code_found : (i : ℕ) → i < 55 → code_place (get_or codes i 0) ≡ At i
+pub each_code_found : (i : ℕ) → i < 55 → code_place (get_or codes i 0) ≡ Some i
 each_code_found i h = (place_exactly (get_or codes i 0) i).1 (h, refl)

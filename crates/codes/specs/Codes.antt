@@ -1,8 +1,6 @@
 -- Source 004, the list of kinds of personal income: the 55 codes, in its order.
-use Rattle.std.specs.Prelude.{ℕ, Bool, true, false, cond, List, [], ◌∷◌, eqb}
+use Rattle.std.specs.Prelude.{ℕ, Bool, true, false, cond, List, [], ◌∷◌, eqb, Option, Some, None}
 use Rattle.text.specs.Bytes.{later}
-use Rattle.text.specs.declared.Found.{Found}
-use Rattle.text.specs.declared.Found.TheVariants.{At, Nothing}
 
 -- the codes, ascending
 abbrev pub codes : List ℕ
@@ -15,18 +13,18 @@ codes =
     640 ∷ 650 ∷ 660 ∷ 690 ∷ 699 ∷ []
 
 -- where a number first stands in a list, counted from 0
-unfoldable pub first_in : ℕ → List ℕ → Found
-first_in n [] = Nothing
-first_in n (c ∷ cs) = cond (eqb n c) (At 0) (later (first_in n cs))
+unfoldable pub first_in : ℕ → List ℕ → Option ℕ
+first_in n [] = None
+first_in n (c ∷ cs) = cond (eqb n c) (Some 0) (later (first_in n cs))
 
 -- where a code stands in the list; another number stands nowhere
-unfoldable pub code_place : ℕ → Found
+unfoldable pub code_place : ℕ → Option ℕ
 code_place n = first_in n codes
 
 -- whether something was found
-abbrev pub is_found : Found → Bool
-is_found (At i) = true
-is_found Nothing = false
+abbrev pub is_found : Option ℕ → Bool
+is_found (Some i) = true
+is_found None = false
 
 -- "a code of 004's list"
 unfoldable pub is_code : ℕ → Bool

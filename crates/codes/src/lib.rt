@@ -7,7 +7,6 @@
 ghost use Rattle.std.specs.Prelude.{◌≡◌};
 ghost use Rattle.codes.specs.Codes.{first_in, code_place, is_code};
 
-use text::Found;
 
 // The codes, in the order of the list.
 const CODES: [u16; 55] = [
@@ -24,21 +23,21 @@ fn wide(n: u16) -> u64
 }
 
 // Where a number first stands in a list, counted from 0.
-fn place_in(list: &[u16], code: u64) -> Found
+fn place_in(list: &[u16], code: u64) -> Option<usize>
     ensures { result ≡ first_in code list.now }
 {
     let mut i = 0;
     while i < list.len() {
         if code == wide(list[i]) {
-            return Found::At(i);
+            return Some(i);
         }
         i += 1;
     }
-    Found::Nothing
+    None
 }
 
 // Where a code stands in the list of the codes.
-pub fn place(code: u64) -> Found
+pub fn place(code: u64) -> Option<usize>
     ensures { result ≡ code_place code }
 {
     let list = CODES;
@@ -50,7 +49,7 @@ pub fn is_code(n: u64) -> bool
     ensures { result ≡ is_code n }
 {
     match place(n) {
-        Found::At(_) => true,
-        Found::Nothing => false,
+        Some(_) => true,
+        None => false,
     }
 }

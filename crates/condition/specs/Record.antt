@@ -1,15 +1,15 @@
 -- Document 01, "The wage file": the judge's record. "The judge stands in one condition: fresh, after the label, inside a group, closed, or
 -- refused with its first refusal inside".
-use Rattle.std.specs.Prelude.{ℕ, ◌+◌, Bool, cond, ◌&&◌, eqb, leb}
+use Rattle.std.specs.Prelude.{ℕ, ◌+◌, Bool, cond, ◌&&◌, eqb, leb, Result, Err, Ok}
+use Rattle.condition.specs.declared.Counts.{Counts}
 use Rattle.refusal.specs.Refusal.{refusal_of}
 use Rattle.refusal.specs.declared.Refusal.{Refusal}
+use Rattle.refusal.specs.declared.Place.{Place}
 use Rattle.sums.specs.Sums.{no_cents, fits}
 use Rattle.tally.specs.Tally.{no_orders, is_within}
 use Rattle.dates.specs.Dates.{is_date}
 use Rattle.condition.specs.declared.Condition.{Condition}
 use Rattle.condition.specs.declared.Condition.TheVariants.{Fresh, Labelled, Grouped, Closed, Refused}
-use Rattle.condition.specs.declared.Ending.{Ending}
-use Rattle.condition.specs.declared.Ending.TheVariants as ending
 use Rattle.condition.specs.declared.Judge.{Judge}
 
 -- ---------------------------------------------------------------------------
@@ -33,9 +33,13 @@ refused_with r j = record { condition = Refused r; day = j.day; kind = j.kind; r
 -- ---------------------------------------------------------------------------
 -- Places
 
--- "Refusals 1, 2, 10, 12, 13, 14, 17 and 15 have field 0 and byte 0": a number told of a line alone
+-- "Refusals 1, 2, 10, 12, 13, 14, 17 and 15 have field 0 and byte 0": the place of a line alone
+abbrev pub line_place : ℕ → Place
+line_place line = record { line = line; field = 0; byte = 0 }
+
+-- a number told of it
 abbrev pub at_line : ℕ → ℕ → Refusal
-at_line number line = refusal_of number (record { line = line; field = 0; byte = 0 }) 0
+at_line number line = refusal_of number (line_place line) 0
 
 -- "17 names line 1,000,001"
 abbrev pub beyond : Refusal
@@ -82,9 +86,9 @@ begun day = cond (is_date day) (fresh day) (refused_with (at_line 11 0) (fresh d
 
 -- a refusal again; 17; "The end gives 14, at the next line number, unless the 399 was read"; "Acceptance tells lines, groups and orders",
 -- "and acceptance tells the file's own total too"
-unfoldable pub ended : Judge → Ending
+unfoldable pub ended : Judge → Result Counts Refusal
 ended j =
-    cond (is_refused j.condition) (ending.Refused (refusal_in j.condition))
+    cond (is_refused j.condition) (Err (refusal_in j.condition))
     (cond (is_sound j)
-    (cond (eqb (stage_of j.condition) 3) (ending.Accepted j.read) (ending.Refused (at_line 14 (next_line j))))
-    (ending.Refused beyond))
+    (cond (eqb (stage_of j.condition) 3) (Ok j.read) (Err (at_line 14 (next_line j))))
+    (Err beyond))

@@ -6,7 +6,7 @@
 #![tactic(auto)]
 
 ghost use Rattle.std.specs.Prelude.{◌≡◌};
-ghost use Rattle.condition.specs.Record.{stage_of, is_refused, refusal_in, refused_with, at_line, is_sound, begun, ended};
+ghost use Rattle.condition.specs.Record.{stage_of, is_refused, refusal_in, refused_with, line_place, is_sound, begun, ended};
 
 use refusal::{Place, Refusal};
 use sums::Sum;
@@ -51,13 +51,6 @@ pub struct Judge {
     pub group: Open,
 }
 
-// What the end answers.
-#[derive(Clone, Copy)]
-pub enum Ending {
-    Accepted(Counts),
-    Refused(Refusal),
-}
-
 // ---------------------------------------------------------------------------
 // Conditions and refusals
 
@@ -85,11 +78,7 @@ pub fn is_refused(c: Condition) -> bool
 pub fn refusal_in(c: Condition) -> Refusal
     ensures { result ≡ refusal_in c }
 {
-    let beyond = Refusal::Beyond(Place {
-        line: 1000001,
-        field: 0,
-        byte: 0,
-    });
+    let beyond = Refusal::Beyond(at_line(1000001));
     match c {
         Condition::Fresh => beyond,
         Condition::Labelled => beyond,
@@ -99,16 +88,15 @@ pub fn refusal_in(c: Condition) -> Refusal
     }
 }
 
-// A refusal of a line alone: field 0 and byte 0.
-pub fn at_line(number: usize, line: usize) -> Refusal
-    ensures { result ≡ at_line number line }
+// The place of a line alone: field 0 and byte 0.
+pub fn at_line(line: usize) -> Place
+    ensures { result ≡ line_place line }
 {
-    let place = Place {
+    Place {
         line,
         field: 0,
         byte: 0,
-    };
-    refusal::made(number, place, 0)
+    }
 }
 
 // A record of these parts.
@@ -176,27 +164,27 @@ pub fn begin(day: u64) -> Judge
     if dates::is_date(day) {
         return fresh;
     }
-    refused(fresh, at_line(11, 0))
+    refused(fresh, Refusal::Date(at_line(0)))
 }
 
 // ---------------------------------------------------------------------------
 // The end
 
 // What the file comes to.
-pub fn end(j: Judge) -> Ending
+pub fn end(j: Judge) -> Result<Counts, Refusal>
     ensures { result ≡ ended j }
 {
     let condition = j.condition;
     let read = j.read;
     let lines = read.lines;
     if is_refused(condition) {
-        return Ending::Refused(refusal_in(condition));
+        return Err(refusal_in(condition));
     }
     if is_sound(j) {
         if stage(condition) == 3 {
-            return Ending::Accepted(read);
+            return Ok(read);
         }
-        return Ending::Refused(at_line(14, lines + 1));
+        return Err(Refusal::Unfinished(at_line(lines + 1)));
     }
-    Ending::Refused(at_line(17, 1000001))
+    Err(Refusal::Beyond(at_line(1000001)))
 }

@@ -12,16 +12,16 @@ ghost use Rattle.boundary.specs.Told.{told_of, verdict_told, no_rule, valued};
 ghost use Rattle.desk_checks.specs.Made.{made_of};
 
 use boundary::{Told, Valued};
-use check_digits::{Made, Rule};
+use check_digits::Rule;
 use refusal::Refusal;
 
 // A check digit made.
-fn tell_made(m: Made) -> Valued
+fn tell_made(m: Result<u8, Refusal>) -> Valued
     ensures { result ≡ made_of m }
 {
     match m {
-        Made::Digit(d) => boundary::accept_value(d as usize),
-        Made::Refused(r) => boundary::refuse_value(r),
+        Ok(d) => boundary::accept_value(d as usize),
+        Err(r) => boundary::refuse_value(r),
     }
 }
 

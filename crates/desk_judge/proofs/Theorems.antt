@@ -1,8 +1,9 @@
 -- What is promised of the judge's calls: they fit together, and a place that is told is the one that is handed back. Assumes nothing.
 use Rattle.refusal.proofs.Basics.{◌≡◌, refl, ap, ℕ, take, drop, List}
+use Rattle.std.specs.Prelude.{Err, Ok, Result}
+use Rattle.refusal.specs.declared.Refusal.{Refusal}
+use Rattle.wage_places.specs.declared.LineType.{LineType}
 use Rattle.text.specs.declared.Part.{Part}
-use Rattle.wage_line.specs.declared.Typed.{Typed}
-use Rattle.wage_line.specs.declared.Typed.TheVariants as typed
 use Rattle.wage_line.specs.Line.{typed_of, queried, place_of}
 use Rattle.wage_line.specs.Pieces.{pieces}
 use Rattle.condition.specs.declared.Judge.{Judge}
@@ -31,6 +32,6 @@ pub part_is_place : (s : List ℕ) (n : ℕ) → take (place_part s n).length (d
 unfolding place_part place_of
 part_is_place s n = go (typed_of s)
   where
-    go : (t : Typed) → bytes_of (part_in n t) s ≡ queried n s t
-    go (typed.Line t) = refl
-    go (typed.Refused r) = refl
+    go : (t : Result LineType Refusal) → bytes_of (part_in n t) s ≡ queried n s t
+    go (Ok t) = refl
+    go (Err r) = refl

@@ -13,11 +13,9 @@ ghost use Rattle.desk_record.specs.Record.{judge_of, record_of};
 ghost use Rattle.desk_judge.specs.Wages.{ended_of, place_part};
 
 use boundary::Told;
-use condition::Ending;
 use desk_record::Record;
 use sums::Sum;
 use text::Part;
-use wage_line::Typed;
 
 // What the end of a wage file tells.
 #[repr(C)]
@@ -31,11 +29,11 @@ pub struct Ended {
 }
 
 // What a wage file comes to.
-fn tell_ending(e: Ending) -> Ended
+fn tell_ending(e: Result<Counts, Refusal>) -> Ended
     ensures { result ≡ ended_of e }
 {
     match e {
-        Ending::Accepted(c) => {
+        Ok(c) => {
             let tally = c.tally;
             let total = tally.total;
             Ended {
@@ -46,7 +44,7 @@ fn tell_ending(e: Ending) -> Ended
                 total,
             }
         }
-        Ending::Refused(r) => Ended {
+        Err(r) => Ended {
             told: boundary::refuse(r),
             lines: 0,
             groups: 0,
@@ -61,13 +59,13 @@ fn place_part(line: &[u8], field: usize) -> Part
     ensures { result ≡ place_part line.now field }
 {
     match wage_line::read_type(line) {
-        Typed::Line(t) => {
+        Ok(t) => {
             let p = wage_places::find(t, field);
             let start = p.start;
             let length = p.size;
             Part { start, length }
         }
-        Typed::Refused(_) => Part {
+        Err(_) => Part {
             start: 0,
             length: 0,
         },

@@ -1,9 +1,10 @@
 -- A slip written, told across the boundary.
 -- Assumes nothing.
 use Rattle.refusal.proofs.Basics.{◌≡◌, refl, ap, ◌∙◌, ℕ, length, List, [], Bool, true, false, cond}
+use Rattle.std.specs.Prelude.{Result, Err}
+use Rattle.refusal.specs.declared.Refusal.{Refusal}
 use Rattle.refusal.specs.Refusal.{none}
 use Rattle.refusal.specs.declared.Refusal.TheVariants.{Size}
-use Rattle.slip_writer.specs.declared.Written.{Written}
 use Rattle.slip_writer.specs.Writer as slip
 use Rattle.lent_fields.specs.Fields.{lent_whole}
 use Rattle.standing_text.specs.declared.Sheet.{Sheet}
@@ -27,7 +28,7 @@ slip_told cents sizes text out r t after e w =
     }
   where
     answered : Bool → StandingSlip
-    answered b = cond b (record { sheet = Sheet.Neither; written = slip.write_answer cents (eleven_of sizes text) (length out) }) (record { sheet = Sheet.Neither; written = Written.Refused (Size none) })
+    answered b = cond b (record { sheet = Sheet.Neither; written = slip.write_answer cents (eleven_of sizes text) (length out) }) (record { sheet = Sheet.Neither; written = Err (Size none) })
 
     told : (b : Bool) → written_of (answered b).written ≡ cond b (written_of (slip.write_answer cents (eleven_of sizes text) (length out))) (valued (refusal (Size none)) 0)
     told true = refl

@@ -1,11 +1,8 @@
 -- What the calls of slips tell at the boundary, and what a call that writes answers and leaves.
-use Rattle.std.specs.Prelude.{ℕ, ◌≡◌, cond, List, length}
+use Rattle.std.specs.Prelude.{ℕ, ◌≡◌, cond, List, length, Result, Err, Ok}
+use Rattle.refusal.specs.declared.Refusal.{Refusal}
 use Rattle.refusal.specs.declared.Refusal.TheVariants.{Size}
 use Rattle.refusal.specs.Refusal.{none}
-use Rattle.slip_handed.specs.declared.Amount.{Amount}
-use Rattle.slip_handed.specs.declared.Amount.TheVariants as amount
-use Rattle.slip_writer.specs.declared.Written.{Written}
-use Rattle.slip_writer.specs.declared.Written.TheVariants as written
 use Rattle.slip_writer.specs.Writer as slip
 use Rattle.lent_fields.specs.Fields.{lent_whole}
 use Rattle.standing_slip.specs.Filled.{eleven_of}
@@ -13,14 +10,14 @@ use Rattle.boundary.specs.declared.Valued.{Valued}
 use Rattle.boundary.specs.Told.{accepted, refusal, valued}
 
 -- an amount
-unfoldable pub cents_told : Amount → Valued
-cents_told (amount.Cents n) = valued accepted n
-cents_told (amount.Refused r) = valued (refusal r) 0
+unfoldable pub cents_told : Result ℕ Refusal → Valued
+cents_told (Ok n) = valued accepted n
+cents_told (Err r) = valued (refusal r) 0
 
 -- how many bytes were written
-unfoldable pub written_of : Written → Valued
-written_of (written.Bytes n) = valued accepted n
-written_of (written.Refused r) = valued (refusal r) 0
+unfoldable pub written_of : Result ℕ Refusal → Valued
+written_of (Ok n) = valued accepted n
+written_of (Err r) = valued (refusal r) 0
 
 -- a slip: only where the sizes of its eleven fields are the text's
 pub record WritesSlipGiven (cents : ℕ) (sizes text out : List ℕ) (r : Valued) (after : List ℕ) : Type 0 where

@@ -11,27 +11,25 @@ ghost use Rattle.boundary.specs.Told.{told_of};
 ghost use Rattle.desk_slips.specs.Slips.{cents_told, written_of, WritesSlipGiven};
 
 use boundary::{Told, Valued};
-use slip_handed::Amount;
-use slip_writer::Written;
 use text::Part;
 
 // A slip's amount.
-fn tell_amount(a: Amount) -> Valued
+fn tell_amount(a: Result<u64, Refusal>) -> Valued
     ensures { result ≡ cents_told a }
 {
     match a {
-        Amount::Cents(n) => boundary::accept_value(n as usize),
-        Amount::Refused(r) => boundary::refuse_value(r),
+        Ok(n) => boundary::accept_value(n as usize),
+        Err(r) => boundary::refuse_value(r),
     }
 }
 
 // How many bytes a slip was written with.
-pub fn tell_written(w: Written) -> Valued
+pub fn tell_written(w: Result<usize, Refusal>) -> Valued
     ensures { result ≡ written_of w }
 {
     match w {
-        Written::Bytes(n) => boundary::accept_value(n),
-        Written::Refused(r) => boundary::refuse_value(r),
+        Ok(n) => boundary::accept_value(n),
+        Err(r) => boundary::refuse_value(r),
     }
 }
 

@@ -14,15 +14,14 @@ ghost use Rattle.boundary.specs.Told.{told_of};
 ghost use Rattle.desk_wet.specs.Listed.{listed_of};
 
 use boundary::{Told, Valued};
-use fillings::Listed;
 
 // A listing's count.
-fn tell_listed(l: Listed) -> Valued
+fn tell_listed(l: Result<usize, Refusal>) -> Valued
     ensures { result ≡ listed_of l }
 {
     match l {
-        Listed::Count(n) => boundary::accept_value(n),
-        Listed::Refused(r) => boundary::refuse_value(r),
+        Ok(n) => boundary::accept_value(n),
+        Err(r) => boundary::refuse_value(r),
     }
 }
 

@@ -1,7 +1,7 @@
 -- A wage line written, told across the boundary.
 -- Assumes nothing.
 use Rattle.refusal.proofs.Basics.{◌≡◌, ap, ◌∙◌, ℕ, List}
-use Rattle.refusal.specs.declared.Answer.{Answer}
+use Rattle.refusal.specs.Refusal.{Answer}
 use Rattle.line_room.specs.LineRoom.{Writes}
 use Rattle.boundary.specs.Told.{told_of}
 use Rattle.boundary.specs.declared.Told.{Told}

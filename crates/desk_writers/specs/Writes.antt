@@ -1,6 +1,6 @@
 -- What a call that writes a wage line answers and leaves.
 use Rattle.std.specs.Prelude.{ℕ, ◌≡◌, List}
-use Rattle.refusal.specs.declared.Answer.{Answer}
+use Rattle.refusal.specs.Refusal.{Answer}
 use Rattle.line_room.specs.LineRoom as wage
 use Rattle.boundary.specs.Told.{told_of}
 use Rattle.boundary.specs.declared.Told.{Told}

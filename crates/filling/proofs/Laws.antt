@@ -1,10 +1,10 @@
 -- Laws of a filled text: written from the last byte to the first, and read where it stands.
 -- Assumes nothing.
 use Rattle.refusal.proofs.Basics.{◌≡◌, refl, sym, ◌∙◌, arith, ℕ, suc, ◌+◌, ◌/◌, ◌%◌, ◌^◌, ◌≤◌, ◌<◌, length, get_or, take, drop, set, take-append-drop, ne_eqb, lt-ltb, le-ltb, List, ◌∷◌, ◌++◌, take-suc, append_snoc, set_at, length-take-le, drop-length, drop-cons, take_at, pow-suc, div-one, div-div-eq-div-mul, left}
+use Rattle.std.specs.Prelude.{Ok, Err}
+use Rattle.refusal.specs.Refusal.{Answer, none}
 use Rattle.refusal.specs.declared.Place.{Place}
 use Rattle.refusal.specs.declared.Refusal.TheVariants.{Room}
-use Rattle.refusal.specs.declared.Answer.{Answer}
-use Rattle.refusal.specs.Refusal.{none}
 use Rattle.text.specs.Bytes.{count_of, marks}
 use Rattle.filling.specs.Filling.{fill, filled_answer, filled_by}
 use Rattle.filling.proofs.Theorems.{fill_length}
@@ -55,15 +55,15 @@ pub from_front : (s b : List ℕ) (number i k : ℕ) (after : List ℕ) → i �
 from_front s b number i k after e w = (rw e at w).content
 
 -- too little room: refused
-pub short_refused : (s : List ℕ) (room : ℕ) (place : Place) → room < length s → place ≡ none → Answer.Refused (Room place (length s)) ≡ filled_answer s room
+pub short_refused : (s : List ℕ) (room : ℕ) (place : Place) → room < length s → place ≡ none → Err (Room place (length s)) ≡ filled_answer s room
 short_refused s room place h g = rw (lt-ltb room (length s) h, g)
 
 -- room enough: accepted
-pub enough_accepted : (s : List ℕ) (room : ℕ) → length s ≤ room → Answer.Accepted ≡ filled_answer s room
+pub enough_accepted : (s : List ℕ) (room : ℕ) → length s ≤ room → (Ok tt) ≡ filled_answer s room
 enough_accepted s room h = rw (le-ltb room (length s) h)
 
 -- a filled text stands at the front
 pub filled_front : (s out last : List ℕ) (k : ℕ) (r : Answer) → length s ≤ length out → r ≡ filled_answer s (length out) → last ≡ filled_by r s k out → take (length s) last ≡ fill s k
 filled_front s out last k r h e f =
-    let a : r ≡ Answer.Accepted = e ∙ sym (left _ _ _ _ (le-ltb (length out) (length s) h) refl) in
+    let a : r ≡ (Ok tt) = e ∙ sym (left _ _ _ _ (le-ltb (length out) (length s) h) refl) in
     rw (f, a) (take_at (fill s k) (drop (length s) out) (length s) (fill_length s k))

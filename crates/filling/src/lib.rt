@@ -12,7 +12,7 @@ pub fn filled(s: &[u8], number: u16, out: &mut [u8]) -> Answer
 {
     let n = s.len();
     if n > out.len() {
-        return Answer::Refused(Refusal::Room(refusal::nowhere(), n));
+        return Err(Refusal::Room(refusal::nowhere(), n));
     }
     let mut k = number;
     let mut i = n;
@@ -25,5 +25,5 @@ pub fn filled(s: &[u8], number: u16, out: &mut [u8]) -> Answer
             out[i] = s[i];
         }
     }
-    Answer::Accepted
+    Ok(())
 }

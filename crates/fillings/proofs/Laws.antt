@@ -1,20 +1,18 @@
 -- Laws of the listing, over any rule: of ranges of numbers, of the first mark, of the ten digits at it, and of runs of stores.
 -- Assumes nothing.
 use Rattle.refusal.proofs.Basics.{◌≡◌, refl, sym, ap, ◌∙◌, arith, ℕ, zero, suc, ◌+◌, ◌-◌, ◌*◌, ◌/◌, ◌%◌, ◌^◌, ◌≤◌, ◌<◌, length, get_or, take, drop, set, length-take, eqb-true, ne_eqb, lt-ltb, le-ltb, le-leb, List, [], ◌∷◌, ◌++◌, Bool, true, false, cond, not, eqb, take-suc, take-suc-set, take-set-lt, zero-add, add-zero, suc-add, mul-one, suc-mul, add-mul, mul_assoc, one-mul, zero-mul, pow-succ', one-le-pow, mul-le-mul_right, le-mul_of_pos_right, pow-le-pow_right, div-eq_of_lt-le, add-one, left}
+use Rattle.std.specs.Prelude.{Option, Some, None, Result, Ok, Err}
+use Rattle.refusal.specs.declared.Refusal.{Refusal}
 use Rattle.refusal.specs.declared.Place.{Place}
 use Rattle.refusal.specs.declared.Refusal.TheVariants.{Room}
 use Rattle.refusal.specs.Refusal.{none}
 use Rattle.classes.specs.declared.Class.TheVariants.{Dry}
-use Rattle.text.specs.declared.Found.{Found}
-use Rattle.text.specs.declared.Found.TheVariants.{At, Nothing}
 use Rattle.text.specs.Bytes.{later, first_bad, count_of, marks}
 use Rattle.text.specs.Stands.{Stands}
 use Rattle.text.proofs.Stands.{stands_none, stands_append, front_stands}
 use Rattle.filling.specs.Filling.{fill}
 use Rattle.filling.proofs.Theorems.{fill_dry}
 use Rattle.fillings.specs.declared.Aim.{Aim}
-use Rattle.fillings.specs.declared.Listed.{Listed}
-use Rattle.fillings.specs.declared.Listed.TheVariants.{Count, Refused}
 use Rattle.fillings.specs.Fillings.{among, fillings}
 use Rattle.fillings.specs.Answers.{listed_in_room, left_by_listing, listing}
 use Rattle.fillings.specs.Mirror.{between, block, accepts}
@@ -68,16 +66,16 @@ pub data FirstMark : List ℕ → ℕ → Type 0 where
   there : {b : ℕ} {s : List ℕ} {i : ℕ} → eqb b 63 ≡ false → FirstMark s i → FirstMark (b ∷ s) (suc i)
 
 -- a scan that stops at a mark finds the first one
-pub first_mark : (s : List ℕ) (i : ℕ) → first_bad Dry s ≡ At i → FirstMark s i
+pub first_mark : (s : List ℕ) (i : ℕ) → first_bad Dry s ≡ Some i → FirstMark s i
 unfolding first_bad
 first_mark [] i e = let z : ◌≡◌ {A = ℕ} 0 1 = cc in absurd (omega arith)
 first_mark (b ∷ s) i e = go (eqb b 63) refl (first_mark s) e
   where
-    past : (f : Found) → first_bad Dry s ≡ f → eqb b 63 ≡ false → ((j : ℕ) → first_bad Dry s ≡ At j → FirstMark s j) → later f ≡ At i → FirstMark (b ∷ s) i
-    past (At j) g h ih e = let z : i ≡ suc j = cc in rw z (there h (ih j g))
-    past Nothing g h ih e = let z : ◌≡◌ {A = ℕ} 0 1 = cc in absurd (omega arith)
+    past : (f : Option ℕ) → first_bad Dry s ≡ f → eqb b 63 ≡ false → ((j : ℕ) → first_bad Dry s ≡ Some j → FirstMark s j) → later f ≡ Some i → FirstMark (b ∷ s) i
+    past (Some j) g h ih e = let z : i ≡ suc j = cc in rw z (there h (ih j g))
+    past None g h ih e = let z : ◌≡◌ {A = ℕ} 0 1 = cc in absurd (omega arith)
 
-    go : (t : Bool) → eqb b 63 ≡ t → ((j : ℕ) → first_bad Dry s ≡ At j → FirstMark s j) → cond (not t) (later (first_bad Dry s)) (At 0) ≡ At i → FirstMark (b ∷ s) i
+    go : (t : Bool) → eqb b 63 ≡ t → ((j : ℕ) → first_bad Dry s ≡ Some j → FirstMark s j) → cond (not t) (later (first_bad Dry s)) (Some 0) ≡ Some i → FirstMark (b ∷ s) i
     go true h ih e = let z : i ≡ 0 = cc in rw (z, eqb-true b 63 h) here
     go false h ih e = past (first_bad Dry s) refl h ih e
 
@@ -103,16 +101,16 @@ fill_first (here {s = s}) m k d g h e = let z : marks s ≡ m = omega arith in r
 fill_first (there {b = b} {s = s} n f) m k d g h e = rw (n, fill_first f m k d (rw n at g) h e)
 
 -- nothing found: no mark
-pub no_mark : (s : List ℕ) → first_bad Dry s ≡ Nothing → marks s ≡ 0
+pub no_mark : (s : List ℕ) → first_bad Dry s ≡ None → marks s ≡ 0
 unfolding first_bad count_of
 no_mark [] e = refl
 no_mark (b ∷ s) e = go (eqb b 63) (no_mark s) e
   where
-    past : (f : Found) → first_bad Dry s ≡ f → later f ≡ Nothing → first_bad Dry s ≡ Nothing
-    past (At j) g e = let z : ◌≡◌ {A = ℕ} 0 1 = cc in absurd (omega arith)
-    past Nothing g e = g
+    past : (f : Option ℕ) → first_bad Dry s ≡ f → later f ≡ None → first_bad Dry s ≡ None
+    past (Some j) g e = let z : ◌≡◌ {A = ℕ} 0 1 = cc in absurd (omega arith)
+    past None g e = g
 
-    go : (t : Bool) → (first_bad Dry s ≡ Nothing → marks s ≡ 0) → cond (not t) (later (first_bad Dry s)) (At 0) ≡ Nothing → cond t (suc (marks s)) (marks s) ≡ 0
+    go : (t : Bool) → (first_bad Dry s ≡ None → marks s ≡ 0) → cond (not t) (later (first_bad Dry s)) (Some 0) ≡ None → cond t (suc (marks s)) (marks s) ≡ 0
     go true ih e = let z : ◌≡◌ {A = ℕ} 0 1 = cc in absurd (omega arith)
     go false ih e = ih (past (first_bad Dry s) refl e)
 
@@ -256,12 +254,12 @@ unfolding between fillings
 written_all p s u e w = rw (e, zero-mul) at w
 
 -- more than there is room for: refused
-pub room_refused : (xs : List ℕ) (room n : ℕ) (place : Place) → n ≡ 0 + length xs → room < n → place ≡ none → Refused (Room place n) ≡ listed_in_room xs room
+pub room_refused : (xs : List ℕ) (room n : ℕ) (place : Place) → n ≡ 0 + length xs → room < n → place ≡ none → Err (Room place n) ≡ listed_in_room xs room
 room_refused xs room n place e h g = let z : n ≡ length xs = omega arith in rw (lt-ltb room (length xs) (omega arith), z, g)
 
 -- there is room: counted, and written at the front
 pub room_counted :
-    (xs b after : List ℕ) (n m : ℕ) → n ≡ 0 + length xs → Stands b 0 xs m after → length xs ≤ length b → (Count n ≡ listed_in_room xs (length b)) × (after ≡ xs ++ drop (length xs) b)
+    (xs b after : List ℕ) (n m : ℕ) → n ≡ 0 + length xs → Stands b 0 xs m after → length xs ≤ length b → (Ok n ≡ listed_in_room xs (length b)) × (after ≡ xs ++ drop (length xs) b)
 room_counted xs b after n m e w h = let z : n ≡ length xs = omega arith in (rw (le-ltb (length b) (length xs) h, z), front_stands b after xs m w h)
 
 -- ---------------------------------------------------------------------------
@@ -273,7 +271,7 @@ unfolding accepts fillings
 none_accepted s aim m = among_none (λ (k : ℕ). accepts aim (fill s k)) 0 (10 ^ marks s) (λ k. rw m)
 
 -- what a listing over the rule p answers and leaves
-abbrev pub ListedBy : (List ℕ → Bool) → List ℕ → List ℕ → Listed → List ℕ → Type 0
+abbrev pub ListedBy : (List ℕ → Bool) → List ℕ → List ℕ → Result ℕ Refusal → List ℕ → Type 0
 ListedBy p s out r o = (r ≡ listing p s (length out)) × (o ≡ left_by_listing r (fillings p s) out)
 
 module _ (s : List ℕ) (h : length s ≤ 22) (g : marks s ≤ 4) where
@@ -282,9 +280,9 @@ module _ (s : List ℕ) (h : length s ≤ 22) (g : marks s ≤ 4) where
   taken_on p room = rw (le-leb (length s) 22 h, le-leb (marks s) 4 g)
 
   -- so the count and the room are left
-  pub all_listed : (p : List ℕ → Bool) (out : List ℕ) (r : Listed) (o : List ℕ) → (r ≡ listed_in_room (fillings p s) (length out)) × (o ≡ left_by_listing r (fillings p s) out) → ListedBy p s out r o
+  pub all_listed : (p : List ℕ → Bool) (out : List ℕ) (r : Result ℕ Refusal) (o : List ℕ) → (r ≡ listed_in_room (fillings p s) (length out)) × (o ≡ left_by_listing r (fillings p s) out) → ListedBy p s out r o
   all_listed p out r o v = (v.0 ∙ sym (taken_on p (length out)), v.1)
 
   -- nothing is listed
-  pub none_listed : (out : List ℕ) (aim : Aim) → aim.mendable ≡ false → ListedBy (accepts aim) s out (Count 0) out
-  none_listed out aim m = all_listed (accepts aim) out (Count 0) out (rw (none_accepted s aim m) (left _ _ _ _ (le-ltb (length out) 0 (omega arith)) refl, refl))
+  pub none_listed : (out : List ℕ) (aim : Aim) → aim.mendable ≡ false → ListedBy (accepts aim) s out (Ok 0) out
+  none_listed out aim m = all_listed (accepts aim) out (Ok 0) out (rw (none_accepted s aim m) (left _ _ _ _ (le-ltb (length out) 0 (omega arith)) refl, refl))

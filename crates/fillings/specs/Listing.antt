@@ -1,6 +1,5 @@
 -- What is claimed of a listing (proofs/Theorems.antt): its members, their order and their number.
-use Rattle.std.specs.Prelude.{ℕ, zero, suc, ◌<◌, ◌≡◌, Bool, cond, List, [], ◌∷◌, length, get_or}
-use Rattle.std.specs.Prelude.{◌⊎◌}
+use Rattle.std.specs.Prelude.{ℕ, zero, suc, ◌<◌, ◌≡◌, Bool, cond, List, [], ◌∷◌, length, get_or, ◌⊎◌}
 
 -- k stands in the list
 unfoldable pub Member : ℕ → List ℕ → Type 0

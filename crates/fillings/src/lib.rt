@@ -14,7 +14,6 @@ ghost use Rattle.fillings.specs.Answers.{listing, left_by_listing};
 use classes::Class;
 use models::Model;
 use refusal::Refusal;
-use text::Found;
 
 // What is listed: IBANs, or references under a model, whose parts end so in every filling; nothing where no filling mends the form.
 #[derive(Clone, Copy)]
@@ -23,13 +22,6 @@ pub struct Aim {
     pub mendable: bool,
     pub model: Model,
     pub ends: usize,
-}
-
-// What a listing answers: how many fillings were written at the front of the lent slice, or a refusal.
-#[derive(Clone, Copy)]
-pub enum Listed {
-    Count(usize),
-    Refused(Refusal),
 }
 
 // Whether a filled text is accepted.
@@ -95,7 +87,7 @@ fn list(
     if left == 0 {
         return leaf(aim, &s[..n], number, out, at);
     }
-    let Found::At(i) = text::first_bad(Class::Dry, &s[..n]) else {
+    let Some(i) = text::first_bad(Class::Dry, &s[..n]) else {
         return at;
     };
     // One copy for all ten digits: each is put over the one before it.
@@ -113,29 +105,29 @@ fn list(
 // Lists the fillings of a text: the room is judged here alone, and a form that no filling can mend is a count of 0 here
 // alone. Four marks have ten thousand at most; where `out` has room for fewer they are counted first, so that a refusal
 // leaves it as it was. Refusals: 1 (above 22 bytes), 16, 15; W13's 26 will be asked behind 16.
-pub fn list_into(aim: Aim, s: &[u8], out: &mut [u16]) -> Listed
+pub fn list_into(aim: Aim, s: &[u8], out: &mut [u16]) -> Result<usize, Refusal>
     ensures { (result ≡ listing (accepts aim) s.now (length out.old)) × (out.new ≡ left_by_listing result (fillings (accepts aim) s.now) out.old) }
 {
     let n = s.len();
     if 22 < n {
-        return Listed::Refused(Refusal::Size(refusal::nowhere()));
+        return Err(Refusal::Size(refusal::nowhere()));
     }
     let left = text::count(63, s);
     if 4 < left {
-        return Listed::Refused(Refusal::Marks(refusal::nowhere()));
+        return Err(Refusal::Marks(refusal::nowhere()));
     }
     if !aim.mendable {
-        return Listed::Count(0);
+        return Ok(0);
     }
     let t = held(s);
     if 10000 <= out.len() {
-        return Listed::Count(list(aim, &t, n, left, 0, out, 0));
+        return Ok(list(aim, &t, n, left, 0, out, 0));
     }
     let mut scratch: [u16; 1] = [0];
     let count = list(aim, &t, n, left, 0, &mut scratch, 0);
     if count > out.len() {
-        return Listed::Refused(Refusal::Room(refusal::nowhere(), count));
+        return Err(Refusal::Room(refusal::nowhere(), count));
     }
     list(aim, &t, n, left, 0, out, 0);
-    Listed::Count(count)
+    Ok(count)
 }

@@ -1,6 +1,6 @@
 // The rules of a 301: what each of its places must hold.
 //
-// Document 01, "The wage file", its list for 301. A rule answers a verdict, one number.
+// Document 01, "The wage file", its list for 301. A rule answers a verdict.
 // It goes by a place's order, and each arm names its places, so that in a line of 1,002 bytes the compiler knows their bounds.
 #![tactic(auto)]
 
@@ -10,10 +10,11 @@ ghost use Rattle.wage_places.specs.Places.{spots, no_spot, part_at};
 ghost use Rattle.group_rules.specs.Rules.{group_rule};
 
 use classes::Class;
+use verdict::Verdict;
 use wage_places::{LineType, part_at};
 
 // A 301's rule for a place.
-pub fn group_rule(day: u64, k: usize, s: &[u8]) -> usize
+pub fn group_rule(day: u64, k: usize, s: &[u8]) -> Verdict
     ensures { result ≡ group_rule day (get_or (spots Group) k no_spot).field (part_at (get_or (spots Group) k no_spot) s.now) }
 {
     match k {
@@ -24,6 +25,6 @@ pub fn group_rule(day: u64, k: usize, s: &[u8]) -> usize
         4 => text::judge(Class::Digits, part_at(LineType::Group, 4, s)),
         5 => text::judge(Class::Digits, part_at(LineType::Group, 5, s)),
         6 => wage_contents::judge_date(day, 99991231, part_at(LineType::Group, 6, s)),
-        _ => 0,
+        _ => Ok(()),
     }
 }

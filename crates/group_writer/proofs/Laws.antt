@@ -1,6 +1,8 @@
 -- The number and the sum of a 301 in digits, and lent as two fields.
 -- Assumes nothing.
 use Rattle.refusal.proofs.Basics.{◌≡◌, sym, ap, ◌∙◌, refl, arith, ℕ, ◌<◌, ◌*◌, ◌/◌, ◌%◌, zero, suc, ◌-◌, ◌+◌, ◌≤◌, length, take, drop, get_or, length-append, List, ◌++◌, append_assoc, [], ◌∷◌, sets, length-sets, take_at, take_all, drop_at, get_or-drop, sets-eq, length-take-le}
+use Rattle.std.specs.Prelude.{Ok, Err}
+use Rattle.refusal.specs.Refusal.{Answer}
 use Rattle.sums.specs.Sums.{sum_of, limb}
 use Rattle.sums.specs.declared.Sum.{Sum}
 use Rattle.sums.proofs.Laws.{sum_small, in_limbs, low_small}
@@ -8,8 +10,6 @@ use Rattle.wage_places.specs.declared.LineType.TheVariants.{Group}
 use Rattle.wage_places.specs.Places.{spots}
 use Rattle.text.specs.Digits.{digits_text}
 use Rattle.room.proofs.Digits.{digits_length, digits_two_limbs}
-use Rattle.refusal.specs.declared.Answer.{Answer}
-use Rattle.refusal.specs.declared.Answer.TheVariants.{Accepted, Refused}
 use Rattle.refusal.specs.declared.Refusal.{Refusal}
 use Rattle.bare_line.specs.Bare.{bare_line}
 use Rattle.bare_line.proofs.Theorems.{bare_length}
@@ -59,17 +59,17 @@ unfolding fields_of
 two_fields a b e f = rw (take_at a b 5 e, drop_at a b 5 e, take_all 20 b (omega arith))
 
 -- one run was refused
-run_stops : (d next : Draft) (r : Answer) (line : List ℕ) → DraftsRight d r line → (q : Refusal) → r ≡ Refused q → DraftsRight (going_on d.answer d next) (Refused q) line
+run_stops : (d next : Draft) (r : Answer) (line : List ℕ) → DraftsRight d r line → (q : Refusal) → r ≡ Err q → DraftsRight (going_on d.answer d next) (Err q) line
 run_stops d next r line w q e =
-    let f : d.answer ≡ Refused q = sym w.answers ∙ e in
-    rw f (record { answers = refl; leaves = λ (h : Refused q ≡ Accepted). w.leaves (e ∙ h) })
+    let f : d.answer ≡ Err q = sym w.answers ∙ e in
+    rw f (record { answers = refl; leaves = λ (h : Err q ≡ Ok tt). w.leaves (e ∙ h) })
 
 -- one run was accepted, and the next goes on from its line
 run_goes_on :
-    (d : Draft) (next : List ℕ → Draft) (r : Answer) (line : List ℕ) → DraftsRight d r line → r ≡ Accepted
+    (d : Draft) (next : List ℕ → Draft) (r : Answer) (line : List ℕ) → DraftsRight d r line → r ≡ Ok tt
     → (s : Answer) (after : List ℕ) → DraftsRight (next line) s after → DraftsRight (going_on d.answer d (next d.line)) s after
 run_goes_on d next r line w e s after p =
-    let f : d.answer ≡ Accepted = sym w.answers ∙ e in
+    let f : d.answer ≡ (Ok tt) = sym w.answers ∙ e in
     rw (f, ← (w.leaves e)) p
 
 -- the first four fields
@@ -139,13 +139,13 @@ module _
     first = drafts_right start (first_run day kind (fields_of sizes text) start) start_size r₁ line₁ made₁
 
     -- the first four were refused
-    pub group_first : (q : Refusal) → r₁ ≡ Refused q → DraftsRight (drafted day kind Group (spots Group) (seven_fields (fields_of sizes text) a b) (bare_line Group)) (Refused q) line₁
+    pub group_first : (q : Refusal) → r₁ ≡ Err q → DraftsRight (drafted day kind Group (spots Group) (seven_fields (fields_of sizes text) a b) (bare_line Group)) (Err q) line₁
     group_first q e =
         let fs = fields_of sizes text in
         rw (← bared, group_runs day kind fs a b start) (run_stops (first_run day kind fs start) (later_runs day kind fs a b (first_run day kind fs start).line) r₁ line₁ first q e)
 
     module _
-        (taken₁ : r₁ ≡ Accepted) (size₁ : length line₁ ≡ length start) (line₂ : List ℕ) (r₂ : Answer)
+        (taken₁ : r₁ ≡ Ok tt) (size₁ : length line₁ ≡ length start) (line₂ : List ℕ) (r₂ : Answer)
         (made₂ : Drafts (in_scratch line₁ (worked_run day kind a b line₁)) r₂ line₂)
       where
         -- what the second run says
@@ -153,16 +153,16 @@ module _
         worked = drafts_right line₁ (worked_run day kind a b line₁) (size₁ ∙ start_size) r₂ line₂ made₂
 
         -- the number or the sum was refused
-        pub group_worked : (q : Refusal) → r₂ ≡ Refused q → DraftsRight (drafted day kind Group (spots Group) (seven_fields (fields_of sizes text) a b) (bare_line Group)) (Refused q) line₂
+        pub group_worked : (q : Refusal) → r₂ ≡ Err q → DraftsRight (drafted day kind Group (spots Group) (seven_fields (fields_of sizes text) a b) (bare_line Group)) (Err q) line₂
         group_worked q e =
             let fs = fields_of sizes text in
             rw (← bared, group_runs day kind fs a b start)
-            (run_goes_on (first_run day kind fs start) (later_runs day kind fs a b) r₁ line₁ first taken₁ (Refused q) line₂
+            (run_goes_on (first_run day kind fs start) (later_runs day kind fs a b) r₁ line₁ first taken₁ (Err q) line₂
             (run_stops (worked_run day kind a b line₁) (last_run day kind (drop 4 fs) (worked_run day kind a b line₁).line) r₂ line₂ worked q e))
 
         -- the last field says what the whole says
         pub group_last :
-            r₂ ≡ Accepted → length line₂ ≡ length line₁ → (ns rest : List ℕ) → ns ≡ drop 4 sizes → rest ≡ behind (take 4 sizes) text
+            r₂ ≡ Ok tt → length line₂ ≡ length line₁ → (ns rest : List ℕ) → ns ≡ drop 4 sizes → rest ≡ behind (take 4 sizes) text
             → (r₃ : Answer) (line₃ : List ℕ) → Drafts (in_scratch line₂ (last_run day kind (fields_of ns rest) line₂)) r₃ line₃
             → DraftsRight (drafted day kind Group (spots Group) (seven_fields (fields_of sizes text) a b) (bare_line Group)) r₃ line₃
         group_last taken₂ size₂ ns rest n e r₃ line₃ made₃ =

@@ -1,7 +1,6 @@
 -- Document 01, "The wage file", the writer: "a 301 from its fields and its group's lent 309 lines, whose number and sum it works out".
 use Rattle.std.specs.Prelude.{ℕ, ◌/◌, List, [], ◌∷◌, length, get_or}
-use Rattle.refusal.specs.Refusal.{first_of}
-use Rattle.refusal.specs.declared.Answer.{Answer}
+use Rattle.refusal.specs.Refusal.{Answer, first_of}
 use Rattle.text.specs.Digits.{digits_text}
 use Rattle.wage_places.specs.declared.LineType.TheVariants.{Group}
 use Rattle.wage_places.specs.Places.{spots}

@@ -56,7 +56,7 @@ fn draft_group(
     ensures { DraftsRight (group_draft day kind (fields_of sizes.now text.now) orders.now) result line.new }
 {
     bare_line::dress(LineType::Group, line);
-    if let Answer::Refused(r) = wage_draft::draft(
+    wage_draft::draft(
         day,
         kind,
         LineType::Group,
@@ -65,12 +65,8 @@ fn draft_group(
         text,
         sizes,
         line,
-    ) {
-        return Answer::Refused(r);
-    }
-    if let Answer::Refused(r) = draft_worked(day, kind, orders, line) {
-        return Answer::Refused(r);
-    }
+    )?;
+    draft_worked(day, kind, orders, line)?;
     let last = lent_fields::sizes_behind(sizes);
     wage_draft::draft(
         day,
@@ -97,9 +93,7 @@ fn write_judged(
     ensures { Writes (first_of (group_draft day kind (fields_of sizes.now text.now) orders.now).answer (for_room (length out.old))) (group_draft day kind (fields_of sizes.now text.now) orders.now).line out.old result out.new }
 {
     let mut line = [32u8; 1002];
-    if let Answer::Refused(r) = draft_group(day, kind, text, sizes, orders, &mut line) {
-        return Answer::Refused(r);
-    }
+    draft_group(day, kind, text, sizes, orders, &mut line)?;
     line_room::put_line(&line, out)
 }
 
@@ -115,16 +109,14 @@ pub fn write_group(
     ensures { Writes (for_sizes 5 sizes.now text.now (group_answer day kind (fields_of sizes.now text.now) orders.now (length out.old))) (group_draft day kind (fields_of sizes.now text.now) orders.now).line out.old result out.new }
 {
     if !lent_fields::is_lent_whole(text, sizes, 5) {
-        return Answer::Refused(Refusal::Size(refusal::nowhere()));
+        return Err(Refusal::Size(refusal::nowhere()));
     }
     if !dates::is_date(day) {
-        return Answer::Refused(Refusal::Date(refusal::nowhere()));
+        return Err(Refusal::Date(refusal::nowhere()));
     }
     if !line_room::is_kind(kind) {
-        return Answer::Refused(Refusal::Form(refusal::nowhere()));
+        return Err(Refusal::Form(refusal::nowhere()));
     }
-    if let Answer::Refused(r) = wage_orders::judge(day, kind, orders) {
-        return Answer::Refused(r);
-    }
+    wage_orders::judge(day, kind, orders)?;
     write_judged(day, kind, text, sizes, orders, out)
 }

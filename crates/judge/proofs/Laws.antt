@@ -1,11 +1,10 @@
 -- Laws of a step: which line is taken, and what is known of one that was.
 -- Assumes nothing.
 use Rattle.refusal.proofs.Basics.{◌≡◌, refl, sym, ◌∙◌, ℕ, ◌<◌, List, Bool, true, false, cond, ◌&&◌, eqb, ltb, lt-ltb, ltb-true, eqb-true, both_true, false≢true}
-use Rattle.refusal.specs.declared.Answer.{Answer}
-use Rattle.refusal.specs.declared.Answer.TheVariants as answer
+use Rattle.std.specs.Prelude.{Err, Ok, Result}
+use Rattle.refusal.specs.Refusal.{Answer}
+use Rattle.refusal.specs.declared.Refusal.{Refusal}
 use Rattle.wage_places.specs.declared.LineType.{LineType}
-use Rattle.wage_line.specs.declared.Typed.{Typed}
-use Rattle.wage_line.specs.declared.Typed.TheVariants as typed
 use Rattle.wage_line.specs.Line.{typed_of}
 use Rattle.wage_fields.specs.Rules.{places_answer, RightLine}
 use Rattle.condition.specs.declared.Judge.{Judge}
@@ -23,11 +22,11 @@ goes j s t a b c w e = rw (a, b, lt-ltb _ _ c, w.typed, e, w.fields)
 -- what is known of a line after which the judge is not refused: its type may come, its fields are right, and it was taken
 pub record Taken (j : Judge) (s : List ℕ) : Type 0 where
   pub line : LineType
-  pub typed : typed_of s ≡ typed.Line line
+  pub typed : typed_of s ≡ Ok line
   pub sound : is_sound j ≡ true
   pub limit : j.read.lines < 1000000
   pub stands : stand_verdict (stage_of j.condition) j.group line ≡ 0
-  pub fields : places_answer j.day j.kind line s ≡ answer.Accepted
+  pub fields : places_answer j.day j.kind line s ≡ Ok tt
   pub goes : stepped j s ≡ after j s line
 
 module _ (j : Judge) (s : List ℕ) where
@@ -38,9 +37,9 @@ module _ (j : Judge) (s : List ℕ) where
   taken_typed unrefused sound limit e = typed_as (typed_of s) refl e
     where
       placed :
-          (t : LineType) (a : Answer) → typed_of s ≡ typed.Line t → stand_verdict (stage_of j.condition) j.group t ≡ 0 → places_answer j.day j.kind t s ≡ a →
+          (t : LineType) (a : Answer) → typed_of s ≡ Ok t → stand_verdict (stage_of j.condition) j.group t ≡ 0 → places_answer j.day j.kind t s ≡ a →
           is_refused (after_places j s t a).condition ≡ false → Taken j s
-      placed t answer.Accepted f v p h = record {
+      placed t (Ok tt) f v p h = record {
         line = t;
         typed = f;
         sound = sound;
@@ -49,17 +48,17 @@ module _ (j : Judge) (s : List ℕ) where
         fields = p;
         goes = goes j s t unrefused sound limit (record { typed = f; fields = p }) v;
       }
-      placed t (answer.Refused r) f v p h = absurd (false≢true (sym h))
+      placed t (Err r) f v p h = absurd (false≢true (sym h))
 
       stood :
-          (t : LineType) (b : Bool) → typed_of s ≡ typed.Line t → let v = stand_verdict (stage_of j.condition) j.group t in eqb v 0 ≡ b →
+          (t : LineType) (b : Bool) → typed_of s ≡ Ok t → let v = stand_verdict (stage_of j.condition) j.group t in eqb v 0 ≡ b →
           is_refused (cond b (after_places j s t (places_answer j.day j.kind t s)) (refused_with (at_line v (next_line j)) j)).condition ≡ false → Taken j s
       stood t true f v h = placed t (places_answer j.day j.kind t s) f (eqb-true _ _ v) refl h
       stood t false f v h = absurd (false≢true (sym h))
 
-      typed_as : (t : Typed) → typed_of s ≡ t → is_refused (typed_step j s t).condition ≡ false → Taken j s
-      typed_as (typed.Line t) f h = stood t (eqb (stand_verdict (stage_of j.condition) j.group t) 0) f refl h
-      typed_as (typed.Refused r) f h = absurd (false≢true (sym h))
+      typed_as : (t : Result LineType Refusal) → typed_of s ≡ t → is_refused (typed_step j s t).condition ≡ false → Taken j s
+      typed_as (Ok t) f h = stood t (eqb (stand_verdict (stage_of j.condition) j.group t) 0) f refl h
+      typed_as (Err r) f h = absurd (false≢true (sym h))
 
   pub taken : is_refused (stepped j s).condition ≡ false → Taken j s
   unfolding stepped

@@ -1,22 +1,18 @@
 -- What is promised of the judge: a refusal stays, a record that it did not make and a line too many get 17, and no line gets 29.
 -- Assumes nothing.
 use Rattle.refusal.proofs.Basics.{◌≡◌, refl, sym, ap, ◌∙◌, arith, ℕ, List, [], ◌∷◌, ◌++◌, Bool, true, false, cond, ◌&&◌, eqb, ltb, false≢true}
-use Rattle.refusal.specs.Refusal.{none, refusal_number, in_line}
-use Rattle.refusal.specs.declared.Answer.{Answer}
-use Rattle.refusal.specs.declared.Answer.TheVariants as answer
+use Rattle.std.specs.Prelude.{Err, Ok, Result}
+use Rattle.refusal.specs.Refusal.{Answer, none, refusal_number, in_line}
 use Rattle.refusal.specs.declared.Refusal.{Refusal}
 use Rattle.refusal.specs.declared.Refusal.TheVariants.{Date, Beyond}
 use Rattle.dates.specs.Dates.{is_date}
 use Rattle.wage_places.specs.declared.LineType.{LineType}
 use Rattle.wage_places.specs.declared.LineType.TheVariants.{Label, Group, Order, Closing}
-use Rattle.wage_line.specs.declared.Typed.{Typed}
-use Rattle.wage_line.specs.declared.Typed.TheVariants as typed
 use Rattle.wage_line.specs.Line.{typed_of}
 use Rattle.wage_line.proofs.Theorems.{NotOverfull, type_never_29}
 use Rattle.wage_fields.specs.Rules.{places_answer}
 use Rattle.wage_fields.proofs.Theorems.{places_never_29}
 use Rattle.condition.specs.declared.Condition.TheVariants.{Refused}
-use Rattle.condition.specs.declared.Ending.TheVariants as ending
 use Rattle.condition.specs.declared.Judge.{Judge}
 use Rattle.condition.specs.Record.{stage_of, is_refused, refused_with, at_line, next_line, beyond, is_sound, fresh, begun, ended}
 use Rattle.condition.proofs.Theorems.{refusal_ends}
@@ -50,7 +46,7 @@ pub first_refusal : (j : Judge) (xs ys : List (List ℕ)) → is_refused (steps 
 first_refusal j xs ys e = steps_append j xs ys ∙ refusal_stays_on (steps j xs) e ys
 
 -- "if not a date, 11 with line, field and byte 0 comes before all else"
-pub no_date_is_11 : (day : ℕ) (ss : List (List ℕ)) → is_date day ≡ false → ended (steps (begun day) ss) ≡ ending.Refused (Date none)
+pub no_date_is_11 : (day : ℕ) (ss : List (List ℕ)) → is_date day ≡ false → ended (steps (begun day) ss) ≡ Err (Date none)
 unfolding begun
 no_date_is_11 day ss e =
     let j = refused_with (Date none) (fresh day) in
@@ -61,7 +57,7 @@ no_date_is_11 day ss e =
 
 module _ (j : Judge) (unrefused : is_refused j.condition ≡ false) where
   -- "an unrefused record with a count above 1,000,000 or a sum of 10^20 or more gets it too, at a step or the end"
-  pub not_made_is_17 : is_sound j ≡ false → (s : List ℕ) → ((stepped j s).condition ≡ Refused beyond) × (ended j ≡ ending.Refused beyond)
+  pub not_made_is_17 : is_sound j ≡ false → (s : List ℕ) → ((stepped j s).condition ≡ Refused beyond) × (ended j ≡ Err beyond)
   unfolding stepped ended
   not_made_is_17 e s = (rw (unrefused, e), rw (unrefused, e))
 
@@ -108,13 +104,13 @@ module _ (j : Judge) (s : List ℕ) where
       (other_clear (at_line v (next_line j)) j (stand_never_29 (stage_of j.condition) j.group t (next_line j)))
     where
       placed : (a : Answer) → places_answer j.day j.kind t s ≡ a → Clear (after_places j s t a)
-      placed answer.Accepted e = after_clear t
-      placed (answer.Refused r) e = other_clear (in_line (next_line j) r) j (λ h. places_never_29 j.day j.kind t s r e (in_line_29 (next_line j) r h))
+      placed (Ok tt) e = after_clear t
+      placed (Err r) e = other_clear (in_line (next_line j) r) j (λ h. places_never_29 j.day j.kind t s r e (in_line_29 (next_line j) r h))
 
   -- after any line
-  typed_clear : (t : Typed) → NotOverfull t → Clear (typed_step j s t)
-  typed_clear (typed.Line t) f = type_clear t
-  typed_clear (typed.Refused r) f = other_clear (in_line (next_line j) r) j (λ h. f (in_line_29 (next_line j) r h))
+  typed_clear : (t : Result LineType Refusal) → NotOverfull t → Clear (typed_step j s t)
+  typed_clear (Ok t) f = type_clear t
+  typed_clear (Err r) f = other_clear (in_line (next_line j) r) j (λ h. f (in_line_29 (next_line j) r h))
 
   -- a step leaves a judge so that is so
   step_clear : Clear j → Clear (stepped j s)

@@ -9,8 +9,7 @@ ghost use Rattle.condition.specs.Record.{is_sound};
 ghost use Rattle.judge.specs.Judge.{type_step, stepped};
 
 use condition::Judge;
-use refusal::Answer;
-use wage_line::Typed;
+use refusal::Refusal;
 use wage_places::LineType;
 
 // ---------------------------------------------------------------------------
@@ -26,13 +25,12 @@ fn type_step(j: Judge, t: LineType, s: &[u8]) -> Judge
     let kind = j.kind;
     let group = j.group;
     let next = j.read.lines + 1;
-    let verdict = standing::judge_standing(condition::stage(condition), group, t);
-    if verdict != 0 {
-        return condition::refused(j, condition::at_line(verdict, next));
+    if let Err(fault) = standing::judge_standing(condition, group, t) {
+        return condition::refused(j, verdict::told(fault, condition::at_line(next)));
     }
     match wage_fields::judge_places(day, kind, t, s) {
-        Answer::Accepted => standing::after(j, t, s),
-        Answer::Refused(r) => condition::refused(j, refusal::in_line(next, r)),
+        Ok(()) => standing::after(j, t, s),
+        Err(r) => condition::refused(j, refusal::in_line(next, r)),
     }
 }
 
@@ -47,10 +45,10 @@ pub fn step(j: Judge, s: &[u8]) -> Judge
     }
     if condition::is_sound(j) & (lines < 1000000) {
         match wage_line::read_type(s) {
-            Typed::Line(t) => type_step(j, t, s),
-            Typed::Refused(r) => condition::refused(j, refusal::in_line(lines + 1, r)),
+            Ok(t) => type_step(j, t, s),
+            Err(r) => condition::refused(j, refusal::in_line(lines + 1, r)),
         }
     } else {
-        condition::refused(j, condition::at_line(17, 1000001))
+        condition::refused(j, Refusal::Beyond(condition::at_line(1000001)))
     }
 }

@@ -1,6 +1,6 @@
 // The rules of a 300: what each of its places must hold.
 //
-// Document 01, "The wage file", its list for 300. A rule answers a verdict, one number.
+// Document 01, "The wage file", its list for 300. A rule answers a verdict.
 // It goes by a place's order, and each arm names its places, so that in a line of 1,002 bytes the compiler knows their bounds.
 #![tactic(auto)]
 
@@ -10,10 +10,11 @@ ghost use Rattle.wage_places.specs.Places.{spots, no_spot, part_at};
 ghost use Rattle.label_rules.specs.Rules.{label_rule};
 
 use classes::Class;
+use verdict::Verdict;
 use wage_places::{LineType, part_at};
 
 // A 300's rule for a place.
-pub fn label_rule(day: u64, k: usize, s: &[u8]) -> usize
+pub fn label_rule(day: u64, k: usize, s: &[u8]) -> Verdict
     ensures { result ≡ label_rule day (get_or (spots Label) k no_spot).field (part_at (get_or (spots Label) k no_spot) s.now) s.now }
 {
     match k {
@@ -29,6 +30,6 @@ pub fn label_rule(day: u64, k: usize, s: &[u8]) -> usize
             part_at(LineType::Label, 6, s),
         ),
         7 => wage_contents::judge_oib(false, part_at(LineType::Label, 7, s)),
-        _ => 0,
+        _ => Ok(()),
     }
 }

@@ -1,8 +1,8 @@
 -- What is promised of slips of either currency: accepted exactly when, never of both, and how the euro reader answers.
 -- Assumes nothing.
 use Rattle.refusal.proofs.Basics.{◌≡◌, refl, sym, ap, ◌∙◌, arith, ℕ, ◌≤◌, length, get_or, le-leb, List, [], ◌∷◌, ◌↔◌}
-use Rattle.refusal.specs.declared.Answer.{Answer}
-use Rattle.refusal.specs.declared.Answer.TheVariants as answer
+use Rattle.std.specs.Prelude.{Err, Ok}
+use Rattle.refusal.specs.Refusal.{Answer}
 use Rattle.refusal.specs.declared.Refusal.{Refusal}
 use Rattle.refusal.specs.declared.Refusal.TheVariants.{Form}
 use Rattle.text.specs.Bytes.{same}
@@ -64,8 +64,8 @@ unfolding ledger_of
 ledger_exactly c s n = (λ e. go (slip_answer_in (currency_of s) s) refl e, λ w. back w)
   where
     go : (a : Answer) → slip_answer_in (currency_of s) s ≡ a → ledger_from (currency_of s) (amount_of s) a ≡ amount_in c n → PlainSlip c s × (n ≡ amount_of s)
-    go answer.Accepted g e = let h = amount_one (currency_of s) c (amount_of s) n e in ((accepted_plainly c s).0 (rw h.0 at g), sym h.1)
-    go (answer.Refused r) g e = absurd (not_refused c n r e)
+    go (Ok tt) g e = let h = amount_one (currency_of s) c (amount_of s) n e in ((accepted_plainly c s).0 (rw h.0 at g), sym h.1)
+    go (Err r) g e = absurd (not_refused c n r e)
 
     back : PlainSlip c s × (n ≡ amount_of s) → ledger_from (currency_of s) (amount_of s) (slip_answer_in (currency_of s) s) ≡ amount_in c n
     back (w, e) = rw (plain_currency c s w, (accepted_plainly c s).1 w, e)
@@ -74,11 +74,11 @@ ledger_exactly c s n = (λ e. go (slip_answer_in (currency_of s) s) refl e, λ w
 -- The euro reader beside it
 
 -- what the euro reader accepts has the same fields here
-pub euro_fields : (s : List ℕ) → slip_answer s ≡ answer.Accepted → (n : ℕ) → (ledger_field s n ≡ field_of s n) × (ledger_part s n ≡ field_part s n)
+pub euro_fields : (s : List ℕ) → slip_answer s ≡ Ok tt → (n : ℕ) → (ledger_field s n ≡ field_of s n) × (ledger_part s n ≡ field_part s n)
 euro_fields s e n = let h = plain_currency currency.Euro s ((accepted_plainly currency.Euro s).0 e) in (rw h, rw h)
 
 -- pieces that begin with the header and `HRK`
-euro_refuses : (ps : List (List ℕ)) → 3 ≤ length ps → get_or ps 0 [] ≡ hrvhub30 → get_or ps 1 [] ≡ currency_text currency.Kuna → fields_answer currency.Euro 1 0 [] ps ≡ answer.Refused (Form (record { line = 0; field = 2; byte = 9 }))
+euro_refuses : (ps : List (List ℕ)) → 3 ≤ length ps → get_or ps 0 [] ≡ hrvhub30 → get_or ps 1 [] ≡ currency_text currency.Kuna → fields_answer currency.Euro 1 0 [] ps ≡ Err (Form (record { line = 0; field = 2; byte = 9 }))
 unfolding fields_answer
 euro_refuses [] l g h = absurd (omega arith)
 euro_refuses (p ∷ []) l g h = absurd (omega arith)
@@ -86,7 +86,7 @@ euro_refuses (p ∷ (q ∷ [])) l g h = absurd (omega arith)
 euro_refuses (p ∷ (q ∷ (r ∷ ps))) l g h = rw (g, h, hrvhub30_accepted currency.Euro [], (other_currency_refused hrvhub30).0)
 
 -- what is accepted as kuna the euro reader refuses with 5 at field 2
-pub kuna_refused : (s : List ℕ) → PlainSlip currency.Kuna s → slip_answer s ≡ answer.Refused (Form (record { line = 0; field = 2; byte = 9 }))
+pub kuna_refused : (s : List ℕ) → PlainSlip currency.Kuna s → slip_answer s ≡ Err (Form (record { line = 0; field = 2; byte = 9 }))
 unfolding slip_answer_in piece_of
 kuna_refused s w =
     rw (le-leb (length s) 483 w.short, w.ends, w.last)

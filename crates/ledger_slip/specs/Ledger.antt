@@ -1,7 +1,6 @@
 -- Document 02, W1: a slip of either currency. "Read both kinds and say which it was."
-use Rattle.std.specs.Prelude.{ℕ, cond, List}
-use Rattle.refusal.specs.declared.Answer.{Answer}
-use Rattle.refusal.specs.declared.Answer.TheVariants as answer
+use Rattle.std.specs.Prelude.{ℕ, cond, List, Err, Ok}
+use Rattle.refusal.specs.Refusal.{Answer}
 use Rattle.text.specs.declared.Part.{Part}
 use Rattle.text.specs.Bytes.{same}
 use Rattle.text.specs.Split.{split}
@@ -23,8 +22,8 @@ amount_in currency.Euro n = Euro (record { number = n })
 amount_in currency.Kuna n = Kuna (record { number = n })
 
 abbrev pub ledger_from : Currency → ℕ → Answer → LedgerSlip
-ledger_from c n answer.Accepted = amount_in c n
-ledger_from c n (answer.Refused r) = Refused r
+ledger_from c n (Ok tt) = amount_in c n
+ledger_from c n (Err r) = Refused r
 
 -- an accepted slip with its amount, or its refusal
 unfoldable pub ledger_of : List ℕ → LedgerSlip

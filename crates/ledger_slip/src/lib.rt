@@ -23,7 +23,7 @@ pub enum LedgerSlip {
 pub fn currency(s: &[u8]) -> Currency
     ensures { result ≡ currency_of s.now }
 {
-    if text::is_same(b"HRK", slip_handed::piece_text(s, 1)) {
+    if slip_handed::piece_text(s, 1) == b"HRK" {
         return Currency::Kuna;
     }
     Currency::Euro
@@ -45,8 +45,8 @@ pub fn read(s: &[u8]) -> LedgerSlip
 {
     let currency = currency(s);
     match slip::read_in(currency, s) {
-        Answer::Accepted => amount(currency, sums::number(slip_handed::piece_text(s, 2))),
-        Answer::Refused(r) => LedgerSlip::Refused(r),
+        Ok(()) => amount(currency, sums::number(slip_handed::piece_text(s, 2))),
+        Err(r) => LedgerSlip::Refused(r),
     }
 }
 

@@ -1,8 +1,6 @@
 -- How fields are lent to a writer: one behind the other in one text, with the size of each. "Each field is the bytes of its positions".
-use Rattle.std.specs.Prelude.{ℕ, ◌+◌, ◌-◌, ◌≤◌, ◌≡◌, Bool, cond, List, [], ◌∷◌, eqb, ltb, length, get_or, take, drop}
-use Rattle.refusal.specs.Refusal.{none}
-use Rattle.refusal.specs.declared.Answer.{Answer}
-use Rattle.refusal.specs.declared.Answer.TheVariants.{Refused}
+use Rattle.std.specs.Prelude.{ℕ, ◌+◌, ◌-◌, ◌≤◌, ◌≡◌, Bool, cond, List, [], ◌∷◌, eqb, ltb, length, get_or, take, drop, Err}
+use Rattle.refusal.specs.Refusal.{Answer, none}
 use Rattle.refusal.specs.declared.Refusal.TheVariants.{Size}
 
 -- the fields: a size that runs past the text's end gives a shorter field
@@ -34,7 +32,7 @@ lent_whole fields sizes text = eqb (together (take fields sizes)) (length text)
 
 -- "1": the sizes of so many fields are not the text's
 abbrev pub for_sizes : ℕ → List ℕ → List ℕ → Answer → Answer
-for_sizes fields sizes text rest = cond (lent_whole fields sizes text) rest (Refused (Size none))
+for_sizes fields sizes text rest = cond (lent_whole fields sizes text) rest (Err (Size none))
 
 -- ---------------------------------------------------------------------------
 -- Claims

@@ -9,7 +9,6 @@ ghost use Rattle.wage_fields.specs.Rules.{places_answer};
 ghost use Rattle.lent_order.specs.Order.{answer_of_line, no_order, lent_order_answer};
 
 use refusal::{Answer, Place, Refusal};
-use wage_line::Typed;
 use wage_places::LineType;
 
 // A line that is no order: 10.
@@ -21,7 +20,7 @@ fn no_order(n: usize) -> Answer
         field: 0,
         byte: 0,
     };
-    Answer::Refused(Refusal::Misplaced(place))
+    Err(Refusal::Misplaced(place))
 }
 
 // An order's fields, a refusal told of its line.
@@ -29,8 +28,8 @@ fn judge_fields(day: u64, kind: u64, n: usize, s: &[u8]) -> Answer
     ensures { result ≡ answer_of_line n (places_answer day kind LineType.Order s.now) }
 {
     match wage_fields::judge_places(day, kind, LineType::Order, s) {
-        Answer::Accepted => Answer::Accepted,
-        Answer::Refused(r) => Answer::Refused(refusal::in_line(n, r)),
+        Ok(()) => Ok(()),
+        Err(r) => Err(refusal::in_line(n, r)),
     }
 }
 
@@ -39,12 +38,12 @@ pub fn judge_order(day: u64, kind: u64, n: usize, s: &[u8]) -> Answer
     ensures { result ≡ lent_order_answer day kind n s.now }
 {
     match wage_line::read_type(s) {
-        Typed::Line(t) => match t {
+        Ok(t) => match t {
             LineType::Label => no_order(n),
             LineType::Group => no_order(n),
             LineType::Order => judge_fields(day, kind, n, s),
             LineType::Closing => no_order(n),
         },
-        Typed::Refused(r) => Answer::Refused(refusal::in_line(n, r)),
+        Err(r) => Err(refusal::in_line(n, r)),
     }
 }

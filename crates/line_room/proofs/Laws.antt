@@ -1,10 +1,9 @@
 -- Laws of a line put into lent room: what each refusal and the line itself leave, and what stands before the refusal of the room.
 -- Assumes nothing.
 use Rattle.refusal.proofs.Basics.{◌≡◌, refl, ap, ◌∙◌, arith, ℕ, ◌≤◌, ◌<◌, length, drop, lt-leb, le-leb, leb-false, List, ◌++◌, true, false, ◌||◌, Bool, cond, eqb, leb, sets}
-use Rattle.refusal.specs.Refusal.{none, first_of}
+use Rattle.std.specs.Prelude.{Ok, Err}
+use Rattle.refusal.specs.Refusal.{Answer, none, first_of}
 use Rattle.refusal.specs.declared.Place.{Place}
-use Rattle.refusal.specs.declared.Answer.{Answer}
-use Rattle.refusal.specs.declared.Answer.TheVariants.{Accepted, Refused}
 use Rattle.refusal.specs.declared.Refusal.{Refusal}
 use Rattle.refusal.specs.declared.Refusal.TheVariants.{Form, Date, Room}
 use Rattle.dates.specs.Dates.{is_date}
@@ -16,15 +15,15 @@ use Rattle.line_room.specs.LineRoom.{for_day, for_kind, for_room, Writes}
 
 module _ (line out : List ℕ) where
   -- a refusal of the first answer is that of both, and leaves the room as it was
-  pub refused_first : (a rest : Answer) (q : Refusal) → a ≡ Refused q → Writes (first_of a rest) line out (Refused q) out
+  pub refused_first : (a rest : Answer) (q : Refusal) → a ≡ Err q → Writes (first_of a rest) line out (Err q) out
   refused_first a rest q e = rw e (record { answers = refl; leaves = refl })
 
   -- where the first answer accepts, the second counts
-  pub accepted_first : (a rest r : Answer) (after : List ℕ) → a ≡ Accepted → Writes rest line out r after → Writes (first_of a rest) line out r after
+  pub accepted_first : (a rest r : Answer) (after : List ℕ) → a ≡ Ok tt → Writes rest line out r after → Writes (first_of a rest) line out r after
   accepted_first a rest r after e w = rw e w
 
   -- the day is no date
-  pub day_wrong : (day : ℕ) (rest : Answer) (p : Place) → is_date day ≡ false → p ≡ none → Writes (for_day day rest) line out (Refused (Date p)) out
+  pub day_wrong : (day : ℕ) (rest : Answer) (p : Place) → is_date day ≡ false → p ≡ none → Writes (for_day day rest) line out (Err (Date p)) out
   day_wrong day rest p e n = rw (e, n) (record { answers = refl; leaves = refl })
 
   -- the day is a date
@@ -33,7 +32,7 @@ module _ (line out : List ℕ) where
 
   -- the kind is neither 4 nor 5
   pub kind_wrong :
-      (kind : ℕ) (rest : Answer) (p : Place) → (eqb kind 4 || eqb kind 5) ≡ false → p ≡ none → Writes (for_kind kind rest) line out (Refused (Form p)) out
+      (kind : ℕ) (rest : Answer) (p : Place) → (eqb kind 4 || eqb kind 5) ≡ false → p ≡ none → Writes (for_kind kind rest) line out (Err (Form p)) out
   kind_wrong kind rest p e n = rw (e, n) (record { answers = refl; leaves = refl })
 
   -- the kind is one of them
@@ -43,11 +42,11 @@ module _ (line out : List ℕ) where
   kind_right kind rest r after e w = rw e w
 
   -- there is too little room
-  pub room_short : (p : Place) → length out < 1002 → p ≡ none → Writes (for_room (length out)) line out (Refused (Room p 1002)) out
+  pub room_short : (p : Place) → length out < 1002 → p ≡ none → Writes (for_room (length out)) line out (Err (Room p 1002)) out
   room_short p h n = rw (lt-leb 1002 (length out) h, n) (record { answers = refl; leaves = refl })
 
   -- there is room for the line
-  pub room_enough : (after : List ℕ) → length line ≡ 1002 → 1002 ≤ length out → after ≡ sets out 0 line → Writes (for_room (length out)) line out Accepted after
+  pub room_enough : (after : List ℕ) → length line ≡ 1002 → 1002 ≤ length out → after ≡ sets out 0 line → Writes (for_room (length out)) line out (Ok tt) after
   room_enough after e h w =
       let f : after ≡ line ++ drop 1002 out = w ∙ front out line (omega arith) ∙ ap (λ (n : ℕ). line ++ drop n out) e in
       rw (le-leb 1002 (length out) h) (record { answers = refl; leaves = f })
@@ -57,13 +56,13 @@ module _ (line out : List ℕ) where
 
 -- the refusal of the room
 abbrev pub no_room : Answer
-no_room = Refused (Room none 1002)
+no_room = Err (Room none 1002)
 
 -- the day is a date
 pub day_before : (day : ℕ) (rest : Answer) → for_day day rest ≡ no_room → (is_date day ≡ true) × (rest ≡ no_room)
 day_before day rest e = go (is_date day) refl e
   where
-    go : (b : Bool) → is_date day ≡ b → cond b rest (Refused (Date none)) ≡ no_room → (is_date day ≡ true) × (rest ≡ no_room)
+    go : (b : Bool) → is_date day ≡ b → cond b rest (Err (Date none)) ≡ no_room → (is_date day ≡ true) × (rest ≡ no_room)
     go true h g = (h, g)
     go false h g = let z : ◌≡◌ {A = ℕ} 0 1 = cc in absurd (omega arith)
 
@@ -71,19 +70,19 @@ day_before day rest e = go (is_date day) refl e
 pub kind_before : (kind : ℕ) (rest : Answer) → for_kind kind rest ≡ no_room → ((eqb kind 4 || eqb kind 5) ≡ true) × (rest ≡ no_room)
 kind_before kind rest e = go (eqb kind 4 || eqb kind 5) refl e
   where
-    go : (b : Bool) → (eqb kind 4 || eqb kind 5) ≡ b → cond b rest (Refused (Form none)) ≡ no_room → ((eqb kind 4 || eqb kind 5) ≡ true) × (rest ≡ no_room)
+    go : (b : Bool) → (eqb kind 4 || eqb kind 5) ≡ b → cond b rest (Err (Form none)) ≡ no_room → ((eqb kind 4 || eqb kind 5) ≡ true) × (rest ≡ no_room)
     go true h g = (h, g)
     go false h g = let z : ◌≡◌ {A = ℕ} 0 1 = cc in absurd (omega arith)
 
 -- what comes before is accepted
-pub accepted_before : (a rest : Answer) → (a ≡ no_room → ⊥) → first_of a rest ≡ no_room → (a ≡ Accepted) × (rest ≡ no_room)
-accepted_before Accepted rest other e = (refl, e)
-accepted_before (Refused r) rest other e = absurd (other e)
+pub accepted_before : (a rest : Answer) → (a ≡ no_room → ⊥) → first_of a rest ≡ no_room → (a ≡ Ok tt) × (rest ≡ no_room)
+accepted_before (Ok tt) rest other e = (refl, e)
+accepted_before (Err r) rest other e = absurd (other e)
 
 -- there is too little room
 pub room_before : (n : ℕ) → for_room n ≡ no_room → n < 1002
 room_before n e = go (leb 1002 n) refl e
   where
-    go : (b : Bool) → leb 1002 n ≡ b → cond b Accepted no_room ≡ no_room → n < 1002
+    go : (b : Bool) → leb 1002 n ≡ b → cond b (Ok tt) no_room ≡ no_room → n < 1002
     go true h g = let z : ◌≡◌ {A = ℕ} 0 1 = cc in absurd (omega arith)
     go false h g = leb-false 1002 n h

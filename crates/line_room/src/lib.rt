@@ -15,10 +15,10 @@ pub fn put_line(line: &[u8; 1002], out: &mut [u8]) -> Answer
     ensures { Writes (for_room (length out.old)) line.now out.old result out.new }
 {
     if out.len() < 1002 {
-        return Answer::Refused(Refusal::Room(refusal::nowhere(), 1002));
+        return Err(Refusal::Room(refusal::nowhere(), 1002));
     }
     room::put(out, 0, line);
-    Answer::Accepted
+    Ok(())
 }
 
 // Whether a kind is 4 or 5.
@@ -36,7 +36,7 @@ pub fn write_closing(day: u64, out: &mut [u8]) -> Answer
     ensures { Writes (closing_answer day (length out.old)) (bare_line LineType.Closing) out.old result out.new }
 {
     if !dates::is_date(day) {
-        return Answer::Refused(Refusal::Date(refusal::nowhere()));
+        return Err(Refusal::Date(refusal::nowhere()));
     }
     let mut line = [32u8; 1002];
     bare_line::dress(LineType::Closing, &mut line);

@@ -5,7 +5,6 @@
 // of it into lent room, line by line; its theorems say that this is `listing_printed` of the whole input.
 #![tactic(auto)]
 
-use fillings::Listed;
 use line::Seen;
 use std::io::Read;
 use text::front;
@@ -87,13 +86,13 @@ fn write_listing<'a>(
         return;
     }
     match r {
-        Listed::Count(n) => write_lines(rt, listing_printed::text(seen, head, tail), numbers, n),
-        Listed::Refused(_) => {}
+        Ok(n) => write_lines(rt, listing_printed::text(seen, head, tail), numbers, n),
+        Err(_) => {}
     }
 }
 
 // Writes the first line, at most 30 bytes; whether it was written.
-fn write_first(rt: &(impl Print + Eprint), r: Listed) -> bool {
+fn write_first(rt: &(impl Print + Eprint), r: Result<usize, Refusal>) -> bool {
     let mut out = [0u8; 30];
     let n = listing_printed::put_first(r, &mut out);
     words::publish(rt, front(&out, n))

@@ -2,6 +2,8 @@
 -- `line` keeps just these) are answered as the whole line is, and fill to the same texts where the answer is a count; and the rooms
 -- that the program lends hold its lines. Assumes nothing.
 use Rattle.refusal.proofs.Basics.{◌≡◌, refl, sym, ap, ◌∙◌, arith, ℕ, ◌≤◌, ◌<◌, length, take, length-take, ne_eqb, leb-true, leb-false, lt-leb, le-ltb, List, [], ◌∷◌, ◌++◌, append_assoc, Bool, true, false, cond, leb, take_all}
+use Rattle.std.specs.Prelude.{Result, Ok, Err}
+use Rattle.refusal.specs.declared.Refusal.{Refusal}
 use Rattle.refusal.specs.Refusal.{none, refusal_number}
 use Rattle.refusal.specs.declared.Refusal.TheVariants.{Size}
 use Rattle.line.specs.Line.{has, line_of, head_of, tail_of}
@@ -12,8 +14,6 @@ use Rattle.model_text.specs.Texts.{model_number}
 use Rattle.filling.specs.Filling.{fill}
 use Rattle.filling.proofs.Theorems.{fill_length}
 use Rattle.fillings.specs.Fillings.{fillings}
-use Rattle.fillings.specs.declared.Listed.{Listed}
-use Rattle.fillings.specs.declared.Listed.TheVariants.{Count, Refused}
 use Rattle.wet.specs.Wet.{iban_listing, reference_listing, reference_fillings}
 use Rattle.printed.specs.Printed.{decimal, counted, refused_word, Puts}
 use Rattle.printed.proofs.Theorems.{printed_whole, decimal_at_most, both_at_most, counted_at_most}
@@ -67,8 +67,8 @@ reference_kept m s room =
 
 -- its two sides, cut, have the line's answer
 sides_kept : (ended spaced : Bool) (h t : List ℕ) (room : ℕ) →
-    cond ended (cond spaced (reference_listing (take 22 h) (take 23 t) room) (iban_listing (take 22 h) room)) (Refused (Size none)) ≡
-    cond ended (cond spaced (reference_listing h t room) (iban_listing h room)) (Refused (Size none))
+    cond ended (cond spaced (reference_listing (take 22 h) (take 23 t) room) (iban_listing (take 22 h) room)) (Err (Size none)) ≡
+    cond ended (cond spaced (reference_listing h t room) (iban_listing h room)) (Err (Size none))
 sides_kept true true h t room = reference_kept h t room
 sides_kept true false h t room = iban_kept h room
 sides_kept false spaced h t room = refl
@@ -82,8 +82,8 @@ text_kept false h t l = (rw (kept_whole 22 h l), kept_whole 22 h l)
 -- k is answered as s is; where that is a count, its numbers and its text are those of s, and so it prints what s does
 pub record AnsweredAs (s : List ℕ) (k : Kept) : Type 0 where
   pub answer : (room : ℕ) → kept_listing k.seen k.head k.tail room ≡ line_listing s room
-  pub numbers : (room n : ℕ) → line_listing s room ≡ Count n → kept_fillings k.seen k.head k.tail ≡ line_fillings s
-  pub text : (room n : ℕ) → line_listing s room ≡ Count n → kept_text k.seen k.head k.tail ≡ wet_text s
+  pub numbers : (room n : ℕ) → line_listing s room ≡ Ok n → kept_fillings k.seen k.head k.tail ≡ line_fillings s
+  pub text : (room n : ℕ) → line_listing s room ≡ Ok n → kept_text k.seen k.head k.tail ≡ wet_text s
   pub output : answer_printed (kept_listing k.seen k.head k.tail 10000) (kept_text k.seen k.head k.tail) (kept_fillings k.seen k.head k.tail) ≡ listing_printed s
 
 module _ (s : List ℕ) (k : Kept) (z : LineKept 22 23 s k) where
@@ -91,16 +91,16 @@ module _ (s : List ℕ) (k : Kept) (z : LineKept 22 23 s k) where
   unfolding kept_listing line_listing
   same_answer room = rw (z.head, z.tail, z.spaced, z.ended) (sides_kept (has 10 s) (has 32 (line_of s)) (head_of s) (tail_of s) room)
 
-  same_text : (room n : ℕ) → line_listing s room ≡ Count n → (kept_fillings k.seen k.head k.tail ≡ line_fillings s) × (kept_text k.seen k.head k.tail ≡ wet_text s)
+  same_text : (room n : ℕ) → line_listing s room ≡ Ok n → (kept_fillings k.seen k.head k.tail ≡ line_fillings s) × (kept_text k.seen k.head k.tail ≡ wet_text s)
   unfolding line_listing kept_fillings line_fillings kept_text wet_text
   same_text room n e =
       rw (z.head, z.tail, z.spaced)
       (text_kept (has 32 (line_of s)) (head_of s) (tail_of s) (line_count (has 10 s) (has 32 (line_of s)) (head_of s) (tail_of s) room n e).0)
 
-  same_output : (r : Listed) → line_listing s 10000 ≡ r → answer_printed r (kept_text k.seen k.head k.tail) (kept_fillings k.seen k.head k.tail) ≡ answer_printed r (wet_text s) (line_fillings s)
+  same_output : (r : Result ℕ Refusal) → line_listing s 10000 ≡ r → answer_printed r (kept_text k.seen k.head k.tail) (kept_fillings k.seen k.head k.tail) ≡ answer_printed r (wet_text s) (line_fillings s)
   unfolding answer_printed
-  same_output (Count n) e = let w = same_text 10000 n e in rw (w.0, w.1)
-  same_output (Refused r) e = refl
+  same_output (Ok n) e = let w = same_text 10000 n e in rw (w.0, w.1)
+  same_output (Err r) e = refl
 
 -- every input is answered by what is kept of it, over any two arrays of 22 and of 23 bytes
 pub line_answered : (s head₀ tail₀ : List ℕ) → length head₀ ≡ 22 → length tail₀ ≡ 23 → AnsweredAs s (feed (kept_of starting head₀ tail₀) s)
@@ -112,7 +112,7 @@ line_answered s head₀ tail₀ g h =
       numbers = λ room n e. (same_text s k z room n e).0;
       text = λ room n e. (same_text s k z room n e).1;
       output =
-          ap (λ (r : Listed). answer_printed r (kept_text k.seen k.head k.tail) (kept_fillings k.seen k.head k.tail)) (same_answer s k z 10000) ∙
+          ap (λ (r : Result ℕ Refusal). answer_printed r (kept_text k.seen k.head k.tail) (kept_fillings k.seen k.head k.tail)) (same_answer s k z 10000) ∙
           same_output s k z (line_listing s 10000) refl;
     }
 
@@ -120,17 +120,17 @@ line_answered s head₀ tail₀ g h =
 -- The rooms that the program lends
 
 -- a first line has at most 30 bytes
-first_at_most : (r : Listed) → length (first_line r) ≤ 30
+first_at_most : (r : Result ℕ Refusal) → length (first_line r) ≤ 30
 unfolding first_line
-first_at_most (Count n) = both_at_most (decimal n) fillings_word 20 10 (decimal_at_most n) (omega arith)
-first_at_most (Refused r) = both_at_most (counted refused_word (refusal_number r)) (10 ∷ []) 28 2 (counted_at_most refused_word (refusal_number r)) (omega arith)
+first_at_most (Ok n) = both_at_most (decimal n) fillings_word 20 10 (decimal_at_most n) (omega arith)
+first_at_most (Err r) = both_at_most (counted refused_word (refusal_number r)) (10 ∷ []) 28 2 (counted_at_most refused_word (refusal_number r)) (omega arith)
 
 -- so it stands whole in a room of 30
-pub first_printed_whole : (r : Listed) (out : List ℕ) (n : ℕ) (after : List ℕ) → Puts (first_line r) 0 out n after → 30 ≤ length out → take n after ≡ first_line r
+pub first_printed_whole : (r : Result ℕ Refusal) (out : List ℕ) (n : ℕ) (after : List ℕ) → Puts (first_line r) 0 out n after → 30 ≤ length out → take n after ≡ first_line r
 first_printed_whole r out n after p h = printed_whole (first_line r) out n after p (omega (arith, first_at_most r))
 
 -- a text that is listed has at most 22 bytes
-pub wet_at_most : (s : List ℕ) (room n : ℕ) → line_listing s room ≡ Count n → length (wet_text s) ≤ 22
+pub wet_at_most : (s : List ℕ) (room n : ℕ) → line_listing s room ≡ Ok n → length (wet_text s) ≤ 22
 unfolding line_listing wet_text
 wet_at_most s room n e = (line_count (has 10 s) (has 32 (line_of s)) (head_of s) (tail_of s) room n e).0
 

@@ -1,6 +1,7 @@
 -- Document 01, "Wet slips": "The listing program reads one line, an IBAN or a model, one space and a reference, and writes the count and the
 -- filled texts, or `refused` and the number (the first space divides; no LF is 1)."
-use Rattle.std.specs.Prelude.{ℕ, cond, List, [], ◌∷◌, ◌++◌, ltb, length}
+use Rattle.std.specs.Prelude.{ℕ, cond, List, [], ◌∷◌, ◌++◌, ltb, length, Result, Ok, Err}
+use Rattle.refusal.specs.declared.Refusal.{Refusal}
 use Rattle.refusal.specs.Basics.{spelt}
 use Rattle.refusal.specs.Refusal.{none, refusal_number}
 use Rattle.refusal.specs.declared.Refusal.TheVariants.{Size}
@@ -8,8 +9,6 @@ use Rattle.line.specs.Line.{has, line_of, head_of, tail_of}
 use Rattle.account.specs.Answers.{is_iban}
 use Rattle.filling.specs.Filling.{fill}
 use Rattle.fillings.specs.Fillings.{fillings}
-use Rattle.fillings.specs.declared.Listed.{Listed}
-use Rattle.fillings.specs.declared.Listed.TheVariants.{Count, Refused}
 use Rattle.wet.specs.Wet.{iban_listing, reference_listing, reference_fillings}
 use Rattle.printed.specs.Printed.{decimal, counted, refused_word}
 
@@ -17,11 +16,11 @@ use Rattle.printed.specs.Printed.{decimal, counted, refused_word}
 -- What is answered to an input
 
 -- "one line, an IBAN or a model, one space and a reference"; "the first space divides; no LF is 1"
-unfoldable pub line_listing : List ℕ → ℕ → Listed
+unfoldable pub line_listing : List ℕ → ℕ → Result ℕ Refusal
 line_listing s room =
     cond (has 10 s)
     (cond (has 32 (line_of s)) (reference_listing (head_of s) (tail_of s) room) (iban_listing (head_of s) room))
-    (Refused (Size none))
+    (Err (Size none))
 
 -- the numbers of its fillings
 unfoldable pub line_fillings : List ℕ → List ℕ
@@ -39,9 +38,9 @@ abbrev pub fillings_word : List ℕ
 fillings_word = spelt " fillings\n"
 
 -- "writes the count", `10 fillings`, "or `refused` and the number", `refused 1`; and a line feed
-unfoldable pub first_line : Listed → List ℕ
-first_line (Count n) = decimal n ++ fillings_word
-first_line (Refused r) = counted refused_word (refusal_number r) ++ (10 ∷ [])
+unfoldable pub first_line : Result ℕ Refusal → List ℕ
+first_line (Ok n) = decimal n ++ fillings_word
+first_line (Err r) = counted refused_word (refusal_number r) ++ (10 ∷ [])
 
 -- a filled text, and a line feed
 abbrev pub filled_line : List ℕ → ℕ → List ℕ
@@ -57,9 +56,9 @@ filled_lines text [] = []
 filled_lines text (k ∷ ks) = filled_line text k ++ filled_lines text ks
 
 -- all that is written of an answer, a text and its numbers: a refusal has no filled texts
-unfoldable pub answer_printed : Listed → List ℕ → List ℕ → List ℕ
-answer_printed (Count n) text ks = first_line (Count n) ++ filled_lines text ks
-answer_printed (Refused r) text ks = first_line (Refused r)
+unfoldable pub answer_printed : Result ℕ Refusal → List ℕ → List ℕ → List ℕ
+answer_printed (Ok n) text ks = first_line (Ok n) ++ filled_lines text ks
+answer_printed (Err r) text ks = first_line (Err r)
 
 -- the whole output; there is room for the ten thousand numbers of four digits
 abbrev pub listing_printed : List ℕ → List ℕ

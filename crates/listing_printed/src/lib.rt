@@ -8,7 +8,6 @@ ghost use Rattle.printed.specs.Printed.{Puts};
 ghost use Rattle.listing_printed.specs.Listing.{first_line, line_in_room};
 ghost use Rattle.listing_printed.specs.Mirror.{kept_listing, kept_fillings, kept_text};
 
-use fillings::Listed;
 use line::Seen;
 use refusal::{Answer, Refusal};
 use text::front;
@@ -26,14 +25,14 @@ pub fn text<'a>(seen: Seen, head: &'a [u8], tail: &'a [u8]) -> &'a [u8]
 }
 
 // The answer to a kept line, the numbers of its fillings at the front of `numbers`: no line feed is 1.
-pub fn list(seen: Seen, head: &[u8], tail: &[u8], numbers: &mut [u16]) -> Listed
+pub fn list(seen: Seen, head: &[u8], tail: &[u8], numbers: &mut [u16]) -> Result<usize, Refusal>
     ensures { (result ≡ kept_listing seen head.now tail.now (length numbers.old)) × (numbers.new ≡ left_by_listing result (kept_fillings seen head.now tail.now) numbers.old) }
 {
     let before = seen.head;
     let behind = seen.tail;
     let ended = seen.ended;
     if !ended {
-        return Listed::Refused(Refusal::Size(refusal::nowhere()));
+        return Err(Refusal::Size(refusal::nowhere()));
     }
     if seen.spaced {
         return wet::list_reference(front(head, before), front(tail, behind), numbers);
@@ -42,15 +41,15 @@ pub fn list(seen: Seen, head: &[u8], tail: &[u8], numbers: &mut [u16]) -> Listed
 }
 
 // The first line: the count, or `refused` and the number.
-pub fn put_first(r: Listed, out: &mut [u8]) -> usize
+pub fn put_first(r: Result<usize, Refusal>, out: &mut [u8]) -> usize
     ensures { Puts (first_line r) 0 out.old result out.new }
 {
     match r {
-        Listed::Count(n) => {
+        Ok(n) => {
             let next = printed::put_number(out, 0, n as u64);
             printed::put(out, next, b" fillings\n")
         }
-        Listed::Refused(refused) => {
+        Err(refused) => {
             let number = refusal::number(refused) as usize;
             let next = printed::put_counted(out, 0, b"refused ", number);
             printed::put(out, next, b"\n")
@@ -63,7 +62,7 @@ pub fn put_filled(text: &[u8], number: u16, out: &mut [u8]) -> usize
     ensures { Puts (line_in_room text.now number (length out.old)) 0 out.old result out.new }
 {
     match filling::filled(text, number, out) {
-        Answer::Accepted => printed::put(out, text.len(), b"\n"),
-        Answer::Refused(_) => 0,
+        Ok(()) => printed::put(out, text.len(), b"\n"),
+        Err(_) => 0,
     }
 }

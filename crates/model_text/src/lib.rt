@@ -6,36 +6,28 @@
 ghost use Rattle.std.specs.Prelude.{◌≡◌};
 ghost use Rattle.model_text.specs.Texts.{model_number, model_verdict};
 
-use text::Found;
+use verdict::{Fault, Verdict};
 
 // The number of a model's text, `HR` and two digits.
-pub fn number(s: &[u8]) -> Found
+pub fn number(s: &[u8]) -> Option<usize>
     ensures { result ≡ model_number s.now }
 {
     if s.len() != 4 {
-        return Found::Nothing;
+        return None;
     }
     if s[0] != 72 {
-        return Found::Nothing;
+        return None;
     }
     if s[1] != 82 {
-        return Found::Nothing;
+        return None;
     }
     text::two_digits(s[2], s[3])
 }
 
 // A model's text: 5, then 7 where it is not handled.
-pub fn judge(s: &[u8]) -> usize
+pub fn judge(s: &[u8]) -> Verdict
     ensures { result ≡ model_verdict s.now }
 {
-    match number(s) {
-        Found::At(n) => {
-            let m = models::rules(n);
-            if m.handled {
-                return 0;
-            }
-            7
-        }
-        Found::Nothing => 5,
-    }
+    let n = number(s).ok_or(Fault::Form)?;
+    verdict::only_if(models::rules(n).handled, Fault::Model)
 }

@@ -1,12 +1,11 @@
 -- What acceptance of what only a 309 holds means: each verdict is 0 exactly when the place is what document 01 says.
 -- Assumes nothing.
 use Rattle.refusal.proofs.Basics.{◌≡◌, refl, sym, ◌∙◌, ℕ, length, get_or, eqb-true, List, Bool, true, false, cond, not, ◌&&◌, ◌||◌, false≢true, eqb, ◌↔◌}
+use Rattle.std.specs.Prelude.{Option, Some, None}
 use Rattle.verdict.specs.Verdict.{only_if}
 use Rattle.verdict.proofs.Verdicts.{both_pass, test_holds}
 use Rattle.text.specs.Bytes.{bytes_verdict, first_bad, all_of, trimmed}
 use Rattle.classes.specs.declared.Class.TheVariants.{Digits, Reference, Letters, Blanks, Description}
-use Rattle.text.specs.declared.Found.{Found}
-use Rattle.text.specs.declared.Found.TheVariants.{At, Nothing}
 use Rattle.text.proofs.Blanks.{trimmed_blanks, trimmed_some}
 use Rattle.model_text.specs.Texts.{model_number, model_from}
 use Rattle.model_text.proofs.Theorems.{HandledModel, model_accepted_exactly}
@@ -46,9 +45,9 @@ pub model_accepted : (f : List ℕ) → (held_verdict (held_in f) ≡ 0) ↔ (al
 unfolding held_in held_verdict
 model_accepted f = go (all_of Blanks f)
   where
-    by_number : (n : Found) → held_verdict (held_from n) ≡ model_from n
-    by_number (At n) = refl
-    by_number Nothing = refl
+    by_number : (n : Option ℕ) → held_verdict (held_from n) ≡ model_from n
+    by_number (Some n) = refl
+    by_number None = refl
 
     go : (t : Bool) → (held_verdict (cond t Blank (held_from (model_number f))) ≡ 0) ↔ (t ≡ false → HandledModel f)
     go true = ((λ e q. absurd (false≢true (sym q))), (λ w. refl))
@@ -64,9 +63,9 @@ pub reference_accepted :
 unfolding held_in reference_held
 reference_accepted m f = go (all_of Blanks m)
   where
-    by_number : (n : Found) → reference_held (held_from n) f ≡ number_verdict (trimmed f) n
-    by_number (At n) = refl
-    by_number Nothing = refl
+    by_number : (n : Option ℕ) → reference_held (held_from n) f ≡ number_verdict (trimmed f) n
+    by_number (Some n) = refl
+    by_number None = refl
 
     go : (t : Bool) → (reference_held (cond t Blank (held_from (model_number m))) f ≡ 0) ↔ ((t ≡ true → all_of Blanks f ≡ true) × (t ≡ false → RightReference m (trimmed f)))
     go true = ((λ e. ((λ q. (blank_model_accepted f).0 e), (λ q. absurd (false≢true (sym q))))), (λ w. (blank_model_accepted f).1 (w.0 refl)))
@@ -90,10 +89,10 @@ held_blank_lem : (m : List ℕ) → held_blank (held_in m) ≡ all_of Blanks m
 unfolding held_in
 held_blank_lem m = go (all_of Blanks m) (model_number m)
   where
-    go : (t : Bool) (n : Found) → held_blank (cond t Blank (held_from n)) ≡ t
+    go : (t : Bool) (n : Option ℕ) → held_blank (cond t Blank (held_from n)) ≡ t
     go true n = refl
-    go false (At n) = refl
-    go false Nothing = refl
+    go false (Some n) = refl
+    go false None = refl
 
 -- "For kind 5, code 500 with a blank recipient's model is 5": m is the place of the recipient's model
 pub code_modelled_accepted :

@@ -1,6 +1,6 @@
 // What only a 309 holds: purpose, sign, model and reference, description and code, one rule for each.
 //
-// Document 01, "The wage file". Each rule answers a verdict, as those of `wage_contents` do: 0, or within a field 3 with its
+// Document 01, "The wage file". Each rule answers a verdict, as those of `wage_contents` do: within a field 3 with its
 // byte counted within the place, 5, 7, 8, 5 of a reference's contents, 9.
 #![tactic(auto)]
 
@@ -8,7 +8,7 @@ ghost use Rattle.std.specs.Prelude.{◌≡◌, get_or};
 ghost use Rattle.order_contents.specs.Contents.{purpose_place_verdict, sign_verdict, held_in, held_blank, held_verdict, reference_held, description_verdict, code_verdict};
 
 use classes::Class;
-use text::Found;
+use verdict::{Fault, Verdict};
 
 // What a model's place holds: nothing, a text that is no model, or a model's number.
 #[derive(Clone, Copy)]
@@ -22,10 +22,10 @@ pub enum Held {
 // Purpose, sign
 
 // Blank, or letters: 5.
-pub fn judge_purpose(f: &[u8]) -> usize
+pub fn judge_purpose(f: &[u8]) -> Verdict
     ensures { result ≡ purpose_place_verdict f.now }
 {
-    wage_contents::only_if(text::all_blank(f) | text::all_of(Class::Letters, f), 5)
+    verdict::only_if(text::all_blank(f) | text::all_of(Class::Letters, f), Fault::Form)
 }
 
 // A place's byte: its first; 0 where it has none.
@@ -39,11 +39,11 @@ fn first_byte(f: &[u8]) -> u8
 }
 
 // One of three bytes: 5.
-pub fn judge_sign(a: u8, b: u8, c: u8, f: &[u8]) -> usize
+pub fn judge_sign(a: u8, b: u8, c: u8, f: &[u8]) -> Verdict
     ensures { result ≡ sign_verdict a b c f.now }
 {
     let x = first_byte(f);
-    wage_contents::only_if((x == a) | ((x == b) | (x == c)), 5)
+    verdict::only_if((x == a) | ((x == b) | (x == c)), Fault::Form)
 }
 
 // ---------------------------------------------------------------------------
@@ -57,34 +57,30 @@ pub fn model_in(m: &[u8]) -> Held
         return Held::Blank;
     }
     match model_text::number(m) {
-        Found::At(n) => Held::Number(n),
-        Found::Nothing => Held::NoModel,
+        Some(n) => Held::Number(n),
+        None => Held::NoModel,
     }
 }
 
 // A model's place by what it holds: 5, 7.
-pub fn judge_model(held: Held) -> usize
+pub fn judge_model(held: Held) -> Verdict
     ensures { result ≡ held_verdict held }
 {
     match held {
-        Held::Blank => 0,
-        Held::NoModel => 5,
-        Held::Number(n) => {
-            let model = models::rules(n);
-            let handled = model.handled;
-            wage_contents::only_if(handled, 7)
-        }
+        Held::Blank => Ok(()),
+        Held::NoModel => Err(Fault::Form),
+        Held::Number(n) => verdict::only_if(models::rules(n).handled, Fault::Model),
     }
 }
 
 // A reference by what its model's place holds: 3, 8, 5, 9, and the model's own 5 and 7.
-pub fn judge_reference(held: Held, f: &[u8]) -> usize
+pub fn judge_reference(held: Held, f: &[u8]) -> Verdict
     ensures { result ≡ reference_held held f.now }
 {
     let g = text::trim(f);
     match held {
-        Held::Blank => wage_contents::judge_tested(Class::Reference, g, g.len() == 0, 8),
-        Held::NoModel => 5,
+        Held::Blank => wage_contents::judge_tested(Class::Reference, g, g.len() == 0, Fault::Parts),
+        Held::NoModel => Err(Fault::Form),
         Held::Number(n) => reference::numbered(n, g),
     }
 }
@@ -93,13 +89,13 @@ pub fn judge_reference(held: Held, f: &[u8]) -> usize
 // Description, code
 
 // A description: 3, 5. It is tested as a whole; only a wrong byte is looked for.
-pub fn judge_description(f: &[u8]) -> usize
+pub fn judge_description(f: &[u8]) -> Verdict
     ensures { result ≡ description_verdict f.now }
 {
     if !text::all_described(f) {
         return text::judge(Class::Description, f);
     }
-    wage_contents::only_if(!text::all_blank(f), 5)
+    verdict::only_if(!text::all_blank(f), Fault::Form)
 }
 
 // Whether a model's place holds nothing.
@@ -114,7 +110,7 @@ fn is_blank(held: Held) -> bool
 }
 
 // A code of 004's list, by what the recipient's model's place holds: 3, 5.
-pub fn judge_code(kind: u64, recipient: Held, f: &[u8]) -> usize
+pub fn judge_code(kind: u64, recipient: Held, f: &[u8]) -> Verdict
     ensures { result ≡ code_verdict kind (held_blank recipient) f.now }
 {
     let blank = is_blank(recipient);
@@ -123,6 +119,6 @@ pub fn judge_code(kind: u64, recipient: Held, f: &[u8]) -> usize
         Class::Digits,
         f,
         codes::is_code(v) & !((kind == 5) & ((v == 500) & blank)),
-        5,
+        Fault::Form,
     )
 }

@@ -1,6 +1,6 @@
 // The rules of a 309: what each of its places must hold.
 //
-// Document 01, "The wage file", its list for 309. A rule answers a verdict, one number.
+// Document 01, "The wage file", its list for 309. A rule answers a verdict.
 // It goes by a place's order, and each arm names its places, so that in a line of 1,002 bytes the compiler knows their bounds.
 #![tactic(auto)]
 
@@ -12,6 +12,7 @@ ghost use Rattle.order_rules.specs.Rules.{order_rule};
 
 use classes::Class;
 use order_contents::Held;
+use verdict::Verdict;
 use wage_places::{LineType, part_at};
 
 // What a model's place of a 309 holds.
@@ -22,12 +23,12 @@ fn model_at(k: usize, s: &[u8]) -> Held
 }
 
 // A 309's rule for a place.
-pub fn order_rule(kind: u64, k: usize, s: &[u8]) -> usize
+pub fn order_rule(kind: u64, k: usize, s: &[u8]) -> Verdict
     ensures { result ≡ order_rule kind (get_or (spots Order) k no_spot).field (part_at (get_or (spots Order) k no_spot) s.now) s.now }
 {
     match k {
         0 => wage_contents::judge_iban(false, part_at(LineType::Order, 0, s)),
-        1 => 0,
+        1 => Ok(()),
         2 => wage_contents::judge_among(0, 191, 191, part_at(LineType::Order, 2, s)),
         3 => order_contents::judge_model(model_at(3, s)),
         4 => order_contents::judge_reference(model_at(3, s), part_at(LineType::Order, 4, s)),
@@ -42,6 +43,6 @@ pub fn order_rule(kind: u64, k: usize, s: &[u8]) -> usize
         13 => order_contents::judge_sign(32, 48, 48, part_at(LineType::Order, 13, s)),
         14 => order_contents::judge_code(kind, model_at(8, s), part_at(LineType::Order, 14, s)),
         15 => wage_contents::judge_oib(kind != 5, part_at(LineType::Order, 15, s)),
-        _ => 0,
+        _ => Ok(()),
     }
 }

@@ -1,10 +1,8 @@
 -- Where the parts of a text end, packed into one number: it mirrors src/, and proofs/Readers.antt leads from what is read to `formed` of
 -- Parts.antt.
-use Rattle.std.specs.Prelude.{ℕ, ◌+◌, ◌-◌, ◌*◌, ◌/◌, ◌%◌, ◌^◌, Bool, cond, not, ◌&&◌, ◌||◌, List, [], ◌∷◌, eqb, length}
+use Rattle.std.specs.Prelude.{ℕ, ◌+◌, ◌-◌, ◌*◌, ◌/◌, ◌%◌, ◌^◌, Bool, cond, not, ◌&&◌, ◌||◌, List, [], ◌∷◌, eqb, length, Option, Some, None}
 use Rattle.text.specs.Bytes.{all_of}
 use Rattle.classes.specs.declared.Class.TheVariants.{Digits}
-use Rattle.text.specs.declared.Found.{Found}
-use Rattle.text.specs.declared.Found.TheVariants.{At, Nothing}
 use Rattle.models.specs.declared.Model.{Model}
 use Rattle.parts.specs.Parts.{parts_of, parts_fit, formed}
 
@@ -21,8 +19,8 @@ abbrev pub ends_of : List ℕ → ℕ
 ends_of s = ends_from 0 (parts_of s)
 
 -- those of a formed text
-abbrev pub parts_found : Model → List ℕ → Found
-parts_found model s = cond (formed model s) (At (ends_of s)) Nothing
+abbrev pub parts_found : Model → List ℕ → Option ℕ
+parts_found model s = cond (formed model s) (Some (ends_of s)) None
 
 -- the end of part k, counted from 0; 0 where there is no such part, since no part is empty
 abbrev pub end_of : ℕ → ℕ → ℕ

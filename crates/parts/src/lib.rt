@@ -10,7 +10,6 @@ ghost use Rattle.text.specs.Split.{split};
 ghost use Rattle.parts.specs.Mirror.{part_read, digit_read, end_of, count_fits, parts_found};
 
 use models::Model;
-use text::Found;
 
 // A byte as a number.
 pub fn wide(b: u8) -> usize
@@ -94,7 +93,7 @@ fn count_fits(fewest: usize, most: usize, ends: usize) -> bool
 }
 
 // Where the parts of a text end, if they are those that the model asks, each of its length: four of 255 digits at most.
-pub fn parts(model: Model, s: &[u8]) -> Found
+pub fn parts(model: Model, s: &[u8]) -> Option<usize>
     ensures { result ≡ parts_found model s.now }
 {
     let fewest = model.fewest;
@@ -102,19 +101,19 @@ pub fn parts(model: Model, s: &[u8]) -> Found
     let lengths = model.lengths;
     if s.len() == 0 {
         if fewest == 0 {
-            return Found::At(0);
+            return Some(0);
         }
-        return Found::Nothing;
+        return None;
     }
     if 1023 < s.len() {
-        return Found::Nothing;
+        return None;
     }
     let ends = part(s, &lengths, 0);
     if ends == 0 {
-        return Found::Nothing;
+        return None;
     }
     if count_fits(wide(fewest), wide(most), ends) {
-        return Found::At(ends);
+        return Some(ends);
     }
-    Found::Nothing
+    None
 }

@@ -1,18 +1,16 @@
 -- Demand 2, check digits, accounts and references: accepted exactly when, of the calls `lanecockle_iban`, `lanecockle_oib`, `lanecockle_reference`,
 -- `lanecockle_check_digits` and `lanecockle_make_digit`. Assumes nothing.
 use Rattle.refusal.proofs.Basics.{◌≡◌, refl, arith, ℕ, ◌+◌, ◌-◌, ◌<◌, length, le-leb, ne_eqb, eqb-false, List, [], ◌∷◌, ◌++◌, Bool, true, false, cond, ◌&&◌, eqb, leb, ◌↔◌, ◌⊎◌, inl, inr}
+use Rattle.std.specs.Prelude.{Err, Ok, Option, Some, None, Result}
+use Rattle.refusal.specs.declared.Refusal.{Refusal}
 use Rattle.refusal.specs.Refusal.{refusal_number}
 use Rattle.verdict.specs.Verdict.{only_if, and_then}
 use Rattle.classes.specs.declared.Class.{Class}
 use Rattle.classes.specs.declared.Class.TheVariants.{Digits, Account, Reference}
 use Rattle.text.specs.Bytes.{all_of, found, first_bad, bytes_verdict}
-use Rattle.text.specs.declared.Found.{Found}
-use Rattle.text.specs.declared.Found.TheVariants.{At, Nothing}
 use Rattle.text.proofs.Laws.{Below, bad_below}
 use Rattle.check_digits.specs.declared.Rule.{Rule}
 use Rattle.check_digits.specs.declared.Rule.TheVariants.{Ini, Mod1110}
-use Rattle.check_digits.specs.declared.Made.{Made}
-use Rattle.check_digits.specs.declared.Made.TheVariants as made
 use Rattle.check_digits.specs.Answers.{check_answer, make_answer}
 use Rattle.check_digits.proofs.Theorems.{made_is_checked}
 use Rattle.account.specs.Account.{iban_formed, iban_passes, oib_passes}
@@ -85,10 +83,10 @@ module _ (n : ℕ) where
   only_tells b k h = choice_tells b 0 k (other_tells 0 refl) (other_tells k h)
 
   -- a scan tells the byte that it found
-  found_tells : (f : Found) → Below n f → Tells n (found f)
+  found_tells : (f : Option ℕ) → Below n f → Tells n (found f)
   unfolding Tells told_of
-  found_tells (At i) h = λ e. let z : 32 + i - 32 ≡ i = omega arith in rw (ne_eqb (32 + i) 0 (λ q. omega arith), le-leb 32 (32 + i) (omega arith), z) h
-  found_tells Nothing h = other_tells 0 refl
+  found_tells (Some i) h = λ e. let z : 32 + i - 32 ≡ i = omega arith in rw (ne_eqb (32 + i) 0 (λ q. omega arith), le-leb 32 (32 + i) (omega arith), z) h
+  found_tells None h = other_tells 0 refl
 
 bytes_tell : (k : Class) (s : List ℕ) → Tells (length s) (bytes_verdict k s)
 unfolding bytes_verdict
@@ -108,9 +106,9 @@ oib_tells s =
     let n = length s in
     then_tells n _ _ (bytes_tell Digits s) (then_tells n _ _ (only_tells n (eqb n 11) 4 refl) (only_tells n (oib_passes s) 6 refl))
 
-number_tells : (s : List ℕ) (f : Found) → Tells (length s) (number_verdict s f)
+number_tells : (s : List ℕ) (f : Option ℕ) → Tells (length s) (number_verdict s f)
 unfolding told_of
-number_tells s (At k) =
+number_tells s (Some k) =
     let n = length s in
     let model = model_of k in
     then_tells n _ _ (only_tells n model.handled 7 refl)
@@ -118,7 +116,7 @@ number_tells s (At k) =
     (then_tells n _ _ (only_tells n (leb n 22) 4 refl)
     (then_tells n _ _ (only_tells n (formed model s) 8 refl)
     (then_tells n _ _ (only_tells n (contents_right model (parts_of s)) 5 refl) (only_tells n (groups_right model.groups (parts_of s)) 9 refl)))))
-number_tells s Nothing = other_tells (length s) 5 refl
+number_tells s None = other_tells (length s) 5 refl
 
 -- the answer that tells it
 byte_told : (n v : ℕ) (z : Told) → z ≡ verdict_told v → Tells n v → z.number ≡ 3 → z.byte < n
@@ -136,18 +134,18 @@ pub reference_byte_within : EveryReference (λ model text r. r.number ≡ 3 → 
 reference_byte_within κs a z w call = byte_told _ _ z call (number_tells a.1.0.now (model_number a.0.now))
 
 -- ---------------------------------------------------------------------------
--- Made and checked
+-- Result ℕ Refusal and checked
 
 -- by one rule
 made_checked :
-    (rule : Rule) (s : List ℕ) (m : Made) → make_answer rule s ≡ m → (z : Valued) → z ≡ made_of m → z.told.number ≡ 0
+    (rule : Rule) (s : List ℕ) (m : Result ℕ Refusal) → make_answer rule s ≡ m → (z : Valued) → z ≡ made_of m → z.told.number ≡ 0
     → (c : ℕ) (r : Told) → r ≡ told_of (check_answer rule (s ++ (c ∷ []))) → (r.number ≡ 0) ↔ (c ≡ 48 + z.value)
 unfolding made_of
-made_checked rule s (made.Digit d) m z e h c r q =
+made_checked rule s (Ok d) m z e h c r q =
     let exactly = made_is_checked rule s d m c in
     let zero = told_zero _ r q in
     rw e (λ k. exactly.0 (zero.0 k), λ k. zero.1 (exactly.1 k))
-made_checked rule s (made.Refused x) m z e h c r q = let k : refusal_number x ≡ 0 = rw e at h in absurd (omega (arith, number_not_zero x))
+made_checked rule s (Err x) m z e h c r q = let k : refusal_number x ≡ 0 = rw e at h in absurd (omega (arith, number_not_zero x))
 
 -- by the rule of a number
 rule_checked :

@@ -1,8 +1,7 @@
 -- What the theorems about calls share: how an answer is told. Assumes nothing.
 use Rattle.refusal.proofs.Basics.{◌≡◌, refl, arith, ℕ, ◌↔◌}
-use Rattle.refusal.specs.Refusal.{refusal_number}
-use Rattle.refusal.specs.declared.Answer.{Answer}
-use Rattle.refusal.specs.declared.Answer.TheVariants.{Accepted, Refused}
+use Rattle.std.specs.Prelude.{Ok, Err}
+use Rattle.refusal.specs.Refusal.{Answer, refusal_number}
 use Rattle.refusal.proofs.Theorems.{refused_not_accepted}
 use Rattle.verdict.proofs.Verdicts.{answer_accepted, accepted_answer}
 use Rattle.boundary.specs.declared.Told.{Told}
@@ -10,10 +9,10 @@ use Rattle.boundary.specs.Told.{told_of, verdict_told}
 use Rattle.boundary.proofs.Theorems.{number_not_zero}
 
 -- a call answers 0 exactly when what it tells accepts
-pub told_zero : (x : Answer) (z : Told) → z ≡ told_of x → (z.number ≡ 0) ↔ (x ≡ Accepted)
+pub told_zero : (x : Answer) (z : Told) → z ≡ told_of x → (z.number ≡ 0) ↔ (x ≡ Ok tt)
 unfolding told_of
-told_zero Accepted z e = (λ h. refl, λ q. rw e refl)
-told_zero (Refused r) z e = (λ h. let k : refusal_number r ≡ 0 = rw e at h in absurd (omega (arith, number_not_zero r)), λ q. absurd (refused_not_accepted r q))
+told_zero (Ok tt) z e = (λ h. refl, λ q. rw e refl)
+told_zero (Err r) z e = (λ h. let k : refusal_number r ≡ 0 = rw e at h in absurd (omega (arith, number_not_zero r)), λ q. absurd (refused_not_accepted r q))
 
 -- a call that tells a verdict answers 0 exactly when its rule holds
 pub verdict_zero : {A : Type 0} (v : ℕ) (z : Told) → z ≡ verdict_told v → (v ≡ 0) ↔ A → (z.number ≡ 0) ↔ A

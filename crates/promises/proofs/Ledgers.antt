@@ -1,8 +1,8 @@
 -- Document 02, W1, said of the calls for the ledgers: accepted exactly when, for both currencies; the euro calls beside them; lipa in cents.
 -- Assumes nothing.
 use Rattle.refusal.proofs.Basics.{◌≡◌, refl, sym, ap, ◌∙◌, arith, ℕ, ◌≤◌, take, drop, List, ◌↔◌, ◌⊎◌, inl, inr, ⊎_elim}
-use Rattle.refusal.specs.declared.Answer.{Answer}
-use Rattle.refusal.specs.declared.Answer.TheVariants as answer
+use Rattle.std.specs.Prelude.{Err, Ok}
+use Rattle.refusal.specs.Refusal.{Answer}
 use Rattle.refusal.specs.declared.Refusal.TheVariants.{Form}
 use Rattle.slip_fields.specs.declared.Currency.{Currency}
 use Rattle.slip_fields.specs.declared.Currency.TheVariants.{Euro, Kuna}
@@ -70,9 +70,9 @@ ledger_currency_exactly κs a z w call c =
 -- the answer that is told of what was read in a currency
 answer_told : (c : Currency) (n : ℕ) (x : Answer) → (ledger_told (ledger_from c n x)).told ≡ told_of x
 unfolding ledger_told amount_in told_of
-answer_told Euro n answer.Accepted = refl
-answer_told Kuna n answer.Accepted = refl
-answer_told c n (answer.Refused r) = refl
+answer_told Euro n (Ok tt) = refl
+answer_told Kuna n (Ok tt) = refl
+answer_told c n (Err r) = refl
 
 -- of a slip: that of the reader in the currency that its field 2 names
 read_told : (s : List ℕ) (l : Ledger) → l ≡ ledger_told (ledger_of s) → l.told ≡ told_of (slip_answer_in (currency_of s) s)
@@ -85,7 +85,7 @@ either_plain Euro s p = inl p
 either_plain Kuna s p = inr p
 
 -- and read in the currency that its field 2 names
-plain_accepted : (c : Currency) (s : List ℕ) → PlainSlip c s → slip_answer_in (currency_of s) s ≡ answer.Accepted
+plain_accepted : (c : Currency) (s : List ℕ) → PlainSlip c s → slip_answer_in (currency_of s) s ≡ Ok tt
 plain_accepted c s p = rw (plain_currency c s p) ((accepted_plainly c s).1 p)
 
 -- it is accepted exactly when it is so in one of them
@@ -130,8 +130,8 @@ ledger_field_handed κs a z w call = rw call (field_stands (currency_of a.0.now)
 -- the answer that the euro call for cents tells is the euro reader's
 cents_answer : (s : List ℕ) (x : Answer) → (cents_told (cents_from s x)).told ≡ told_of x
 unfolding cents_told told_of
-cents_answer s answer.Accepted = refl
-cents_answer s (answer.Refused r) = refl
+cents_answer s (Ok tt) = refl
+cents_answer s (Err r) = refl
 
 -- what the euro reader accepts, this one accepts as euro, with the same cents
 pub euro_read_alike : EverySlipCents (λ slip c. c.told.number ≡ 0 → EveryLedgerRead (λ slip' l. slip' ≡ slip → (l.told ≡ accepted) × (l.currency ≡ 1) × (l.cents ≡ c.value)))

@@ -1,11 +1,11 @@
 -- Demand 3, wet slips, of the calls `lanecockle_list_iban`, `lanecockle_list_reference` and `lanecockle_filled`. Assumes nothing.
 use Rattle.refusal.proofs.Basics.{◌≡◌, refl, ap, ◌∙◌, arith, ℕ, ◌<◌, ◌≤◌, length, take, drop, ltb-true, ltb-false, eq-eqb, le-leb, List, ◌++◌, Bool, true, false, cond, eqb, leb, ltb, take-append_seam, drop-append_seam, ◌⊎◌, inl, inr}
+use Rattle.std.specs.Prelude.{Err, Ok, Some, Result}
 use Rattle.refusal.specs.Refusal.{none, refusal_number, needed_of}
 use Rattle.refusal.specs.declared.Refusal.{Refusal}
 use Rattle.refusal.specs.declared.Refusal.TheVariants as refused
 use Rattle.classes.specs.declared.Class.TheVariants.{WetReference}
 use Rattle.text.specs.Bytes.{marks, all_of}
-use Rattle.text.specs.declared.Found.TheVariants.{At}
 use Rattle.account.specs.Answers.{is_iban}
 use Rattle.models.specs.Models.{model_of}
 use Rattle.model_text.specs.Texts.{model_number}
@@ -16,8 +16,6 @@ use Rattle.filling.specs.Claims.{Fills}
 use Rattle.filling.proofs.Theorems.{fill_length, fill_fills}
 use Rattle.fillings.specs.Fillings.{fillings}
 use Rattle.fillings.specs.Answers.{listed_in_room, left_by_listing}
-use Rattle.fillings.specs.declared.Listed.{Listed}
-use Rattle.fillings.specs.declared.Listed.TheVariants as listed
 use Rattle.fillings.proofs.Theorems.{complete, sound, ascending, once, counted}
 use Rattle.wet.specs.Wet.{wet_iban, iban_listing, reference_listing, model_listing}
 use Rattle.boundary.specs.declared.Valued.{Valued}
@@ -48,11 +46,11 @@ module _ (p : List ℕ → Bool) (text out : List ℕ) where
       }
 
   -- what a listing answers: as many as there are in the room that there is, or a refusal other than 15
-  abbrev Answers : Listed → Type 0
-  Answers l = (l ≡ listed_in_room xs (length out)) ⊎ ((q : Refusal) × ((l ≡ listed.Refused q) × (refusal_number q ≡ 15 → ⊥)))
+  abbrev Answers : Result ℕ Refusal → Type 0
+  Answers l = (l ≡ listed_in_room xs (length out)) ⊎ ((q : Refusal) × ((l ≡ Err q) × (refusal_number q ≡ 15 → ⊥)))
 
   module _ (r : Valued) (after : List ℕ) where
-    accepted_listing : length xs ≤ length out → r ≡ listed_of (listed.Count (length xs)) → after ≡ left_by_listing (listed.Count (length xs)) xs out → Listing p text out r after
+    accepted_listing : length xs ≤ length out → r ≡ listed_of (Ok (length xs)) → after ≡ left_by_listing (Ok (length xs)) xs out → Listing p text out r after
     unfolding listed_of
     accepted_listing fits e w =
         record {
@@ -63,7 +61,7 @@ module _ (p : List ℕ → Bool) (text out : List ℕ) where
 
     refused_listing :
         (q : Refusal) → (refusal_number q ≡ 15 → (length out < length xs) × (needed_of q ≡ length xs))
-        → r ≡ listed_of (listed.Refused q) → after ≡ left_by_listing (listed.Refused q) xs out → Listing p text out r after
+        → r ≡ listed_of (Err q) → after ≡ left_by_listing (Err q) xs out → Listing p text out r after
     unfolding listed_of
     refused_listing q told e w =
         record {
@@ -72,25 +70,25 @@ module _ (p : List ℕ → Bool) (text out : List ℕ) where
           untouched = λ h. w;
         }
 
-    in_room : (b : Bool) → ltb (length out) (length xs) ≡ b → (l : Listed) → l ≡ cond b (listed.Refused (refused.Room none (length xs))) (listed.Count (length xs)) → r ≡ listed_of l → after ≡ left_by_listing l xs out → Listing p text out r after
-    in_room true g l z e w = refused_listing (refused.Room none (length xs)) (λ h. (ltb-true (length out) (length xs) g, refl)) (e ∙ ap listed_of z) (w ∙ ap (λ (m : Listed). left_by_listing m xs out) z)
-    in_room false g l z e w = accepted_listing (ltb-false (length out) (length xs) g) (e ∙ ap listed_of z) (w ∙ ap (λ (m : Listed). left_by_listing m xs out) z)
+    in_room : (b : Bool) → ltb (length out) (length xs) ≡ b → (l : Result ℕ Refusal) → l ≡ cond b (Err (refused.Room none (length xs))) (Ok (length xs)) → r ≡ listed_of l → after ≡ left_by_listing l xs out → Listing p text out r after
+    in_room true g l z e w = refused_listing (refused.Room none (length xs)) (λ h. (ltb-true (length out) (length xs) g, refl)) (e ∙ ap listed_of z) (w ∙ ap (λ (m : Result ℕ Refusal). left_by_listing m xs out) z)
+    in_room false g l z e w = accepted_listing (ltb-false (length out) (length xs) g) (e ∙ ap listed_of z) (w ∙ ap (λ (m : Result ℕ Refusal). left_by_listing m xs out) z)
 
-    listing : (l : Listed) → Answers l → r ≡ listed_of l → after ≡ left_by_listing l xs out → Listing p text out r after
+    listing : (l : Result ℕ Refusal) → Answers l → r ≡ listed_of l → after ≡ left_by_listing l xs out → Listing p text out r after
     listing l (inl z) e w = in_room (ltb (length out) (length xs)) refl l z e w
-    listing l (inr (q, (z, n))) e w = refused_listing q (λ h. absurd (n h)) (e ∙ ap listed_of z) (w ∙ ap (λ (m : Listed). left_by_listing m xs out) z)
+    listing l (inr (q, (z, n))) e w = refused_listing q (λ h. absurd (n h)) (e ∙ ap listed_of z) (w ∙ ap (λ (m : Result ℕ Refusal). left_by_listing m xs out) z)
 
   -- what is told where the rest is right
-  answered : (z : Valued) (l : Listed) → z ≡ listed_of l → l ≡ listed_in_room xs (length out) → z.told.number ≡ cond (ltb (length out) (accepted_fillings p text)) 15 0
+  answered : (z : Valued) (l : Result ℕ Refusal) → z ≡ listed_of l → l ≡ listed_in_room xs (length out) → z.told.number ≡ cond (ltb (length out) (accepted_fillings p text)) 15 0
   unfolding listed_of
   answered z l e q = rw (← counted p text) (go (ltb (length out) (length xs)) (ap (λ (v : Valued). v.told.number) (e ∙ ap listed_of q)))
     where
-      go : (b : Bool) → z.told.number ≡ (listed_of (cond b (listed.Refused (refused.Room none (length xs))) (listed.Count (length xs)))).told.number → z.told.number ≡ cond b 15 0
+      go : (b : Bool) → z.told.number ≡ (listed_of (cond b (Err (refused.Room none (length xs))) (Ok (length xs)))).told.number → z.told.number ≡ cond b 15 0
       go true h = h
       go false h = h
 
 -- a refusal that is not 15
-abbrev other : (p : List ℕ → Bool) (text out : List ℕ) (q : Refusal) → (refusal_number q ≡ 15 → ⊥) → Answers p text out (listed.Refused q)
+abbrev other : (p : List ℕ → Bool) (text out : List ℕ) (q : Refusal) → (refusal_number q ≡ 15 → ⊥) → Answers p text out (Err q)
 other p text out q n = inr (q, (refl, n))
 
 -- ---------------------------------------------------------------------------
@@ -99,15 +97,15 @@ other p text out q n = inr (q, (refl, n))
 iban_answers : (text out : List ℕ) → Answers is_iban text out (iban_listing text (length out))
 iban_answers text out = size (eqb (length text) 21)
   where
-    few : (b : Bool) → Answers is_iban text out (cond b (listed_in_room (fillings is_iban text) (length out)) (listed.Refused (refused.Marks none)))
+    few : (b : Bool) → Answers is_iban text out (cond b (listed_in_room (fillings is_iban text) (length out)) (Err (refused.Marks none)))
     few true = inl refl
     few false = other is_iban text out (refused.Marks none) (λ h. omega arith)
 
-    form : (b : Bool) → Answers is_iban text out (cond b (cond (leb (marks text) 4) (listed_in_room (fillings is_iban text) (length out)) (listed.Refused (refused.Marks none))) (listed.Refused (refused.Byte none)))
+    form : (b : Bool) → Answers is_iban text out (cond b (cond (leb (marks text) 4) (listed_in_room (fillings is_iban text) (length out)) (Err (refused.Marks none))) (Err (refused.Byte none)))
     form true = few (leb (marks text) 4)
     form false = other is_iban text out (refused.Byte none) (λ h. omega arith)
 
-    size : (b : Bool) → Answers is_iban text out (cond b (cond (wet_iban text) (cond (leb (marks text) 4) (listed_in_room (fillings is_iban text) (length out)) (listed.Refused (refused.Marks none))) (listed.Refused (refused.Byte none))) (listed.Refused (refused.Size none)))
+    size : (b : Bool) → Answers is_iban text out (cond b (cond (wet_iban text) (cond (leb (marks text) 4) (listed_in_room (fillings is_iban text) (length out)) (Err (refused.Marks none))) (Err (refused.Byte none))) (Err (refused.Size none)))
     size true = form (wet_iban text)
     size false = other is_iban text out (refused.Size none) (λ h. omega arith)
 
@@ -136,27 +134,27 @@ module _ (n : ℕ) (text out : List ℕ) where
   number_answers : Answers rule text out (model_listing (model_of n) text (length out))
   number_answers = handled (model_of n).handled
     where
-      handled : (b : Bool) → Answers rule text out (cond b (listed_in_room (fillings rule text) (length out)) (listed.Refused (refused.Model none)))
+      handled : (b : Bool) → Answers rule text out (cond b (listed_in_room (fillings rule text) (length out)) (Err (refused.Model none)))
       handled true = inl refl
       handled false = other rule text out (refused.Model none) (λ h. omega arith)
 
-  reference_answers : Answers rule text out (cond (leb (length text) 22) (cond (all_of WetReference text) (cond (leb (marks text) 4) (model_listing (model_of n) text (length out)) (listed.Refused (refused.Marks none))) (listed.Refused (refused.Byte none))) (listed.Refused (refused.Size none)))
+  reference_answers : Answers rule text out (cond (leb (length text) 22) (cond (all_of WetReference text) (cond (leb (marks text) 4) (model_listing (model_of n) text (length out)) (Err (refused.Marks none))) (Err (refused.Byte none))) (Err (refused.Size none)))
   reference_answers = size (leb (length text) 22)
     where
-      few : (b : Bool) → Answers rule text out (cond b (model_listing (model_of n) text (length out)) (listed.Refused (refused.Marks none)))
+      few : (b : Bool) → Answers rule text out (cond b (model_listing (model_of n) text (length out)) (Err (refused.Marks none)))
       few true = number_answers
       few false = other rule text out (refused.Marks none) (λ h. omega arith)
 
-      form : (b : Bool) → Answers rule text out (cond b (cond (leb (marks text) 4) (model_listing (model_of n) text (length out)) (listed.Refused (refused.Marks none))) (listed.Refused (refused.Byte none)))
+      form : (b : Bool) → Answers rule text out (cond b (cond (leb (marks text) 4) (model_listing (model_of n) text (length out)) (Err (refused.Marks none))) (Err (refused.Byte none)))
       form true = few (leb (marks text) 4)
       form false = other rule text out (refused.Byte none) (λ h. omega arith)
 
-      size : (b : Bool) → Answers rule text out (cond b (cond (all_of WetReference text) (cond (leb (marks text) 4) (model_listing (model_of n) text (length out)) (listed.Refused (refused.Marks none))) (listed.Refused (refused.Byte none))) (listed.Refused (refused.Size none)))
+      size : (b : Bool) → Answers rule text out (cond b (cond (all_of WetReference text) (cond (leb (marks text) 4) (model_listing (model_of n) text (length out)) (Err (refused.Marks none))) (Err (refused.Byte none))) (Err (refused.Size none)))
       size true = form (all_of WetReference text)
       size false = other rule text out (refused.Size none) (λ h. omega arith)
 
 -- the fillings of a reference that are listed under the text of model n are those that obey it
-pub list_reference_lists : EveryListReference (λ model text out r after. (n : ℕ) → model_number model ≡ At n → Listing (obeys (model_of n)) text out r after)
+pub list_reference_lists : EveryListReference (λ model text out r after. (n : ℕ) → model_number model ≡ Some n → Listing (obeys (model_of n)) text out r after)
 list_reference_lists κs a z w call n e =
     let text = a.1.0.now in
     let out = a.1.1.0.now in
@@ -179,10 +177,10 @@ list_reference_answers κs a z w call m short wet few =
 -- A refusal writes nothing
 
 -- what a listing leaves
-listing_kept : (l : Listed) (xs out after : List ℕ) (z : Valued) → z ≡ listed_of l → after ≡ left_by_listing l xs out → (z.told.number ≡ 0 → ⊥) → after ≡ out
+listing_kept : (l : Result ℕ Refusal) (xs out after : List ℕ) (z : Valued) → z ≡ listed_of l → after ≡ left_by_listing l xs out → (z.told.number ≡ 0 → ⊥) → after ≡ out
 unfolding listed_of
-listing_kept (listed.Count n) xs out after z e w h = absurd (h (ap (λ (v : Valued). v.told.number) e))
-listing_kept (listed.Refused r) xs out after z e w h = w
+listing_kept (Ok n) xs out after z e w h = absurd (h (ap (λ (v : Valued). v.told.number) e))
+listing_kept (Err r) xs out after z e w h = w
 
 pub list_iban_untouched : EveryListIban (λ text out r after. (r.told.number ≡ 0 → ⊥) → after ≡ out)
 list_iban_untouched κs a z w call = listing_kept _ _ _ _ _ call.0 call.1

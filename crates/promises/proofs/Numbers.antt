@@ -1,22 +1,12 @@
 -- Demand 1: "A refusal is one of the documents' numbers, with line, field and byte", of every call that answers. Assumes nothing.
 use Rattle.refusal.proofs.Basics.{refl, Bool, true, false, cond, eqb, inl, inr}
-use Rattle.refusal.specs.Refusal.{none}
-use Rattle.refusal.specs.declared.Answer.{Answer}
-use Rattle.refusal.specs.declared.Answer.TheVariants.{Accepted, Refused}
+use Rattle.std.specs.Prelude.{Err, Ok, Result, ℕ}
+use Rattle.refusal.specs.Refusal.{Answer, none}
+use Rattle.condition.specs.declared.Counts.{Counts}
 use Rattle.refusal.specs.declared.Refusal.{Refusal}
 use Rattle.refusal.specs.declared.Refusal.TheVariants.{Size, Form}
-use Rattle.check_digits.specs.declared.Made.{Made}
-use Rattle.check_digits.specs.declared.Made.TheVariants as made
-use Rattle.fillings.specs.declared.Listed.{Listed}
-use Rattle.fillings.specs.declared.Listed.TheVariants as listed
-use Rattle.slip_handed.specs.declared.Amount.{Amount}
-use Rattle.slip_handed.specs.declared.Amount.TheVariants as amount
 use Rattle.ledger_slip.specs.declared.LedgerSlip.{LedgerSlip}
 use Rattle.ledger_slip.specs.declared.LedgerSlip.TheVariants as ledger
-use Rattle.slip_writer.specs.declared.Written.{Written}
-use Rattle.slip_writer.specs.declared.Written.TheVariants as written
-use Rattle.condition.specs.declared.Ending.{Ending}
-use Rattle.condition.specs.declared.Ending.TheVariants as ending
 use Rattle.condition.specs.declared.Judge.{Judge}
 use Rattle.condition.specs.Record.{is_refused, refusal_in}
 use Rattle.lent_fields.specs.Fields.{lent_whole}
@@ -47,23 +37,23 @@ either_known false t u k l = l
 -- an answer, a digit made, a listing, an amount, a slip of either currency, a slip written, an end, a judge's record
 answer_known : (x : Answer) → Known (told_of x)
 unfolding told_of
-answer_known Accepted = inl refl
-answer_known (Refused r) = refusal_known r
+answer_known (Ok tt) = inl refl
+answer_known (Err r) = refusal_known r
 
-made_known : (x : Made) → Known (made_of x).told
+made_known : (x : Result ℕ Refusal) → Known (made_of x).told
 unfolding made_of
-made_known (made.Digit d) = inl refl
-made_known (made.Refused r) = refusal_known r
+made_known (Ok d) = inl refl
+made_known (Err r) = refusal_known r
 
-listed_known : (x : Listed) → Known (listed_of x).told
+listed_known : (x : Result ℕ Refusal) → Known (listed_of x).told
 unfolding listed_of
-listed_known (listed.Count n) = inl refl
-listed_known (listed.Refused r) = refusal_known r
+listed_known (Ok n) = inl refl
+listed_known (Err r) = refusal_known r
 
-cents_known : (x : Amount) → Known (cents_told x).told
+cents_known : (x : Result ℕ Refusal) → Known (cents_told x).told
 unfolding cents_told
-cents_known (amount.Cents n) = inl refl
-cents_known (amount.Refused r) = refusal_known r
+cents_known (Ok n) = inl refl
+cents_known (Err r) = refusal_known r
 
 ledger_known : (x : LedgerSlip) → Known (ledger_told x).told
 unfolding ledger_told
@@ -71,15 +61,15 @@ ledger_known (ledger.Euro c) = inl refl
 ledger_known (ledger.Kuna l) = inl refl
 ledger_known (ledger.Refused r) = refusal_known r
 
-written_known : (x : Written) → Known (written_of x).told
+written_known : (x : Result ℕ Refusal) → Known (written_of x).told
 unfolding written_of
-written_known (written.Bytes n) = inl refl
-written_known (written.Refused r) = refusal_known r
+written_known (Ok n) = inl refl
+written_known (Err r) = refusal_known r
 
-ended_known : (x : Ending) → Known (ended_of x).told
+ended_known : (x : Result Counts Refusal) → Known (ended_of x).told
 unfolding ended_of
-ended_known (ending.Accepted n) = inl refl
-ended_known (ending.Refused r) = refusal_known r
+ended_known (Ok n) = inl refl
+ended_known (Err r) = refusal_known r
 
 record_known : (j : Judge) → Known (record_of j).told
 unfolding record_of
@@ -92,7 +82,7 @@ pub check_digits_known : EveryCheckDigits (λ rule digits r. Known r)
 check_digits_known κs a z w call = rw call (either_known (eqb a.0 0) _ _ (answer_known _) (either_known (eqb a.0 1) _ _ (answer_known _) (refusal_known (Form none))))
 
 -- by the rule of a number
-rule_known : (b₀ b₁ : Bool) (x y : Made) → Known (cond b₀ (made_of x) (cond b₁ (made_of y) (valued no_rule 0))).told
+rule_known : (b₀ b₁ : Bool) (x y : Result ℕ Refusal) → Known (cond b₀ (made_of x) (cond b₁ (made_of y) (valued no_rule 0))).told
 rule_known true b₁ x y = made_known x
 rule_known false true x y = made_known y
 rule_known false false x y = refusal_known (Form none)
@@ -128,7 +118,7 @@ pub ledger_read_known : EveryLedgerRead (λ slip l. Known l.told)
 ledger_read_known κs a z w call = rw call (ledger_known _)
 
 -- where it is asked first whether the fields are lent whole
-sized_known : (b : Bool) (x : Written) → Known (cond b (written_of x) (valued (refusal (Size none)) 0)).told
+sized_known : (b : Bool) (x : Result ℕ Refusal) → Known (cond b (written_of x) (valued (refusal (Size none)) 0)).told
 sized_known true x = written_known x
 sized_known false x = refusal_known (Size none)
 

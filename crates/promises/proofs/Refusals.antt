@@ -1,8 +1,8 @@
 -- Demand 1: which refusal comes first, of the calls `lanecockle_slip_read`, `lanecockle_judge_step` and `lanecockle_wage_file`. Assumes nothing.
 use Rattle.refusal.proofs.Basics.{◌≡◌, refl, sym, ap, ◌∙◌, arith, ℕ, zero, suc, ◌+◌, ◌-◌, ◌≤◌, ◌<◌, length, length-append, get_or, take, eqb-true, eqb-false, eq-eqb, leb-true, leb-false, le-ltb, List, [], ◌∷◌, ◌++◌, Bool, true, false, cond, ◌&&◌, false≢true, eqb, leb, ltb, add-zero, zero-add, both_true}
-use Rattle.refusal.specs.Refusal.{none}
-use Rattle.refusal.specs.declared.Answer.{Answer}
-use Rattle.refusal.specs.declared.Answer.TheVariants.{Accepted, Refused}
+use Rattle.std.specs.Prelude.{Err, Ok, Result}
+use Rattle.refusal.specs.Refusal.{Answer, none}
+use Rattle.condition.specs.declared.Counts.{Counts}
 use Rattle.refusal.specs.declared.Refusal.{Refusal}
 use Rattle.refusal.specs.declared.Refusal.TheVariants.{Size, Ends}
 use Rattle.verdict.specs.Verdict.{answer_at}
@@ -17,16 +17,12 @@ use Rattle.text.specs.Lines.{join_lines}
 use Rattle.dates.specs.Dates.{is_date}
 use Rattle.wage_places.specs.declared.LineType.{LineType}
 use Rattle.wage_places.specs.declared.LineType.TheVariants.{Label, Group, Order, Closing}
-use Rattle.wage_line.specs.declared.Typed.{Typed}
-use Rattle.wage_line.specs.declared.Typed.TheVariants as typed
 use Rattle.wage_line.specs.Line.{typed_of}
 use Rattle.wage_line.specs.Pieces.{pieces}
 use Rattle.wage_fields.specs.Rules.{places_answer}
 use Rattle.wage_fields.proofs.Theorems.{first_refused}
 use Rattle.condition.specs.declared.Condition.{Condition}
 use Rattle.condition.specs.declared.Condition.TheVariants as condition
-use Rattle.condition.specs.declared.Ending.{Ending}
-use Rattle.condition.specs.declared.Ending.TheVariants as ending
 use Rattle.condition.specs.declared.Judge.{Judge}
 use Rattle.condition.specs.Record.{stage_of, is_refused, refused_with, at_line, beyond, next_line, is_sound, begun, ended}
 use Rattle.condition.proofs.Theorems.{refusal_ends}
@@ -60,7 +56,7 @@ record FirstWrong (c : Currency) (n start : ℕ) (m : List ℕ) (ps : List (List
   answer : fields_answer c n start m ps ≡ answer_at (n + order) (start + length (join_lines (take order ps))) (verdict_of c n m ps order)
 
 -- pieces that are not accepted have one
-first_wrong_lem : (c : Currency) (n start : ℕ) (m : List ℕ) (ps : List (List ℕ)) → (fields_answer c n start m ps ≡ Accepted → ⊥) → FirstWrong c n start m ps
+first_wrong_lem : (c : Currency) (n start : ℕ) (m : List ℕ) (ps : List (List ℕ)) → (fields_answer c n start m ps ≡ Ok tt → ⊥) → FirstWrong c n start m ps
 unfolding fields_answer join_lines
 first_wrong_lem c n start m [] h = absurd (h refl)
 first_wrong_lem c n start m (p ∷ []) h = absurd (h refl)
@@ -68,7 +64,7 @@ first_wrong_lem c n start m (p ∷ (q ∷ ps)) h = go (eqb (field_verdict c n m 
   where
     go :
         (b : Bool) → eqb (field_verdict c n m p) 0 ≡ b
-        → ((fields_answer c (n + 1) (start + length p + 1) p (q ∷ ps) ≡ Accepted → ⊥) → FirstWrong c (n + 1) (start + length p + 1) p (q ∷ ps))
+        → ((fields_answer c (n + 1) (start + length p + 1) p (q ∷ ps) ≡ Ok tt → ⊥) → FirstWrong c (n + 1) (start + length p + 1) p (q ∷ ps))
         → FirstWrong c n start m (p ∷ (q ∷ ps))
     go true e rest =
         let w = rest (rw e at h) in
@@ -99,7 +95,7 @@ first_wrong_lem c n start m (p ∷ (q ∷ ps)) h = go (eqb (field_verdict c n m 
         }
 
 -- a slip that is not accepted in a currency
-pub slip_refused : (c : Currency) (s : List ℕ) → (slip_answer_in c s ≡ Accepted → ⊥) → SlipRefused c s (told_of (slip_answer_in c s))
+pub slip_refused : (c : Currency) (s : List ℕ) → (slip_answer_in c s ≡ Ok tt → ⊥) → SlipRefused c s (told_of (slip_answer_in c s))
 unfolding slip_answer_in told_of piece_of
 slip_refused c s h = short (leb (length s) 483) refl h
   where
@@ -113,14 +109,14 @@ slip_refused c s h = short (leb (length s) 483) refl h
         (rw z w.wrong) (rw z (rw (zero-add (length (join_lines (take o (split 10 s))))) at (ap told_of w.answer)))
 
     feeds :
-        (b : Bool) → slip_ends s ≡ b → length s ≤ 483 → (cond b (fields_answer c 1 0 [] (split 10 s)) (Refused (Ends none)) ≡ Accepted → ⊥)
-        → SlipRefused c s (told_of (cond b (fields_answer c 1 0 [] (split 10 s)) (Refused (Ends none))))
+        (b : Bool) → slip_ends s ≡ b → length s ≤ 483 → (cond b (fields_answer c 1 0 [] (split 10 s)) (Err (Ends none)) ≡ Ok tt → ⊥)
+        → SlipRefused c s (told_of (cond b (fields_answer c 1 0 [] (split 10 s)) (Err (Ends none))))
     feeds true e l g = told l e (first_wrong_lem c 1 0 [] (split 10 s) g)
     feeds false e l g = ends l e refl
 
     short :
-        (b : Bool) → leb (length s) 483 ≡ b → (cond b (cond (slip_ends s) (fields_answer c 1 0 [] (split 10 s)) (Refused (Ends none))) (Refused (Size none)) ≡ Accepted → ⊥)
-        → SlipRefused c s (told_of (cond b (cond (slip_ends s) (fields_answer c 1 0 [] (split 10 s)) (Refused (Ends none))) (Refused (Size none))))
+        (b : Bool) → leb (length s) 483 ≡ b → (cond b (cond (slip_ends s) (fields_answer c 1 0 [] (split 10 s)) (Err (Ends none))) (Err (Size none)) ≡ Ok tt → ⊥)
+        → SlipRefused c s (told_of (cond b (cond (slip_ends s) (fields_answer c 1 0 [] (split 10 s)) (Err (Ends none))) (Err (Size none))))
     short true e g = feeds (slip_ends s) refl (leb-true (length s) 483 e) g
     short false e g = size (leb-false (length s) 483 e) refl
 
@@ -161,20 +157,20 @@ unfolding stepped type_step
 line_refused j s unrefused q e = limit (goes_on j) refl (rw unrefused at e)
   where
     fields :
-        (t : LineType) → goes_on j ≡ true → typed_of s ≡ typed.Line t → stand_verdict (stage_of j.condition) j.group t ≡ 0 → (a : Answer) → places_answer j.day j.kind t s ≡ a
+        (t : LineType) → goes_on j ≡ true → typed_of s ≡ Ok t → stand_verdict (stage_of j.condition) j.group t ≡ 0 → (a : Answer) → places_answer j.day j.kind t s ≡ a
         → (after_places j s t a).condition ≡ condition.Refused q → LineRefused j s q
-    fields t g f v Accepted p h = absurd (no_refusal (after j s t).condition q (after_unrefused j s t) h)
-    fields t g f v (Refused r) p h = let w = first_refused j.day j.kind t s r p in place g t f v w.order w.known w.before r w.here (one_refusal h)
+    fields t g f v (Ok tt) p h = absurd (no_refusal (after j s t).condition q (after_unrefused j s t) h)
+    fields t g f v (Err r) p h = let w = first_refused j.day j.kind t s r p in place g t f v w.order w.known w.before r w.here (one_refusal h)
 
     stand :
-        (t : LineType) → goes_on j ≡ true → typed_of s ≡ typed.Line t → (v : ℕ) → stand_verdict (stage_of j.condition) j.group t ≡ v → (b : Bool) → eqb v 0 ≡ b
+        (t : LineType) → goes_on j ≡ true → typed_of s ≡ Ok t → (v : ℕ) → stand_verdict (stage_of j.condition) j.group t ≡ v → (b : Bool) → eqb v 0 ≡ b
         → (cond b (after_places j s t (places_answer j.day j.kind t s)) (refused_with (at_line v (next_line j)) j)).condition ≡ condition.Refused q → LineRefused j s q
     stand t g f v i true b h = fields t g f (i ∙ eqb-true v 0 b) (places_answer j.day j.kind t s) refl h
     stand t g f v i false b h = misplaced g t f (rw i (eqb-false v 0 b)) (rw i (one_refusal h))
 
-    kind : goes_on j ≡ true → (t : Typed) → typed_of s ≡ t → (typed_step j s t).condition ≡ condition.Refused q → LineRefused j s q
-    kind g (typed.Line t) f h = stand t g f _ refl (eqb (stand_verdict (stage_of j.condition) j.group t) 0) refl h
-    kind g (typed.Refused r) f h = untyped g r f (one_refusal h)
+    kind : goes_on j ≡ true → (t : Result LineType Refusal) → typed_of s ≡ t → (typed_step j s t).condition ≡ condition.Refused q → LineRefused j s q
+    kind g (Ok t) f h = stand t g f _ refl (eqb (stand_verdict (stage_of j.condition) j.group t) 0) refl h
+    kind g (Err r) f h = untyped g r f (one_refusal h)
 
     limit : (b : Bool) → goes_on j ≡ b → (cond b (typed_step j s (typed_of s)) (refused_with beyond j)).condition ≡ condition.Refused q → LineRefused j s q
     limit true g h = kind g (typed_of s) refl h
@@ -235,7 +231,7 @@ unfolding ended_of
 end_refusal_stays κs a z w call h κs' a' z' w' call' same =
     let j = stepped (judge_of a.0) a.1.0.now in
     let f = record_refused j z call h in
-    let ends : z' ≡ ended_of (ending.Refused f.0) = call' ∙ ap (λ (k : Judge). ended_of (ended k)) (told_judge z a'.0 j call same) ∙ ap ended_of (refusal_ends j f.0 f.1.1) in
+    let ends : z' ≡ ended_of (Err f.0) = call' ∙ ap (λ (k : Judge). ended_of (ended k)) (told_judge z a'.0 j call same) ∙ ap ended_of (refusal_ends j f.0 f.1.1) in
     ap (λ (r : Ended). r.told) ends ∙ sym f.1.0
 
 -- ---------------------------------------------------------------------------
@@ -262,26 +258,26 @@ first_line_lem j (s ∷ ss) q h e = go (is_refused (stepped j s).condition) refl
     go false f rest = let w = rest f e in record { order = suc w.order; known = omega (arith, w.known); before = w.before; here = w.here }
 
 -- an end holds one refusal
-one_end : {q r : Refusal} → ending.Refused q ≡ ending.Refused r → r ≡ q
+one_end : {q r : Refusal} → Err q ≡ Err r → r ≡ q
 one_end e = cc
 
 -- an end that refuses where no line was refused
 end_stops :
-    (j : Judge) (q : Refusal) → is_refused j.condition ≡ false → ended j ≡ ending.Refused q
+    (j : Judge) (q : Refusal) → is_refused j.condition ≡ false → ended j ≡ Err q
     → (is_sound j ≡ true → stage_of j.condition ≡ 3 → ⊥) × (q ≡ cond (is_sound j) (at_line 14 (next_line j)) beyond)
 unfolding ended
 end_stops j q h e = go (is_sound j) (eqb (stage_of j.condition) 3) refl refl (rw h at e)
   where
     go :
         (sound closed : Bool) → is_sound j ≡ sound → eqb (stage_of j.condition) 3 ≡ closed
-        → cond sound (cond closed (ending.Accepted j.read) (ending.Refused (at_line 14 (next_line j)))) (ending.Refused beyond) ≡ ending.Refused q
+        → cond sound (cond closed (Ok j.read) (Err (at_line 14 (next_line j)))) (Err beyond) ≡ Err q
         → (is_sound j ≡ true → stage_of j.condition ≡ 3 → ⊥) × (q ≡ cond (is_sound j) (at_line 14 (next_line j)) beyond)
     go true true f g k = let z : ◌≡◌ {A = ℕ} 0 1 = cc in absurd (omega arith)
     go true false f g k = (λ x. eqb-false (stage_of j.condition) 3 g, rw f (one_end k))
     go false closed f g k = (λ x. absurd (false≢true (sym f ∙ x)), rw f (one_end k))
 
 -- a file that is refused
-file_refused : (day : ℕ) (s : List ℕ) (q : Refusal) → file_answer day s ≡ ending.Refused q → FileRefused day s q
+file_refused : (day : ℕ) (s : List ℕ) (q : Refusal) → file_answer day s ≡ Err q → FileRefused day s q
 unfolding file_answer begun
 file_refused day s q e = day_first (is_date day) refl
   where
@@ -298,10 +294,10 @@ file_refused day s q e = day_first (is_date day) refl
     day_first false d = undated d (one_end (sym (no_date_is_11 day (pieces s) d) ∙ e))
 
 -- what the end of a refused file tells
-end_refused : (x : Ending) (z : Ended) → z ≡ ended_of x → (z.told.number ≡ 0 → ⊥) → (q : Refusal) × ((z.told ≡ refusal q) × (x ≡ ending.Refused q))
+end_refused : (x : Result Counts Refusal) (z : Ended) → z ≡ ended_of x → (z.told.number ≡ 0 → ⊥) → (q : Refusal) × ((z.told ≡ refusal q) × (x ≡ Err q))
 unfolding ended_of
-end_refused (ending.Accepted c) z e h = absurd (h (ap (λ (r : Ended). r.told.number) e))
-end_refused (ending.Refused q) z e h = (q, (ap (λ (r : Ended). r.told) e, refl))
+end_refused (Ok c) z e h = absurd (h (ap (λ (r : Ended). r.told.number) e))
+end_refused (Err q) z e h = (q, (ap (λ (r : Ended). r.told) e, refl))
 
 -- the day, then the first line that is refused, then the end
 pub file_refused_first : EveryWageFile (λ day file r. (r.told.number ≡ 0 → ⊥) → (q : Refusal) × ((r.told ≡ refusal q) × FileRefused day file q))

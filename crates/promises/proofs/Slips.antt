@@ -1,11 +1,11 @@
 -- Demand 2, slips: accepted exactly when; written, and read back; read, and written again. Of the calls `lanecockle_slip_read`, `lanecockle_slip_field`,
 -- `lanecockle_slip_cents` and `lanecockle_slip_write`. Assumes nothing.
 use Rattle.refusal.proofs.Basics.{◌≡◌, refl, ap, ◌∙◌, arith, ℕ, zero, suc, ◌+◌, ◌-◌, ◌<◌, ◌≤◌, length, get_or, take, drop, List, [], ◌∷◌, ◌++◌, map, Memᴰ, Bool, true, false, cond, take-append_seam, drop-append_seam, zero-add, add-zero, ◌↔◌}
+use Rattle.std.specs.Prelude.{Err, Ok, Some, Result}
+use Rattle.refusal.specs.declared.Refusal.{Refusal}
 use Rattle.refusal.specs.Refusal.{none, refusal_number}
-use Rattle.refusal.specs.declared.Answer.TheVariants.{Accepted}
 use Rattle.refusal.specs.declared.Refusal.TheVariants.{Size}
 use Rattle.text.specs.Split.{joined}
-use Rattle.text.specs.declared.Found.TheVariants.{At}
 use Rattle.check_digits.specs.CheckDigit.{passes}
 use Rattle.models.specs.declared.Group.{Group}
 use Rattle.models.specs.Models.{model_of}
@@ -17,8 +17,6 @@ use Rattle.slip.specs.Slip.{slip_answer}
 use Rattle.slip.proofs.Theorems.{field_text}
 use Rattle.slip.proofs.Plain.{PlainSlip, accepted_plainly, accepted_groups_pass}
 use Rattle.slip_handed.specs.Handed.{amount_of, field_of, slip_cents}
-use Rattle.slip_writer.specs.declared.Written.{Written}
-use Rattle.slip_writer.specs.declared.Written.TheVariants as written
 use Rattle.slip_writer.specs.Writer.{slip_text, write_answer, left_by_slip}
 use Rattle.slip_writer.specs.Claims.{ReadsBack, slip_fields}
 use Rattle.slip_writer.proofs.Theorems.{bytes_counted, written_is_accepted, read_and_written_again, accepted_is_written}
@@ -45,7 +43,7 @@ slip_exactly κs a z w call =
 
 -- of an accepted slip's reference each check group that has parts there ends in its check digit
 pub slip_groups_pass :
-    EverySlipRead (λ slip r. r.number ≡ 0 → (n : ℕ) → model_number (field_text slip 11) ≡ At n → (g : Group) → Memᴰ g (model_of n).groups →
+    EverySlipRead (λ slip r. r.number ≡ 0 → (n : ℕ) → model_number (field_text slip 11) ≡ Some n → (g : Group) → Memᴰ g (model_of n).groups →
     let here = present g (parts_of (field_text slip 12)) in (here ≡ [] → ⊥) → passes g.rule (joined here) ≡ true)
 slip_groups_pass κs a z w call h = accepted_groups_pass Euro a.0.now ((told_zero _ z call).0 h)
 
@@ -54,12 +52,12 @@ pub slip_field_handed : EverySlipField (λ slip n part. take part.length (drop p
 slip_field_handed κs a z w call = rw call (part_is_field a.0.now a.1.0)
 
 -- the amount that is told of an accepted slip
-pub cents_told_lem : (s : List ℕ) → slip_answer s ≡ Accepted → cents_told (slip_cents s) ≡ valued accepted (amount_of s)
+pub cents_told_lem : (s : List ℕ) → slip_answer s ≡ Ok tt → cents_told (slip_cents s) ≡ valued accepted (amount_of s)
 unfolding cents_told
 cents_told_lem s e = rw e
 
 -- ---------------------------------------------------------------------------
--- Written, and read back
+-- Result ℕ Refusal, and read back
 
 -- what was written: a slip at the front of the room that reads back as what was given, and all behind it as it was
 pub record Wrote (cents : ℕ) (fields : List (List ℕ)) (out : List ℕ) (n : ℕ) (after : List ℕ) : Type 0 where
@@ -69,7 +67,7 @@ pub record Wrote (cents : ℕ) (fields : List (List ℕ)) (out : List ℕ) (n : 
   pub rest : drop n after ≡ drop n out
 
 module _ (cents : ℕ) (fields : List (List ℕ)) (all : length fields ≡ 11) (out : List ℕ) (z : Valued) (after : List ℕ) (h : z.told.number ≡ 0) where
-  bytes_wrote : (n : ℕ) → write_answer cents fields (length out) ≡ written.Bytes n → after ≡ slip_text cents fields ++ drop (length (slip_text cents fields)) out → Wrote cents fields out n after
+  bytes_wrote : (n : ℕ) → write_answer cents fields (length out) ≡ Ok n → after ≡ slip_text cents fields ++ drop (length (slip_text cents fields)) out → Wrote cents fields out n after
   bytes_wrote n q w =
       let s = slip_text cents fields in
       let b = written_is_accepted cents fields (length out) n all q in
@@ -80,10 +78,10 @@ module _ (cents : ℕ) (fields : List (List ℕ)) (all : length fields ≡ 11) (
         rest = rw (b.size, w) (drop-append_seam s (drop (length s) out));
       }
 
-  pub answer_wrote : (x : Written) → write_answer cents fields (length out) ≡ x → z ≡ written_of x → after ≡ left_by_slip x (slip_text cents fields) out → Wrote cents fields out z.value after
+  pub answer_wrote : (x : Result ℕ Refusal) → write_answer cents fields (length out) ≡ x → z ≡ written_of x → after ≡ left_by_slip x (slip_text cents fields) out → Wrote cents fields out z.value after
   unfolding written_of
-  answer_wrote (written.Bytes n) q e w = rw e (bytes_wrote n q w)
-  answer_wrote (written.Refused r) q e w = let k : refusal_number r ≡ 0 = rw e at h in absurd (omega (arith, number_not_zero r))
+  answer_wrote (Ok n) q e w = rw e (bytes_wrote n q w)
+  answer_wrote (Err r) q e w = let k : refusal_number r ≡ 0 = rw e at h in absurd (omega (arith, number_not_zero r))
 
   whole_wrote :
       (b : Bool) → z ≡ cond b (written_of (write_answer cents fields (length out))) (valued (refusal (Size none)) 0)
@@ -154,7 +152,7 @@ fields_again slip = rw (fields_joined (slip_fields slip))
 
 -- by the amount that was read
 written_again :
-    (slip out : List ℕ) (z : Valued) (after : List ℕ) → slip_answer slip ≡ Accepted → length slip ≤ length out
+    (slip out : List ℕ) (z : Valued) (after : List ℕ) → slip_answer slip ≡ Ok tt → length slip ≤ length out
     → WritesSlipGiven (amount_of slip) (map length (slip_fields slip)) (joined (slip_fields slip)) out z after → (z ≡ valued accepted (length slip)) × (take (length slip) after ≡ slip)
 unfolding written_of
 written_again slip out z after e fits call =

@@ -2,9 +2,8 @@
 -- written with standing text.
 -- Assumes nothing.
 use Rattle.refusal.proofs.Basics.{◌≡◌, refl, sym, ap, ◌∙◌, arith, ℕ, ◌+◌, ◌-◌, ◌^◌, ◌≤◌, length, take, drop, get_or, take-nil, drop_of_length-le, List, [], map, Bool, true, false, cond, eqb, ltb, eqb-true, eqb-false, ◌↔◌}
-use Rattle.refusal.specs.Refusal.{none, refusal_number}
-use Rattle.refusal.specs.declared.Answer.{Answer}
-use Rattle.refusal.specs.declared.Answer.TheVariants as answer
+use Rattle.std.specs.Prelude.{Err, Ok, Result}
+use Rattle.refusal.specs.Refusal.{Answer, none, refusal_number}
 use Rattle.refusal.specs.declared.Refusal.{Refusal}
 use Rattle.refusal.specs.declared.Refusal.TheVariants.{Size, Length, Room}
 use Rattle.refusal.proofs.Theorems.{refused_not_accepted}
@@ -15,8 +14,6 @@ use Rattle.slip_fields.specs.declared.Currency.TheVariants.{Euro}
 use Rattle.slip_fields.specs.Fields.{field_verdict}
 use Rattle.slip_given.specs.Given.{given_answer}
 use Rattle.slip_given.proofs.Laws.{not_there}
-use Rattle.slip_writer.specs.declared.Written.{Written}
-use Rattle.slip_writer.specs.declared.Written.TheVariants as written
 use Rattle.slip_writer.specs.Writer.{slip_text, after_fields, write_answer, left_by_slip}
 use Rattle.sheet.specs.Sheet.{is_standing, bad_line}
 use Rattle.sheet.specs.Claims.{FieldLine, RightLines, sheet_text, fields_in, text_among, is_among}
@@ -50,7 +47,7 @@ use Rattle.promises.proofs.Slips.{Wrote, answer_wrote, given_at, reads_accepted,
 -- What is told
 
 -- an accepted question tells 0, and no other
-asked_zero : (s : Standing) (z : StandingTold) → z ≡ standing_told s → (z.told.number ≡ 0) ↔ (s.answer ≡ answer.Accepted)
+asked_zero : (s : Standing) (z : StandingTold) → z ≡ standing_told s → (z.told.number ≡ 0) ↔ (s.answer ≡ Ok tt)
 unfolding standing_told
 asked_zero s z e = told_zero s.answer z.told (ap (λ (t : StandingTold). t.told) e)
 
@@ -144,24 +141,24 @@ standing_text_written_back fs gs u v κs a z w call f g h =
 
 -- the sheets' refusal
 sheets_refused :
-    (farm association : List ℕ) (r : Refusal) (t : Told) (k : ℕ) → (both_judged farm association).answer ≡ answer.Refused r → t ≡ refusal r → k ≡ sheet_number (both_judged farm association).sheet
+    (farm association : List ℕ) (r : Refusal) (t : Told) (k : ℕ) → (both_judged farm association).answer ≡ Err r → t ≡ refusal r → k ≡ sheet_number (both_judged farm association).sheet
     → SheetRefused farm association t k
 unfolding sheets_judged sheet_number told_of
 sheets_refused farm association r t k e told sheet = go (eqb (bad_line farm) 0) (eqb (bad_line association) 0) refl refl e sheet
   where
-    same : (n : ℕ) → answer.Refused (Refusal.Sheet (record { line = n; field = 0; byte = 0 })) ≡ answer.Refused r → refusal r ≡ malformed_line n
+    same : (n : ℕ) → Err (Refusal.Sheet (record { line = n; field = 0; byte = 0 })) ≡ Err r → refusal r ≡ malformed_line n
     same n h = ap (λ (x : Answer). told_of x) (sym h)
 
     judged : Bool → Bool → Judged
-    judged x y = cond x (cond y (record { sheet = Neither; answer = answer.Accepted }) (malformed_in Association (bad_line association))) (malformed_in Farm (bad_line farm))
+    judged x y = cond x (cond y (record { sheet = Neither; answer = Ok tt }) (malformed_in Association (bad_line association))) (malformed_in Farm (bad_line farm))
 
-    go : (x y : Bool) → eqb (bad_line farm) 0 ≡ x → eqb (bad_line association) 0 ≡ y → (judged x y).answer ≡ answer.Refused r → k ≡ sheet_number (judged x y).sheet → SheetRefused farm association t k
+    go : (x y : Bool) → eqb (bad_line farm) 0 ≡ x → eqb (bad_line association) 0 ≡ y → (judged x y).answer ≡ Err r → k ≡ sheet_number (judged x y).sheet → SheetRefused farm association t k
     go true true p q h s = absurd (refused_not_accepted r (sym h))
     go true false p q h s =
-        let is : (malformed_in Association (bad_line association)).answer ≡ answer.Refused r = h in
+        let is : (malformed_in Association (bad_line association)).answer ≡ Err r = h in
         associations ((right_exactly farm).0 (eqb-true (bad_line farm) 0 p)) (bad_line association) (bad_is_first association (eqb-false (bad_line association) 0 q)) (told ∙ same (bad_line association) is) s
     go false y p q h s =
-        let is : (malformed_in Farm (bad_line farm)).answer ≡ answer.Refused r = h in
+        let is : (malformed_in Farm (bad_line farm)).answer ≡ Err r = h in
         farms (bad_line farm) (bad_is_first farm (eqb-false (bad_line farm) 0 p)) (told ∙ same (bad_line farm) is) s
 
 -- what is told of a refused question
@@ -176,9 +173,9 @@ refused_told n farm association z call h = go (is_standing n) refl (both_judged 
         → (StandingRefused n farm association z.told z.sheet) × ((z.start ≡ 0) × (z.length ≡ 0))
     go false e x f c =
         (field e (ap (λ (t : StandingTold). t.told) c) (ap (λ (t : StandingTold). t.sheet) c), (ap (λ (t : StandingTold). t.start) c, ap (λ (t : StandingTold). t.length) c))
-    go true e answer.Accepted f c =
+    go true e (Ok tt) f c =
         absurd (h ((asked_zero (standing_of n farm association) z call).1 ((standing.asked_exactly n farm association).1 (e, neither_bad (bad_line farm) (bad_line association) f))))
-    go true e (answer.Refused r) f c =
+    go true e (Err r) f c =
         (line e (sheets_refused farm association r z.told z.sheet f (ap (λ (t : StandingTold). t.told) c) (ap (λ (t : StandingTold). t.sheet) c)), (ap (λ (t : StandingTold). t.start) c, ap (λ (t : StandingTold). t.length) c))
 
 -- 28, then 20 with the first malformed line, the farm's sheet first
@@ -202,16 +199,16 @@ written_elsewhere cents fields room n l u all right = go (ltb cents (10 ^ 15)) (
     there : 4 + (n - 4) ≡ n
     there = omega arith
 
-    room_told : (b : Bool) → (written_of (cond b (written.Refused (Room none (length (slip_text cents fields)))) (written.Bytes (length (slip_text cents fields))))).told.field ≡ n → ⊥
+    room_told : (b : Bool) → (written_of (cond b (Err (Room none (length (slip_text cents fields)))) (Ok (length (slip_text cents fields))))).told.field ≡ n → ⊥
     room_told true e = omega (arith, e)
     room_told false e = omega (arith, e)
 
     go :
         (t : Bool) (x : Answer) → given_answer 4 [] fields ≡ x
-        → (written_of (cond t (after_fields x (slip_text cents fields) room) (written.Refused (Length (record { line = 0; field = 3; byte = 0 }))))).told.field ≡ n → ⊥
+        → (written_of (cond t (after_fields x (slip_text cents fields) room) (Err (Length (record { line = 0; field = 3; byte = 0 }))))).told.field ≡ n → ⊥
     go false x g e = omega (arith, e)
-    go true answer.Accepted g e = room_told (ltb room (length (slip_text cents fields))) e
-    go true (answer.Refused r) g e = not_there 4 [] fields r (n - 4) g (omega arith) (rw there right) (e ∙ sym there)
+    go true (Ok tt) g e = room_told (ltb room (length (slip_text cents fields))) e
+    go true (Err r) g e = not_there 4 [] fields r (n - 4) g (omega arith) (rw there right) (e ∙ sym there)
 
 -- "what is answered for a field is accepted by the slip's writer at that field"
 pub standing_text_writable :
@@ -238,10 +235,10 @@ standing_text_writable κs a z w call h κs' a' z' w' call' given =
 
 -- what the call answers: 1, or 20, or what the writer answers
 data Answered (cents : ℕ) (sizes text farm association : List ℕ) (room : ℕ) (s : StandingSlip) : Type 0 where
-  unsized : lent_whole 11 sizes text ≡ false → s ≡ record { sheet = Neither; written = written.Refused (Size none) } → Answered cents sizes text farm association room s
+  unsized : lent_whole 11 sizes text ≡ false → s ≡ record { sheet = Neither; written = Err (Size none) } → Answered cents sizes text farm association room s
   malformed :
-      lent_whole 11 sizes text ≡ true → (r : Refusal) → (both_judged farm association).answer ≡ answer.Refused r
-      → s ≡ record { sheet = (both_judged farm association).sheet; written = written.Refused r } → Answered cents sizes text farm association room s
+      lent_whole 11 sizes text ≡ true → (r : Refusal) → (both_judged farm association).answer ≡ Err r
+      → s ≡ record { sheet = (both_judged farm association).sheet; written = Err r } → Answered cents sizes text farm association room s
   writes :
       lent_whole 11 sizes text ≡ true → bad_line farm ≡ 0 → bad_line association ≡ 0
       → s ≡ record { sheet = Neither; written = write_answer cents (filled_fields sizes text farm association) room } → Answered cents sizes text farm association room s
@@ -252,10 +249,10 @@ answered cents sizes text farm association room = go (lent_whole 11 sizes text) 
   where
     go :
         (t : Bool) → lent_whole 11 sizes text ≡ t → (x : Answer) → (both_judged farm association).answer ≡ x
-        → Answered cents sizes text farm association room (cond t (slip_after_sheets (both_judged farm association).sheet x (write_answer cents (filled_fields sizes text farm association) room)) (record { sheet = Neither; written = written.Refused (Size none) }))
+        → Answered cents sizes text farm association room (cond t (slip_after_sheets (both_judged farm association).sheet x (write_answer cents (filled_fields sizes text farm association) room)) (record { sheet = Neither; written = Err (Size none) }))
     go false e x f = unsized e refl
-    go true e (answer.Refused r) f = malformed e r f refl
-    go true e answer.Accepted f = let b = neither_bad (bad_line farm) (bad_line association) f in writes e b.0 b.1 refl
+    go true e (Err r) f = malformed e r f refl
+    go true e (Ok tt) f = let b = neither_bad (bad_line farm) (bad_line association) f in writes e b.0 b.1 refl
 
 -- of a right call: the writer's answer
 right_answered :
@@ -289,9 +286,9 @@ slip_write_standing_refused_first κs a z w call h = go (answered cents given te
     out : List ℕ
     out = a.1.1.1.1.1.0.now
 
-    by : (x : Written) → write_answer cents (filled_fields given text farm association) (length out) ≡ x → z ≡ written_told (record { sheet = Neither; written = x }) → (r : Refusal) × ((x ≡ written.Refused r) × ((z.told ≡ refusal r) × (z.sheet ≡ 0)))
-    by (written.Bytes n) q e = absurd (h (ap (λ (t : StandingWritten). t.told.number) e))
-    by (written.Refused r) q e = (r, (refl, (ap (λ (t : StandingWritten). t.told) e, ap (λ (t : StandingWritten). t.sheet) e)))
+    by : (x : Result ℕ Refusal) → write_answer cents (filled_fields given text farm association) (length out) ≡ x → z ≡ written_told (record { sheet = Neither; written = x }) → (r : Refusal) × ((x ≡ Err r) × ((z.told ≡ refusal r) × (z.sheet ≡ 0)))
+    by (Ok n) q e = absurd (h (ap (λ (t : StandingWritten). t.told.number) e))
+    by (Err r) q e = (r, (refl, (ap (λ (t : StandingWritten). t.told) e, ap (λ (t : StandingWritten). t.sheet) e)))
 
     go :
         Answered cents given text farm association (length out) (standing_slip cents given text farm association (length out))
@@ -346,9 +343,9 @@ slip_write_standing_of_empty_sheets κs a z w call f g κs' a' z' w' call' cents
     (rw s at c) (rw (s, with_empty_sheets given lent) at l) (rw (cents, text, sizes, out) at call'.answers) (rw (cents, text, sizes, out) at call'.leaves)
   where
     go :
-        (t : Bool) (x : Written) (slip old : List ℕ)
-        → z ≡ written_told (cond {A = StandingSlip} t (record { sheet = Neither; written = x }) (record { sheet = Neither; written = written.Refused (Size none) }))
-        → w.1.1.1.1.1.0 ≡ left_by_slip (cond {A = StandingSlip} t (record { sheet = Neither; written = x }) (record { sheet = Neither; written = written.Refused (Size none) })).written slip old
+        (t : Bool) (x : Result ℕ Refusal) (slip old : List ℕ)
+        → z ≡ written_told (cond {A = StandingSlip} t (record { sheet = Neither; written = x }) (record { sheet = Neither; written = Err (Size none) }))
+        → w.1.1.1.1.1.0 ≡ left_by_slip (cond {A = StandingSlip} t (record { sheet = Neither; written = x }) (record { sheet = Neither; written = Err (Size none) })).written slip old
         → z' ≡ cond t (written_of x) (valued (refusal (Size none)) 0) → w'.1.1.1.0 ≡ cond t (left_by_slip x slip old) old
         → (z.told ≡ z'.told) × ((z.value ≡ z'.value) × (w.1.1.1.1.1.0 ≡ w'.1.1.1.0))
     go true x slip old c l d m = (ap (λ (y : StandingWritten). y.told) c ∙ sym (ap (λ (v : Valued). v.told) d), (ap (λ (y : StandingWritten). y.value) c ∙ sym (ap (λ (v : Valued). v.value) d), l ∙ sym m))

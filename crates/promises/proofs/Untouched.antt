@@ -1,14 +1,11 @@
 -- Demand 1: "A refusal .. writes to none of the lent memory", of the calls that are lent memory to write (the listings': Listings.antt); and fields that are not lent whole are
 -- refused. Assumes nothing.
 use Rattle.refusal.proofs.Basics.{◌≡◌, refl, ap, ◌∙◌, ℕ, length, take, ne_eqb, List, Bool, true, false, cond}
-use Rattle.refusal.specs.Refusal.{none}
-use Rattle.refusal.specs.declared.Answer.{Answer}
-use Rattle.refusal.specs.declared.Answer.TheVariants.{Accepted, Refused}
+use Rattle.std.specs.Prelude.{Err, Ok, Result}
+use Rattle.refusal.specs.Refusal.{Answer, none}
 use Rattle.refusal.specs.declared.Refusal.{Refusal}
 use Rattle.refusal.specs.declared.Refusal.TheVariants.{Size}
 use Rattle.filling.specs.Filling.{filled_answer, filled_by}
-use Rattle.slip_writer.specs.declared.Written.{Written}
-use Rattle.slip_writer.specs.declared.Written.TheVariants as written
 use Rattle.slip_writer.specs.Writer.{write_answer, slip_text, left_by_slip}
 use Rattle.lent_fields.specs.Fields.{together, lent_whole, for_sizes}
 use Rattle.line_room.specs.LineRoom.{left_by_line}
@@ -26,10 +23,10 @@ use Rattle.promises.specs.Calls.{EveryFilled, EverySlipWrite, EverySlipWriteStan
 -- Wet slips
 
 -- what an answer leaves, where a refusal leaves all as it was
-kept : (left : Answer → List ℕ) (out : List ℕ) → ((r : Refusal) → left (Refused r) ≡ out) → (a : Answer) (z : Told) (after : List ℕ) → z ≡ told_of a → after ≡ left a → (z.number ≡ 0 → ⊥) → after ≡ out
+kept : (left : Answer → List ℕ) (out : List ℕ) → ((r : Refusal) → left (Err r) ≡ out) → (a : Answer) (z : Told) (after : List ℕ) → z ≡ told_of a → after ≡ left a → (z.number ≡ 0 → ⊥) → after ≡ out
 unfolding told_of
-kept left out keeps Accepted z after e w h = absurd (h (ap (λ (t : Told). t.number) e))
-kept left out keeps (Refused r) z after e w h = w ∙ keeps r
+kept left out keeps (Ok tt) z after e w h = absurd (h (ap (λ (t : Told). t.number) e))
+kept left out keeps (Err r) z after e w h = w ∙ keeps r
 
 pub filled_untouched : EveryFilled (λ text number out r after. (r.number ≡ 0 → ⊥) → after ≡ out)
 filled_untouched κs a z w call =
@@ -41,14 +38,14 @@ filled_untouched κs a z w call =
 -- Slips
 
 -- what a slip leaves
-slip_kept : (x : Written) (s out after : List ℕ) (z : Valued) → z ≡ written_of x → after ≡ left_by_slip x s out → (z.told.number ≡ 0 → ⊥) → after ≡ out
+slip_kept : (x : Result ℕ Refusal) (s out after : List ℕ) (z : Valued) → z ≡ written_of x → after ≡ left_by_slip x s out → (z.told.number ≡ 0 → ⊥) → after ≡ out
 unfolding written_of
-slip_kept (written.Bytes n) s out after z e w h = absurd (h (ap (λ (v : Valued). v.told.number) e))
-slip_kept (written.Refused r) s out after z e w h = w
+slip_kept (Ok n) s out after z e w h = absurd (h (ap (λ (v : Valued). v.told.number) e))
+slip_kept (Err r) s out after z e w h = w
 
 -- where it is asked first whether the fields are lent whole
 whole_kept :
-    (b : Bool) (x : Written) (s out after : List ℕ) (z : Valued) → z ≡ cond b (written_of x) (valued (refusal (Size none)) 0) → after ≡ cond b (left_by_slip x s out) out
+    (b : Bool) (x : Result ℕ Refusal) (s out after : List ℕ) (z : Valued) → z ≡ cond b (written_of x) (valued (refusal (Size none)) 0) → after ≡ cond b (left_by_slip x s out) out
     → (z.told.number ≡ 0 → ⊥) → after ≡ out
 whole_kept true x s out after z e w h = slip_kept x s out after z e w h
 whole_kept false x s out after z e w h = w

@@ -1,13 +1,13 @@
 -- Document 02, W4, of the call `lanecockle_reference`: what HR69 asks of three parts and of two, and that no other answer moved.
 -- Assumes nothing.
 use Rattle.refusal.proofs.Basics.{◌≡◌, refl, sym, ap, ◌∙◌, arith, ℕ, ◌+◌, ◌-◌, ◌*◌, ◌≤◌, ◌<◌, length, get_or, length-append, le-leb, leb-true, lt-ltb, eqb-true, List, [], ◌∷◌, ◌++◌, append-nil, Bool, true, false, cond, ◌&&◌, eqb, leb, ltb, ◌↔◌, ◌⊎◌, inl, inr, both_true}
+use Rattle.std.specs.Prelude.{Some, None}
 use Rattle.classes.specs.Classes.{is_digit}
 use Rattle.classes.specs.declared.Class.TheVariants.{Digits}
 use Rattle.classes.proofs.Laws.{digit_bounds}
 use Rattle.text.specs.Bytes.{all_of}
 use Rattle.text.specs.Digits.{digits_of, value_from, two_digits, digits_text}
 use Rattle.text.specs.Split.{joined}
-use Rattle.text.specs.declared.Found.TheVariants.{At, Nothing}
 use Rattle.check_digits.specs.declared.Rule.TheVariants.{Ini, Mod1110}
 use Rattle.check_digits.specs.CheckDigit.{weighted, check_digit, passes}
 use Rattle.account.specs.Account.{oib_passes}
@@ -186,10 +186,10 @@ four (a ∷ (b ∷ (c ∷ (d ∷ [])))) h = refl
 four (a ∷ (b ∷ (c ∷ (d ∷ (e ∷ m))))) h = absurd (omega arith)
 
 -- two digits that write 69
-sixty_nine : (x y : ℕ) → two_digits x y ≡ At 69 → (x ≡ 54) × (y ≡ 57)
+sixty_nine : (x y : ℕ) → two_digits x y ≡ Some 69 → (x ≡ 54) × (y ≡ 57)
 sixty_nine x y e = go (is_digit x && is_digit y) refl e
   where
-    go : (b : Bool) → (is_digit x && is_digit y) ≡ b → cond b (At ((x - 48) * 10 + (y - 48))) Nothing ≡ At 69 → (x ≡ 54) × (y ≡ 57)
+    go : (b : Bool) → (is_digit x && is_digit y) ≡ b → cond b (Some ((x - 48) * 10 + (y - 48))) None ≡ Some 69 → (x ≡ 54) × (y ≡ 57)
     go true d q =
         let z : (x - 48) * 10 + (y - 48) ≡ 69 = cc in
         let w = both_true (is_digit x) (is_digit y) d in
@@ -199,10 +199,10 @@ sixty_nine x y e = go (is_digit x && is_digit y) refl e
     go false d q = let z : ◌≡◌ {A = ℕ} 0 1 = cc in absurd (omega arith)
 
 -- a text with the number 69 is `HR69`
-only_69 : (m : List ℕ) → model_number m ≡ At 69 → m ≡ hr69
+only_69 : (m : List ℕ) → model_number m ≡ Some 69 → m ≡ hr69
 only_69 m e = go (eqb (length m) 4 && (eqb (get_or m 0 0) 72 && eqb (get_or m 1 0) 82)) refl e
   where
-    go : (b : Bool) → (eqb (length m) 4 && (eqb (get_or m 0 0) 72 && eqb (get_or m 1 0) 82)) ≡ b → cond b (two_digits (get_or m 2 0) (get_or m 3 0)) Nothing ≡ At 69 → m ≡ hr69
+    go : (b : Bool) → (eqb (length m) 4 && (eqb (get_or m 0 0) 72 && eqb (get_or m 1 0) 82)) ≡ b → cond b (two_digits (get_or m 2 0) (get_or m 3 0)) None ≡ Some 69 → m ≡ hr69
     go true t q =
         let l = both_true (eqb (length m) 4) _ t in
         let h = both_true (eqb (get_or m 0 0) 72) (eqb (get_or m 1 0) 82) l.1 in

@@ -1,9 +1,9 @@
 -- Demand 2, wage files: accepted exactly when; whole, in parts and line by line; written, and read back; read, and written again. Of the calls
 -- `lanecockle_wage_file`, `lanecockle_judge_begin`, `_step`, `_lines`, `_end`, `lanecockle_wage_place` and the four writers. Assumes nothing.
 use Rattle.refusal.proofs.Basics.{◌≡◌, refl, sym, ap, ◌∙◌, arith, ℕ, ◌/◌, ◌%◌, ◌≤◌, ◌<◌, length, take, drop, get_or, drop_of_length-le, List, [], ◌∷◌, ◌++◌, Bool, true, false, cond, ◌||◌, eqb, take_all, take_at, drop_at, ◌↔◌}
-use Rattle.refusal.specs.Refusal.{none, refusal_number}
-use Rattle.refusal.specs.declared.Answer.{Answer}
-use Rattle.refusal.specs.declared.Answer.TheVariants.{Accepted, Refused}
+use Rattle.std.specs.Prelude.{Err, Ok, Result}
+use Rattle.refusal.specs.Refusal.{Answer, none, refusal_number}
+use Rattle.refusal.specs.declared.Refusal.{Refusal}
 use Rattle.refusal.specs.declared.Refusal.TheVariants.{Size}
 use Rattle.text.specs.declared.Part.{Part}
 use Rattle.text.specs.Split.{joined}
@@ -13,15 +13,12 @@ use Rattle.wage_places.specs.declared.LineType.{LineType}
 use Rattle.wage_places.specs.declared.LineType.TheVariants.{Label, Group, Order, Closing}
 use Rattle.wage_places.specs.Places.{spots}
 use Rattle.wage_places.proofs.Theorems.{place_at}
-use Rattle.wage_line.specs.declared.Typed.TheVariants.{Line}
 use Rattle.wage_line.specs.Line.{typed_of, place_of}
 use Rattle.wage_line.specs.Pieces.{pieces_of, pieces}
 use Rattle.wage_line.proofs.PieceLaws.{pieces_first}
 use Rattle.wage_line.proofs.Theorems.{typed_exactly}
 use Rattle.wage_fields.specs.Rules.{RightLine}
 use Rattle.condition.specs.declared.Counts.{Counts}
-use Rattle.condition.specs.declared.Ending.{Ending}
-use Rattle.condition.specs.declared.Ending.TheVariants as ending
 use Rattle.condition.specs.declared.Judge.{Judge}
 use Rattle.condition.specs.Record.{begun}
 use Rattle.judge.specs.Judge.{steps}
@@ -52,23 +49,23 @@ use Rattle.promises.specs.Calls.{EveryJudgeBegin, EveryJudgeStep, EveryJudgeLine
 use Rattle.promises.specs.Wages.{RightBytes}
 
 -- ---------------------------------------------------------------------------
--- Accepted exactly when
+-- (Ok tt) exactly when
 
 -- an end told by 0 is an acceptance
-accepted_end : (e : Ending) (z : Ended) → z ≡ ended_of e → z.told.number ≡ 0 → (n : Counts) × (e ≡ ending.Accepted n)
+accepted_end : (e : Result Counts Refusal) (z : Ended) → z ≡ ended_of e → z.told.number ≡ 0 → (n : Counts) × (e ≡ Ok n)
 unfolding ended_of
-accepted_end (ending.Accepted n) z w h = (n, refl)
-accepted_end (ending.Refused r) z w h = let q : refusal_number r ≡ 0 = ap (λ (t : Ended). t.told.number) (sym w) ∙ h in absurd (omega (arith, number_not_zero r))
+accepted_end (Ok n) z w h = (n, refl)
+accepted_end (Err r) z w h = let q : refusal_number r ≡ 0 = ap (λ (t : Ended). t.told.number) (sym w) ∙ h in absurd (omega (arith, number_not_zero r))
 
 -- and tells its counts
 counts_told :
-    (e : Ending) (n : Counts) (z : Ended) → z ≡ ended_of e → e ≡ ending.Accepted n
+    (e : Result Counts Refusal) (n : Counts) (z : Ended) → z ≡ ended_of e → e ≡ Ok n
     → (z.told.number ≡ 0) × ((z.lines ≡ n.lines) × ((z.groups ≡ n.tally.groups) × ((z.orders ≡ n.tally.orders) × (z.total ≡ n.tally.total))))
 unfolding ended_of
 counts_told e n z w a = let q = w ∙ ap ended_of a in rw q (refl, (refl, (refl, (refl, refl))))
 
 -- a right file's answer
-right_answer : (day : ℕ) (bytes : List ℕ) (w : RightBytes day bytes) → file_answer day bytes ≡ ending.Accepted (counts_in w.file)
+right_answer : (day : ℕ) (bytes : List ℕ) (w : RightBytes day bytes) → file_answer day bytes ≡ Ok (counts_in w.file)
 right_answer day bytes w = (file_accepted_exactly day bytes (counts_in w.file)).1 (record { file = w.file; lines = sym w.lines; right = w.right; counts = refl })
 
 -- accepted exactly when it is right
@@ -138,10 +135,10 @@ step_is_line κs a z w step whole κs1 a1 z1 w1 lines sameRecord sameBytes = rw 
 -- Written
 
 -- where it is asked first whether the fields are lent whole: the rest is accepted
-sized : (fields : ℕ) (sizes text : List ℕ) (rest : Answer) → for_sizes fields sizes text rest ≡ Accepted → rest ≡ Accepted
+sized : (fields : ℕ) (sizes text : List ℕ) (rest : Answer) → for_sizes fields sizes text rest ≡ Ok tt → rest ≡ Ok tt
 sized fields sizes text rest = go (lent_whole fields sizes text)
   where
-    go : (b : Bool) → cond b rest (Refused (Size none)) ≡ Accepted → rest ≡ Accepted
+    go : (b : Bool) → cond b rest (Err (Size none)) ≡ Ok tt → rest ≡ Ok tt
     go true e = e
     go false e = let z : ◌≡◌ {A = ℕ} 0 1 = cc in absurd (omega arith)
 
@@ -151,7 +148,7 @@ record Front (line out after : List ℕ) : Type 0 where
   behind : drop 1002 after ≡ drop 1002 out
 
 -- where an accepted line stands
-stands : {a : Answer} {line out : List ℕ} {z : Told} {after : List ℕ} → WritesLine a line out z after → a ≡ Accepted → length line ≡ 1002 → Front line out after
+stands : {a : Answer} {line out : List ℕ} {z : Told} {after : List ℕ} → WritesLine a line out z after → a ≡ Ok tt → length line ≡ 1002 → Front line out after
 stands {a} {line} {out} {z} {after} call e whole =
     let l : after ≡ line ++ drop 1002 out = rw e at call.leaves in
     record { front = rw l (take_at line (drop 1002 out) 1002 whole); behind = rw l (drop_at line (drop 1002 out) 1002 whole) }
@@ -159,35 +156,35 @@ stands {a} {line} {out} {z} {after} call e whole =
 -- from fields that are lent with their sizes
 lent_stands :
     (fields : ℕ) (sizes text : List ℕ) (rest : Answer) (line out : List ℕ) (z : Told) (after : List ℕ) → WritesLine (for_sizes fields sizes text rest) line out z after → z.number ≡ 0
-    → (rest ≡ Accepted → length line ≡ 1002) → (rest ≡ Accepted) × Front line out after
+    → (rest ≡ Ok tt → length line ≡ 1002) → (rest ≡ Ok tt) × Front line out after
 lent_stands fields sizes text rest line out z after call h whole =
     let e = (told_zero (for_sizes fields sizes text rest) z call.answers).0 h in
     let r = sized fields sizes text rest e in
     (r, stands call e (whole r))
 
 -- a line of a type has 1,002 bytes
-typed_whole : (t : LineType) (s : List ℕ) → typed_of s ≡ Line t → length s ≡ 1002
+typed_whole : (t : LineType) (s : List ℕ) → typed_of s ≡ Ok t → length s ≡ 1002
 typed_whole t s e = ((typed_exactly t s).0 e).whole
 
 -- a 300
 label_stands :
     (day : ℕ) (fs : List (List ℕ)) (sizes text : List ℕ) {out : List ℕ} {z : Told} {after : List ℕ}
     → WritesLine (for_sizes 8 sizes text (label_answer day fs (length out))) (label_draft day fs).line out z after → z.number ≡ 0
-    → (label_answer day fs (length out) ≡ Accepted) × Front (label_draft day fs).line out after
+    → (label_answer day fs (length out) ≡ Ok tt) × Front (label_draft day fs).line out after
 label_stands day fs sizes text call h = lent_stands 8 sizes text _ _ _ _ _ call h (λ e. typed_whole Label _ (round.written_label_right day _ fs e).typed)
 
 -- a 309
 order_stands :
     (day kind : ℕ) (fs : List (List ℕ)) (sizes text : List ℕ) {out : List ℕ} {z : Told} {after : List ℕ}
     → WritesLine (for_sizes 16 sizes text (order_answer day kind fs (length out))) (order_draft day kind fs).line out z after → z.number ≡ 0
-    → (order_answer day kind fs (length out) ≡ Accepted) × Front (order_draft day kind fs).line out after
+    → (order_answer day kind fs (length out) ≡ Ok tt) × Front (order_draft day kind fs).line out after
 order_stands day kind fs sizes text call h = lent_stands 16 sizes text _ _ _ _ _ call h (λ e. typed_whole Order _ (round.written_order_right day _ kind fs e).typed)
 
 -- a 301
 group_stands :
     (day kind : ℕ) (fs : List (List ℕ)) (sizes text orders : List ℕ) {out : List ℕ} {z : Told} {after : List ℕ}
     → WritesLine (for_sizes 5 sizes text (group_answer day kind fs orders (length out))) (group_draft day kind fs orders).line out z after → z.number ≡ 0
-    → (group_answer day kind fs orders (length out) ≡ Accepted) × Front (group_draft day kind fs orders).line out after
+    → (group_answer day kind fs orders (length out) ≡ Ok tt) × Front (group_draft day kind fs orders).line out after
 group_stands day kind fs sizes text orders call h = lent_stands 5 sizes text _ _ _ _ _ call h (λ e. typed_whole Group _ (round.written_group_right day _ kind fs orders e).head.typed)
 
 -- what the writer of a 300 writes is right, and the room behind the line stays
@@ -206,7 +203,7 @@ pub written_group_lem :
 written_group_lem κs a z w call h = let l = group_stands _ _ _ _ _ _ call h in (rw l.1.front (round.written_group_right _ _ _ _ _ l.0), l.1.behind)
 
 -- and a 399 is one
-pub written_closing : EveryWriteClosing (λ day out r after. r.number ≡ 0 → (typed_of (take 1002 after) ≡ Line Closing) × (drop 1002 after ≡ drop 1002 out))
+pub written_closing : EveryWriteClosing (λ day out r after. r.number ≡ 0 → (typed_of (take 1002 after) ≡ Ok Closing) × (drop 1002 after ≡ drop 1002 out))
 written_closing κs a z w call h =
     let l = stands call ((told_zero (closing_answer a.0 (length a.1.0.now)) z call.answers).0 h) (typed_whole Closing (bare_line Closing) round.written_closing_right) in
     (rw l.front round.written_closing_right, l.behind)
@@ -265,10 +262,10 @@ right_lines_accepted κs a z w call f right e =
 -- where the sizes are the text's, the rest accepts and its line is s, s is what is written
 again :
     (fields : ℕ) (sizes text : List ℕ) (rest : Answer) (line out : List ℕ) (z : Told) (after s : List ℕ) → WritesLine (for_sizes fields sizes text rest) line out z after
-    → lent_whole fields sizes text ≡ true → (rest ≡ Accepted) × (line ≡ s) → length s ≡ 1002 → (z.number ≡ 0) × (take 1002 after ≡ s)
+    → lent_whole fields sizes text ≡ true → (rest ≡ Ok tt) × (line ≡ s) → length s ≡ 1002 → (z.number ≡ 0) × (take 1002 after ≡ s)
 unfolding told_of
 again fields sizes text rest line out z after s call lent e whole =
-    let f : for_sizes fields sizes text rest ≡ Accepted = rw (lent, e.0) in
+    let f : for_sizes fields sizes text rest ≡ (Ok tt) = rw (lent, e.0) in
     let t = call.answers ∙ ap told_of f in
     (rw t, (stands call f (ap length e.1 ∙ whole)).front ∙ e.1)
 

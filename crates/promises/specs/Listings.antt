@@ -1,6 +1,5 @@
 -- Demand 3, said of one call: what it was lent, what it answered, and what it left.
-use Rattle.std.specs.Prelude.{ℕ, ◌^◌, ◌<◌, ◌≤◌, ◌≡◌, Bool, true, List, length, get_or, take, drop}
-use Rattle.std.specs.Prelude.{◌↔◌}
+use Rattle.std.specs.Prelude.{ℕ, ◌^◌, ◌<◌, ◌≤◌, ◌≡◌, Bool, true, List, length, get_or, take, drop, ◌↔◌}
 use Rattle.text.specs.Bytes.{marks}
 use Rattle.filling.specs.Filling.{fill}
 use Rattle.fillings.specs.Listing.{Member, Ascending, accepted_below}

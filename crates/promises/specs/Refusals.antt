@@ -1,11 +1,10 @@
 -- Demand 1: what a call may tell; and which refusal comes first, of one slip, of one wage line, of one wage file.
-use Rattle.std.specs.Prelude.{ℕ, ◌-◌, ◌<◌, ◌≤◌, ◌≡◌, Bool, true, false, cond, ◌&&◌, List, [], ltb, length, get_or, take}
-use Rattle.std.specs.Prelude.{◌⊎◌}
+use Rattle.std.specs.Prelude.{ℕ, ◌-◌, ◌<◌, ◌≤◌, ◌≡◌, Bool, true, false, cond, ◌&&◌, List, [], ltb, length, get_or, take, Ok, Err, ◌⊎◌}
 use Rattle.refusal.specs.Refusal.{none, is_tabled, in_line}
-use Rattle.refusal.specs.declared.Answer.TheVariants.{Accepted, Refused}
 use Rattle.refusal.specs.declared.Refusal.{Refusal}
 use Rattle.refusal.specs.declared.Refusal.TheVariants.{Size, Ends, Date}
-use Rattle.verdict.specs.Verdict.{answer_at}
+use Rattle.verdict.specs.Verdict.{passed, refusal_at, answer_at}
+use Rattle.verdict.specs.declared.Fault.{Fault}
 use Rattle.text.specs.Split.{split}
 use Rattle.slip_fields.specs.declared.Currency.{Currency}
 use Rattle.slip_fields.specs.Fields.{field_verdict}
@@ -16,12 +15,11 @@ use Rattle.dates.specs.Dates.{is_date}
 use Rattle.wage_places.specs.declared.LineType.{LineType}
 use Rattle.wage_places.specs.Places.{spots}
 use Rattle.wage_places.proofs.Theorems.{place_at}
-use Rattle.wage_line.specs.declared.Typed.TheVariants as typed
 use Rattle.wage_line.specs.Line.{typed_of}
 use Rattle.wage_line.specs.Pieces.{pieces}
 use Rattle.wage_fields.specs.Rules.{place_answer}
 use Rattle.condition.specs.declared.Judge.{Judge}
-use Rattle.condition.specs.Record.{stage_of, is_refused, at_line, beyond, next_line, is_sound, begun}
+use Rattle.condition.specs.Record.{is_refused, line_place, at_line, beyond, next_line, is_sound, begun}
 use Rattle.standing.specs.Standing.{stand_verdict}
 use Rattle.judge.specs.Judge.{steps}
 use Rattle.boundary.specs.declared.Told.{Told}
@@ -49,8 +47,8 @@ pub data SlipRefused (c : Currency) (s : List ℕ) (r : Told) : Type 0 where
   ends : length s ≤ 483 → slip_ends s ≡ false → r ≡ refusal (Ends none) → SlipRefused c s r
   -- else field n, before which every field is right
   field :
-      length s ≤ 483 → slip_ends s ≡ true → (n : ℕ) → 1 ≤ n → n ≤ 14 → ((k : ℕ) → 1 ≤ k → k < n → field_verdict c k (text_before s k) (field_text s k) ≡ 0)
-      → (field_verdict c n (text_before s n) (field_text s n) ≡ 0 → ⊥) → r ≡ told_of (answer_at n (start_of s n) (field_verdict c n (text_before s n) (field_text s n))) → SlipRefused c s r
+      length s ≤ 483 → slip_ends s ≡ true → (n : ℕ) → 1 ≤ n → n ≤ 14 → ((k : ℕ) → 1 ≤ k → k < n → field_verdict c k (text_before s k) (field_text s k) ≡ passed)
+      → (field_verdict c n (text_before s n) (field_text s n) ≡ passed → ⊥) → r ≡ told_of (answer_at n (start_of s n) (field_verdict c n (text_before s n) (field_text s n))) → SlipRefused c s r
 
 -- ---------------------------------------------------------------------------
 -- A wage line, where the judge stands
@@ -64,16 +62,16 @@ pub data LineRefused (j : Judge) (s : List ℕ) (q : Refusal) : Type 0 where
   -- 17
   late : goes_on j ≡ false → q ≡ beyond → LineRefused j s q
   -- else 1, 2, 5
-  untyped : goes_on j ≡ true → (r : Refusal) → typed_of s ≡ typed.Refused r → q ≡ in_line (next_line j) r → LineRefused j s q
+  untyped : goes_on j ≡ true → (r : Refusal) → typed_of s ≡ Err r → q ≡ in_line (next_line j) r → LineRefused j s q
   -- else 10, 12, 13
   misplaced :
-      goes_on j ≡ true → (t : LineType) → typed_of s ≡ typed.Line t → (stand_verdict (stage_of j.condition) j.group t ≡ 0 → ⊥)
-      → q ≡ at_line (stand_verdict (stage_of j.condition) j.group t) (next_line j) → LineRefused j s q
+      goes_on j ≡ true → (t : LineType) → typed_of s ≡ Ok t → (f : Fault) → stand_verdict j.condition j.group t ≡ Err f
+      → q ≡ refusal_at f (line_place (next_line j)) → LineRefused j s q
   -- else the first place that is not right
   place :
-      goes_on j ≡ true → (t : LineType) → typed_of s ≡ typed.Line t → stand_verdict (stage_of j.condition) j.group t ≡ 0
-      → (k : ℕ) → k < length (spots t) → ((i : ℕ) → i < k → place_answer j.day j.kind t (place_at t i) s ≡ Accepted)
-      → (r : Refusal) → place_answer j.day j.kind t (place_at t k) s ≡ Refused r → q ≡ in_line (next_line j) r → LineRefused j s q
+      goes_on j ≡ true → (t : LineType) → typed_of s ≡ Ok t → stand_verdict j.condition j.group t ≡ passed
+      → (k : ℕ) → k < length (spots t) → ((i : ℕ) → i < k → place_answer j.day j.kind t (place_at t i) s ≡ Ok tt)
+      → (r : Refusal) → place_answer j.day j.kind t (place_at t k) s ≡ Err r → q ≡ in_line (next_line j) r → LineRefused j s q
 
 -- ---------------------------------------------------------------------------
 -- A wage file

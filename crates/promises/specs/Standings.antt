@@ -1,11 +1,9 @@
 -- Document 02, W2: what is claimed of the calls of standing text.
-use Rattle.std.specs.Prelude.{ℕ, ◌≡◌, true, false, cond, List, [], eqb, take, drop}
+use Rattle.std.specs.Prelude.{ℕ, ◌≡◌, true, false, cond, List, [], eqb, take, drop, Result, Err}
 use Rattle.refusal.specs.Refusal.{none}
 use Rattle.refusal.specs.declared.Refusal.{Refusal}
 use Rattle.refusal.specs.declared.Refusal.TheVariants.{Size, Sheet, Field}
 use Rattle.lent_fields.specs.Fields.{lent_whole}
-use Rattle.slip_writer.specs.declared.Written.{Written}
-use Rattle.slip_writer.specs.declared.Written.TheVariants as written
 use Rattle.sheet.specs.Sheet.{is_standing}
 use Rattle.sheet.specs.Claims.{FieldLine, RightLines, sheet_text, FirstMalformed}
 use Rattle.boundary.specs.declared.Told.{Told}
@@ -40,9 +38,9 @@ pub data StandingRefused (n : ℕ) (farm association : List ℕ) (t : Told) (she
   line : is_standing n ≡ true → SheetRefused farm association t sheet → StandingRefused n farm association t sheet
 
 -- a slip with standing text: 1 where the sizes are not the text's, 20 of the sheets, then the writer's refusal
-pub data SlipStandingRefused (sizes text farm association : List ℕ) (w : Written) (t : Told) (sheet : ℕ) : Type 0 where
+pub data SlipStandingRefused (sizes text farm association : List ℕ) (w : Result ℕ Refusal) (t : Told) (sheet : ℕ) : Type 0 where
   sizing : lent_whole 11 sizes text ≡ false → t ≡ refusal (Size none) → sheet ≡ 0 → SlipStandingRefused sizes text farm association w t sheet
   sheets : lent_whole 11 sizes text ≡ true → SheetRefused farm association t sheet → SlipStandingRefused sizes text farm association w t sheet
   writer :
-      lent_whole 11 sizes text ≡ true → RightSheet farm → RightSheet association → (r : Refusal) → w ≡ written.Refused r → t ≡ refusal r → sheet ≡ 0
+      lent_whole 11 sizes text ≡ true → RightSheet farm → RightSheet association → (r : Refusal) → w ≡ Err r → t ≡ refusal r → sheet ≡ 0
       → SlipStandingRefused sizes text farm association w t sheet

@@ -67,7 +67,7 @@ pub fn number_of(verb: &[u8], verbs: &[u8]) -> usize
     let n = text::count(124, verbs) + 1;
     let mut k = 0;
     while k < n {
-        if text::is_same(verb, field(verbs, k)) {
+        if verb == field(verbs, k) {
             return k;
         }
         k += 1;

@@ -2,11 +2,10 @@
 -- is a 5.
 -- Assumes nothing.
 use Rattle.refusal.proofs.Basics.{◌≡◌, refl, sym, ◌∙◌, arith, ℕ, ◌≤◌, length, lt-ltb, eqb-true, eqb-false, List, Bool, true, false, cond, eqb, leb, ◌⊎◌, inl, inr}
+use Rattle.std.specs.Prelude.{Option, Some, None}
 use Rattle.verdict.specs.Verdict.{only_if, and_then}
 use Rattle.text.specs.Bytes.{bytes_verdict}
 use Rattle.classes.specs.declared.Class.TheVariants.{Reference}
-use Rattle.text.specs.declared.Found.{Found}
-use Rattle.text.specs.declared.Found.TheVariants.{At, Nothing}
 use Rattle.models.specs.declared.Model.{Model}
 use Rattle.model_text.specs.Texts.{model_number}
 use Rattle.models.specs.Models.{model_of, special_of}
@@ -74,17 +73,17 @@ number_as_before n s h = held_as_before (model_of n) s (go (eqb n 69) refl)
 pub reference_moved : (m s : List ℕ) → (reference_verdict m s ≡ reference_before m s) ⊎ (reference_verdict m s ≡ 5)
 reference_moved m s = go (model_number m)
   where
-    go : (f : Found) → (number_verdict s f ≡ number_before s f) ⊎ (number_verdict s f ≡ 5)
-    go (At n) = moved_to_five (model_of n) s
-    go Nothing = inl refl
+    go : (f : Option ℕ) → (number_verdict s f ≡ number_before s f) ⊎ (number_verdict s f ≡ 5)
+    go (Some n) = moved_to_five (model_of n) s
+    go None = inl refl
 
 pub reference_accepted_before : (m s : List ℕ) → reference_verdict m s ≡ 0 → reference_before m s ≡ 0
 reference_accepted_before m s e = kept (reference_verdict m s) (reference_before m s) (reference_moved m s) e
 
 -- and but for three parts under HR69 it did not move
-pub reference_as_before : (m s : List ℕ) → (model_number m ≡ At 69 → length (parts_of s) ≤ 2) → reference_verdict m s ≡ reference_before m s
+pub reference_as_before : (m s : List ℕ) → (model_number m ≡ Some 69 → length (parts_of s) ≤ 2) → reference_verdict m s ≡ reference_before m s
 reference_as_before m s h = go (model_number m) refl
   where
-    go : (f : Found) → model_number m ≡ f → number_verdict s f ≡ number_before s f
-    go (At n) e = number_as_before n s (λ z. h (e ∙ rw z))
-    go Nothing e = refl
+    go : (f : Option ℕ) → model_number m ≡ f → number_verdict s f ≡ number_before s f
+    go (Some n) e = number_as_before n s (λ z. h (e ∙ rw z))
+    go None e = refl

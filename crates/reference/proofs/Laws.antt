@@ -1,11 +1,11 @@
 -- The answers to a reference (specs/Answers.antt), by whether the text is formed.
 -- Assumes nothing.
 use Rattle.refusal.proofs.Basics.{◌≡◌, refl, sym, ◌∙◌, arith, ℕ, zero, suc, ◌≤◌, ◌<◌, length, take, drop, lt-leb, le-leb, lt-ltb, eqb-suc-zero, eqb, ltb, ◌||◌, List, [], ◌∷◌, Bool, true, false, leb, taken}
+use Rattle.std.specs.Prelude.{Some}
 use Rattle.verdict.specs.Verdict.{only_if, and_then}
 use Rattle.verdict.proofs.Verdicts.{passed, failed, met}
 use Rattle.text.specs.Bytes.{bytes_verdict}
 use Rattle.classes.specs.declared.Class.TheVariants.{Reference}
-use Rattle.text.specs.declared.Found.TheVariants.{At}
 use Rattle.text.proofs.Laws.{all_passes}
 use Rattle.models.specs.declared.Asked.{Asked}
 use Rattle.models.specs.declared.Group.{Group}
@@ -61,7 +61,7 @@ module _ (model : Model) (s : List ℕ) where
   formed_judged : (v : ℕ) → formed model s ≡ true → length s ≤ 22 → v ≡ and_then (only_if (contents_right model (parts_of s)) 5) (only_if (groups_right model.groups (parts_of s)) 9) → v ≡ text_verdict model s
   formed_judged v e h w = passed _ _ _ (all_passes Reference s (formed_bytes model s e)) (met _ 4 _ _ (le-leb _ _ h) (met _ 8 _ _ e w))
 
-  module _ (ends : ℕ) (f : At ends ≡ parts_found model s) where
+  module _ (ends : ℕ) (f : Some ends ≡ parts_found model s) where
     -- so it obeys where its parts are right
     pub found_obeys : (r : Bool) → length s < 1024 → r ≡ obeys_at model ends s → r ≡ obeys model s
     found_obeys r h e = let w = found_formed model s ends f in rw w.0 ((rw w.1 at e) ∙ obeys_at_lem model s h w.0)

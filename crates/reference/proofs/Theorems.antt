@@ -1,12 +1,11 @@
 -- What is promised of references, over every model, every list of groups and every text.
 -- Assumes nothing.
 use Rattle.refusal.proofs.Basics.{◌≡◌, refl, ap, ◌∙◌, arith, ℕ, ◌≤◌, length, leb-true, le-leb, List, true, ◌&&◌, leb, ◌↔◌, both_true}
+use Rattle.std.specs.Prelude.{Option, Some, None}
 use Rattle.verdict.specs.Verdict.{only_if, Within}
 use Rattle.verdict.proofs.Verdicts.{both_pass, pass_both, test_holds, plain_within, then_within, only_within}
 use Rattle.text.specs.Bytes.{all_of, bytes_verdict}
 use Rattle.classes.specs.declared.Class.TheVariants.{Reference}
-use Rattle.text.specs.declared.Found.{Found}
-use Rattle.text.specs.declared.Found.TheVariants.{At, Nothing}
 use Rattle.text.proofs.Laws.{all_passes, passes_all, bytes_within}
 use Rattle.models.specs.declared.Model.{Model}
 use Rattle.model_text.specs.Texts.{model_number}
@@ -55,8 +54,8 @@ pub record RightReference (m s : List ℕ) : Type 0 where
 pub reference_accepted_exactly : (m s : List ℕ) → (reference_verdict m s ≡ 0) ↔ RightReference m s
 reference_accepted_exactly m s = (by_number (model_number m) refl, right)
   where
-    by_number : (f : Found) → model_number m ≡ f → number_verdict s f ≡ 0 → RightReference m s
-    by_number (At n) q e =
+    by_number : (f : Option ℕ) → model_number m ≡ f → number_verdict s f ≡ 0 → RightReference m s
+    by_number (Some n) q e =
         let a = both_pass (only_if (model_of n).handled 7) (text_verdict (model_of n) s) e in
         let b = both_true (leb (length s) 22) (obeys (model_of n) s) ((accepted_obeys (model_of n) s).0 a.1) in
         record {
@@ -65,7 +64,7 @@ reference_accepted_exactly m s = (by_number (model_number m) refl, right)
           short = leb-true (length s) 22 b.0;
           obeyed = b.1;
         }
-    by_number Nothing q e = absurd (omega arith)
+    by_number None q e = absurd (omega arith)
 
     right : RightReference m s → reference_verdict m s ≡ 0
     right w =
@@ -86,9 +85,9 @@ modelled_within model s =
     (then_within n _ _ (only (formed model s) 8 (omega arith))
     (then_within n _ _ (only (contents_right model (parts_of s)) 5 (omega arith)) (only (groups_right model.groups (parts_of s)) 9 (omega arith))))))
 
-number_within : (s : List ℕ) (f : Found) → Within (length s) (number_verdict s f)
-number_within s (At n) = modelled_within (model_of n) s
-number_within s Nothing = plain_within (length s) 5 (omega arith)
+number_within : (s : List ℕ) (f : Option ℕ) → Within (length s) (number_verdict s f)
+number_within s (Some n) = modelled_within (model_of n) s
+number_within s None = plain_within (length s) 5 (omega arith)
 
 pub reference_within : (m s : List ℕ) → Within (length s) (reference_verdict m s)
 reference_within m s = number_within s (model_number m)

@@ -1,10 +1,9 @@
 -- Document 01's answer to a reference, whatever its parts hold: what W4 (proofs/Before.antt) leaves as it was.
-use Rattle.std.specs.Prelude.{ℕ, List, leb, length}
-use Rattle.verdict.specs.Verdict.{only_if, and_then}
+use Rattle.std.specs.Prelude.{ℕ, List, leb, length, Option, Some, None}
+use Rattle.verdict.specs.Verdict.{Verdict, only_if, and_then}
+use Rattle.verdict.specs.declared.Fault.{Fault}
 use Rattle.text.specs.Bytes.{bytes_verdict}
 use Rattle.classes.specs.declared.Class.TheVariants.{Reference}
-use Rattle.text.specs.declared.Found.{Found}
-use Rattle.text.specs.declared.Found.TheVariants.{At, Nothing}
 use Rattle.models.specs.declared.Model.{Model}
 use Rattle.model_text.specs.Texts.{model_number}
 use Rattle.models.specs.Models.{model_of}
@@ -14,16 +13,16 @@ use Rattle.groups.specs.Groups.{groups_right}
 -- under a model: 7, 3, 4, 8, 9
 abbrev pub modelled_before : Model → List ℕ → ℕ
 modelled_before model s =
-    and_then (only_if model.handled 7)
+    and_then (only_if model.handled Fault.Model)
     (and_then (bytes_verdict Reference s)
-    (and_then (only_if (leb (length s) 22) 4)
-    (and_then (only_if (formed model s) 8)
-    (only_if (groups_right model.groups (parts_of s)) 9))))
+    (and_then (only_if (leb (length s) 22) Fault.Length)
+    (and_then (only_if (formed model s) Fault.Parts)
+    (only_if (groups_right model.groups (parts_of s)) Fault.Digit))))
 
 -- under a model's number, or none
-abbrev pub number_before : List ℕ → Found → ℕ
-number_before s (At n) = modelled_before (model_of n) s
-number_before s Nothing = 5
+abbrev pub number_before : List ℕ → Option ℕ → ℕ
+number_before s (Some n) = modelled_before (model_of n) s
+number_before s None = 5
 
 -- under a model's text
 abbrev pub reference_before : List ℕ → List ℕ → ℕ

@@ -10,68 +10,52 @@ ghost use Rattle.reference.specs.Answers.{obeys, modelled_verdict, reference_ver
 
 use classes::Class;
 use models::Model;
-use text::Found;
+use verdict::{Fault, Verdict};
 
 // Whether a text obeys a model: its parts, what they hold, and their check groups.
 pub fn obeys(model: Model, s: &[u8]) -> bool
     ensures { result ≡ obeys model s.now }
 {
     match parts::parts(model, s) {
-        Found::At(ends) => groups::obeys_at(model, ends, s),
-        Found::Nothing => false,
+        Some(ends) => groups::obeys_at(model, ends, s),
+        None => false,
     }
 }
 
 // A reference under a model's rules: 7, then 3 with its byte, 4, 8, 5 and 9. What is formed has no byte for 3, so that only
 // what is not is looked through for one; of an empty one nothing is asked.
-fn judged(model: Model, s: &[u8]) -> usize
+fn judged(model: Model, s: &[u8]) -> Verdict
     ensures { result ≡ modelled_verdict model s.now }
 {
-    if !model.handled {
-        return 7;
-    }
+    verdict::only_if(model.handled, Fault::Model)?;
     match parts::parts(model, s) {
-        Found::At(ends) => {
+        Some(ends) => {
             if s.len() == 0 {
-                return 0;
+                return Ok(());
             }
-            if 22 < s.len() {
-                return 4;
-            }
-            if !part_contents::contents_at(model, ends, s) {
-                return 5;
-            }
-            if groups::groups_at(model, ends, s) {
-                return 0;
-            }
-            9
+            verdict::only_if(s.len() <= 22, Fault::Length)?;
+            verdict::only_if(part_contents::contents_at(model, ends, s), Fault::Form)?;
+            verdict::only_if(groups::groups_at(model, ends, s), Fault::Digit)
         }
-        Found::Nothing => {
-            let bad = text::judge(Class::Reference, s);
-            if bad != 0 {
-                return bad;
-            }
-            if 22 < s.len() {
-                return 4;
-            }
-            8
+        None => {
+            text::judge(Class::Reference, s)?;
+            verdict::only_if(s.len() <= 22, Fault::Length)?;
+            Err(Fault::Parts)
         }
     }
 }
 
 // A reference by its model's number. The rules are handed on as they come: kept in a local they would be copied.
-pub fn numbered(n: usize, s: &[u8]) -> usize
+pub fn numbered(n: usize, s: &[u8]) -> Verdict
     ensures { result ≡ modelled_verdict (model_of n) s.now }
 {
     judged(models::rules(n), s)
 }
 
 // A reference by its model's text: 5 and 7 of the model, then 3 with its byte, 4, 8, 5 and 9 of the reference.
-pub fn reference(model: &[u8], s: &[u8]) -> usize
+pub fn reference(model: &[u8], s: &[u8]) -> Verdict
     ensures { result ≡ reference_verdict model.now s.now }
 {
-    match model_text::number(model) {
-        Found::At(n) => numbered(n, s),
-        Found::Nothing => 5,
-    }
+    let n = model_text::number(model).ok_or(Fault::Form)?;
+    numbered(n, s)
 }

@@ -2,6 +2,7 @@
 -- judge is the one that a step without a tally gives.
 -- Assumes nothing.
 use Rattle.refusal.proofs.Basics.{◌≡◌, refl, sym, ap, ◌∙◌, arith, ℕ, ◌+◌, List, [], ◌∷◌, length, Bool, true, false, cond, false≢true, add-zero, zero-add}
+use Rattle.std.specs.Prelude.{Ok}
 use Rattle.sums.specs.Sums.{cents_of, sum_of, number_in}
 use Rattle.sums.proofs.Theorems.{exact_where_fits}
 use Rattle.tally.specs.Tally.{no_orders, is_within, grown}
@@ -9,7 +10,6 @@ use Rattle.tally.proofs.Laws.{within_small, Numbers, tally_of, more, grown_exact
 use Rattle.wage_places.specs.declared.LineType.{LineType}
 use Rattle.wage_places.specs.declared.LineType.TheVariants.{Label, Group, Order, Closing}
 use Rattle.wage_places.specs.Places.{part_of}
-use Rattle.wage_line.specs.declared.Typed.TheVariants.{Line}
 use Rattle.wage_line.specs.Line.{typed_of}
 use Rattle.worked_out.specs.Amounts.{amounts}
 use Rattle.condition.specs.declared.Counts.{Counts}
@@ -109,7 +109,7 @@ with_all m ss = record {
 }
 
 -- a line in front of them is counted first
-in_front_lem : (m : Numbers) (s : List ℕ) (ss : List (List ℕ)) (t : LineType) → typed_of s ≡ Line t → tally_of (with_all (more (growth_of t s) m) ss) ≡ tally_of (with_all m (s ∷ ss))
+in_front_lem : (m : Numbers) (s : List ℕ) (ss : List (List ℕ)) (t : LineType) → typed_of s ≡ Ok t → tally_of (with_all (more (growth_of t s) m) ss) ≡ tally_of (with_all m (s ∷ ss))
 unfolding among amounts
 in_front_lem m s ss Label e = rw e
 in_front_lem m s ss Group e =

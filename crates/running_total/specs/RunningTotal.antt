@@ -1,12 +1,12 @@
 -- Document 02, W5: a step that is lent a tally. "A refused line leaves it as it stood"; 29, "line number kept and field 0, given last and exactly
 -- when the line would leave the lent tally beyond 1,000,000 groups or orders or to 10^21 or more".
-use Rattle.std.specs.Prelude.{ℕ, cond, List, [], ◌∷◌}
+use Rattle.std.specs.Prelude.{ℕ, cond, List, [], ◌∷◌, Result, Ok, Err}
+use Rattle.refusal.specs.declared.Refusal.{Refusal}
+use Rattle.wage_places.specs.declared.LineType.{LineType}
 use Rattle.tally.specs.declared.Tally.{Tally}
 use Rattle.tally.specs.declared.Growth.{Growth}
 use Rattle.tally.specs.declared.Growth.TheVariants.{Nothing}
 use Rattle.tally.specs.Tally.{is_within, grown}
-use Rattle.wage_line.specs.declared.Typed.{Typed}
-use Rattle.wage_line.specs.declared.Typed.TheVariants.{Line, Refused}
 use Rattle.wage_line.specs.Line.{typed_of}
 use Rattle.condition.specs.declared.Judge.{Judge}
 use Rattle.condition.specs.Record.{at_line, is_refused, next_line, refused_with}
@@ -15,9 +15,9 @@ use Rattle.judge.specs.Judge.{stepped}
 use Rattle.running_total.specs.declared.Tallied.{Tallied}
 
 -- what a line adds to a tally, by its type
-abbrev pub typed_growth : List ℕ → Typed → Growth
-typed_growth s (Line t) = growth_of t s
-typed_growth s (Refused r) = Nothing
+abbrev pub typed_growth : List ℕ → Result LineType Refusal → Growth
+typed_growth s (Ok t) = growth_of t s
+typed_growth s (Err r) = Nothing
 
 unfoldable pub growth_in : List ℕ → Growth
 growth_in s = typed_growth s (typed_of s)

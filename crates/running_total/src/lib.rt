@@ -8,8 +8,8 @@ ghost use Rattle.std.specs.Prelude.{◌≡◌};
 ghost use Rattle.running_total.specs.RunningTotal.{growth_in, tallied};
 
 use condition::Judge;
+use refusal::Refusal;
 use tally::{Growth, Tally};
-use wage_line::Typed;
 
 // The judge's record and the tally after a line.
 #[derive(Clone, Copy)]
@@ -23,8 +23,8 @@ fn growth(s: &[u8]) -> Growth
     ensures { result ≡ growth_in s.now }
 {
     match wage_line::read_type(s) {
-        Typed::Line(t) => standing::growth(t, s),
-        Typed::Refused(_) => Growth::Nothing,
+        Ok(t) => standing::growth(t, s),
+        Err(_) => Growth::Nothing,
     }
 }
 
@@ -43,7 +43,7 @@ pub fn step(j: Judge, s: &[u8], t: Tally) -> Tallied
         return Tallied { judge, tally };
     }
     Tallied {
-        judge: condition::refused(j, condition::at_line(29, lines)),
+        judge: condition::refused(j, Refusal::Overfull(condition::at_line(lines))),
         tally: t,
     }
 }

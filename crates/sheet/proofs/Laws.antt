@@ -1,8 +1,8 @@
 -- Laws of one line of a sheet, and how the loop goes through a sheet line by line.
 -- Assumes nothing.
 use Rattle.refusal.proofs.Basics.{◌≡◌, refl, sym, ap, ◌∙◌, arith, ℕ, ◌+◌, ◌-◌, ◌≤◌, ◌<◌, length, take, drop, set, length-drop, length-set, length-append, ne_eqb, eq-eqb, eqb-true, le-leb, leb-true, lt-ltb, le-ltb, List, [], ◌∷◌, ◌++◌, Bool, true, false, cond, ◌&&◌, ◌||◌, eqb, leb, ltb, false≢true, length-take-le, both_true}
+use Rattle.std.specs.Prelude.{Some, None}
 use Rattle.classes.specs.declared.Class.TheVariants.{Line}
-use Rattle.text.specs.declared.Found.TheVariants.{At, Nothing}
 use Rattle.text.specs.Bytes.{first_bad}
 use Rattle.text.specs.Split.{split}
 use Rattle.text.proofs.Pieces.{first_piece, next_piece_lem, last_piece_lem}
@@ -175,7 +175,7 @@ unfolding lines_from
 lines_step k last at xs ys p t = rw (first_piece 10 t).2
 
 module _ (s : List ℕ) (line last at : ℕ) (starts lengths : List ℕ) (w : Reached s line last at starts lengths) where
-  module _ (i : ℕ) (e : first_bad Line (take (length s - at) (drop at s)) ≡ At i) where
+  module _ (i : ℕ) (e : first_bad Line (take (length s - at) (drop at s)) ≡ Some i) where
     -- the line that a scan found ends within the sheet
     pub reached_ends : at + i < length s
     reached_ends = (next_piece_lem s at i w.within e).0
@@ -216,7 +216,7 @@ module _ (s : List ℕ) (line last at : ℕ) (starts lengths : List ℕ) (w : Re
           let g = right_numbered last (part at (at + i) s) (λ z. h (j ∙ z)) in
           rw j (g.0, rw reached_length at g.1)
 
-  module _ (e : first_bad Line (take (length s - at) (drop at s)) ≡ Nothing) where
+  module _ (e : first_bad Line (take (length s - at) (drop at s)) ≡ None) where
     -- bytes behind the last line feed: a line without one
     pub reached_open : at < length s → malformed_at line ≡ lines_of s
     unfolding lines_from

@@ -1,11 +1,11 @@
 -- What reading a sheet finds is what the definitions say: its first malformed line, and where the text of each field stands.
 -- Assumes nothing.
 use Rattle.refusal.proofs.Basics.{◌≡◌, refl, sym, ap, ◌∙◌, arith, ℕ, zero, suc, ◌+◌, ◌-◌, ◌≤◌, ◌<◌, length, get_or, set, replicate, length-set, get_or-set_same, get_or-set_other, ne_eqb, eqb-true, eqb-false, le-ltb, ltb-true, List, [], ◌∷◌, Bool, true, false, cond, eqb, ltb, both_true}
+use Rattle.std.specs.Prelude.{Option, Some, None}
+use Rattle.text.specs.declared.Part.{Part}
 use Rattle.text.specs.Split.{split}
 use Rattle.text.specs.Lines.{lines_among}
 use Rattle.sheet.specs.declared.Lines.{Lines}
-use Rattle.sheet.specs.declared.Held.{Held}
-use Rattle.sheet.specs.declared.Held.TheVariants.{At, Nothing}
 use Rattle.sheet.specs.Sheet.{is_standing, line_number, text_start, is_right, bad_from, bad_line, held_from, line_held}
 use Rattle.sheet.specs.Mirror.{right_number, malformed_at, lines_from, lines_of, held_in, no_texts}
 use Rattle.sheet.proofs.Laws.{standing_within}
@@ -86,7 +86,7 @@ right_last k last (b ∷ p) h e =
     absurd (omega (arith, rw z at w))
 
 -- no line behind one of a number has that number, or one below it
-none_later : (n k last at : ℕ) (ps : List (List ℕ)) → n ≤ last → 0 < k → bad_from k last ps ≡ 0 → held_from n at (lines_among ps) ≡ Nothing
+none_later : (n k last at : ℕ) (ps : List (List ℕ)) → n ≤ last → 0 < k → bad_from k last ps ≡ 0 → held_from n at (lines_among ps) ≡ None
 unfolding held_from
 none_later n k last at [] h j e = refl
 none_later n k last at (p ∷ []) h j e = refl
@@ -97,17 +97,17 @@ none_later n k last at (p ∷ (q ∷ ps)) h j e =
     (none_later n (k + 1) (line_number p) (at + length p + 1) (q ∷ ps) (omega arith) (omega arith) r.1)
 
 -- the first of two that is there
-abbrev or_else : Held → Held → Held
-or_else (At p) h = At p
-or_else Nothing h = h
+abbrev or_else : Option Part → Option Part → Option Part
+or_else (Some p) h = Some p
+or_else None h = h
 
-or_nothing : (h : Held) → or_else h Nothing ≡ h
-or_nothing (At p) = refl
-or_nothing Nothing = refl
+or_nothing : (h : Option Part) → or_else h None ≡ h
+or_nothing (Some p) = refl
+or_nothing None = refl
 
 -- what a table holds of field n
-abbrev entry : ℕ → List ℕ → List ℕ → Held
-entry n xs ys = cond (eqb (get_or xs n 0) 0) Nothing (At (record { start = get_or xs n 0; length = get_or ys n 0 }))
+abbrev entry : ℕ → List ℕ → List ℕ → Option Part
+entry n xs ys = cond (eqb (get_or xs n 0) 0) None (Some (record { start = get_or xs n 0; length = get_or ys n 0 }))
 
 module _ (n : ℕ) (high : n ≤ 14) where
   -- the text of another field leaves it
@@ -115,7 +115,7 @@ module _ (n : ℕ) (high : n ≤ 14) where
   entry_other m x y xs ys h = rw (get_or-set_other xs m n x 0 (λ (e : n ≡ m). h (sym e)), get_or-set_other ys m n y 0 (λ (e : n ≡ m). h (sym e)))
 
   -- its own is there
-  entry_own : (x y : ℕ) (xs ys : List ℕ) → length xs ≡ 15 → length ys ≡ 15 → 0 < x → entry n (set xs n x) (set ys n y) ≡ At (record { start = x; length = y })
+  entry_own : (x y : ℕ) (xs ys : List ℕ) → length xs ≡ 15 → length ys ≡ 15 → 0 < x → entry n (set xs n x) (set ys n y) ≡ Some (record { start = x; length = y })
   entry_own x y xs ys f g h =
       rw (get_or-set_same xs n x 0 (omega arith), get_or-set_same ys n y 0 (omega arith), ne_eqb x 0 (λ (e : x ≡ 0). omega (arith, e)))
 
@@ -129,12 +129,12 @@ module _ (n : ℕ) (high : n ≤ 14) where
 
   -- one line more, of the number m
   held_step :
-      (m at size : ℕ) (xs ys : List ℕ) (rest : Held) (l : Lines) → length xs ≡ 15 → length ys ≡ 15 → (m ≡ n → rest ≡ Nothing)
+      (m at size : ℕ) (xs ys : List ℕ) (rest : Option Part) (l : Lines) → length xs ≡ 15 → length ys ≡ 15 → (m ≡ n → rest ≡ None)
       → entry n l.starts l.lengths ≡ or_else rest (entry n (set xs m (at + text_start m)) (set ys m (size - text_start m)))
-      → entry n l.starts l.lengths ≡ or_else (cond (eqb m n) (At (record { start = at + text_start n; length = size - text_start n })) rest) (entry n xs ys)
+      → entry n l.starts l.lengths ≡ or_else (cond (eqb m n) (Some (record { start = at + text_start n; length = size - text_start n })) rest) (entry n xs ys)
   held_step m at size xs ys rest l f g none ih = go (eqb m n) refl
     where
-      go : (t : Bool) → eqb m n ≡ t → entry n l.starts l.lengths ≡ or_else (cond t (At (record { start = at + text_start n; length = size - text_start n })) rest) (entry n xs ys)
+      go : (t : Bool) → eqb m n ≡ t → entry n l.starts l.lengths ≡ or_else (cond t (Some (record { start = at + text_start n; length = size - text_start n })) rest) (entry n xs ys)
       go true z =
           let e = eqb-true m n z in
           ih ∙ rw (none e, e) (entry_own (at + text_start n) (size - text_start n) xs ys f g (start_above at))

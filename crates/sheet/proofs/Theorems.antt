@@ -2,6 +2,7 @@
 -- fields, the text that is told stands in it, and each text obeys its field's rule.
 -- Assumes nothing.
 use Rattle.refusal.proofs.Basics.{◌≡◌, refl, sym, ap, ◌∙◌, arith, ℕ, ◌+◌, ◌-◌, ◌≤◌, ◌<◌, length, drop, length-append, length-drop, ne_eqb, eqb-true, le-leb, lt-ltb, List, [], ◌∷◌, ◌++◌, map, append-nil, append_assoc, Bool, true, false, cond, eqb, ltb, both_true, ◌↔◌, inl, inr, drop-append-add, take-append_seam, drop-append-le}
+use Rattle.std.specs.Prelude.{Some}
 use Rattle.classes.specs.declared.Class.TheVariants.{Line}
 use Rattle.text.specs.Bytes.{all_of}
 use Rattle.text.specs.Split.{split}
@@ -12,7 +13,6 @@ use Rattle.slip_fields.specs.declared.Currency.TheVariants.{Euro}
 use Rattle.slip_fields.specs.Fields.{field_verdict}
 use Rattle.slip_fields.proofs.Theorems.{no_line_feed}
 use Rattle.slip_fields.proofs.Plain.{text_exactly, thirteenth_exactly}
-use Rattle.sheet.specs.declared.Held.TheVariants.{At}
 use Rattle.sheet.specs.Sheet.{is_standing, line_number, text_start, line_text, is_right, bad_from, bad_line, held_from, line_held}
 use Rattle.sheet.specs.Claims.{FieldLine, number_text, line_of, sheet_text, RightLines, none, more, field_of, fields_in, text_among, is_among, StandsAs, is_held}
 use Rattle.sheet.proofs.Laws.{OneOf, low, thirteen, fourteen, one_of_lem, numbered, text_within}
@@ -148,7 +148,7 @@ module _ (n : ℕ) (above : 0 < n) where
       go :
           (t : Bool) → eqb (line_number p) n ≡ t
           → StandsAs (held_from n (length (front ++ (p ++ (10 ∷ [])))) ms) ((front ++ (p ++ (10 ∷ []))) ++ join_lines ms) (text_among n (map (λ (p : List ℕ). field_of p) ms))
-          → StandsAs (cond t (At (record { start = length front + text_start n; length = length p - text_start n })) (held_from n (length front + length p + 1) ms)) (front ++ (p ++ (10 ∷ join_lines ms))) (cond t (line_text p) (text_among n (map (λ (p : List ℕ). field_of p) ms)))
+          → StandsAs (cond t (Some (record { start = length front + text_start n; length = length p - text_start n })) (held_from n (length front + length p + 1) ms)) (front ++ (p ++ (10 ∷ join_lines ms))) (cond t (line_text p) (text_among n (map (λ (p : List ℕ). field_of p) ms)))
       go true z ih =
           let e = eqb-true (line_number p) n z in
           let w : text_start n ≤ length p = rw e at (text_within p (λ (y : line_number p ≡ 0). omega (arith, y, e))) in
@@ -166,7 +166,7 @@ module _ (n : ℕ) (above : 0 < n) where
     where
       go :
           (t : Bool) → is_held (held_from n (at + length p + 1) ms) ≡ is_among n (map (λ (p : List ℕ). field_of p) ms)
-          → is_held (cond t (At (record { start = at + text_start n; length = length p - text_start n })) (held_from n (at + length p + 1) ms)) ≡ cond t true (is_among n (map (λ (p : List ℕ). field_of p) ms))
+          → is_held (cond t (Some (record { start = at + text_start n; length = length p - text_start n })) (held_from n (at + length p + 1) ms)) ≡ cond t true (is_among n (map (λ (p : List ℕ). field_of p) ms))
       go true ih = refl
       go false ih = ih
 

@@ -1,11 +1,11 @@
 -- What is claimed of sheets (proofs/Theorems.antt): a sheet written from a list of fields, and what a right sheet is.
-use Rattle.std.specs.Prelude.{ℕ, ◌+◌, ◌<◌, ◌≤◌, ◌≡◌, Bool, true, false, cond, List, [], ◌∷◌, ◌++◌, map, eqb, ltb, length, take, drop}
+use Rattle.std.specs.Prelude.{ℕ, ◌+◌, ◌<◌, ◌≤◌, ◌≡◌, Bool, true, false, cond, List, [], ◌∷◌, ◌++◌, map, eqb, ltb, length, take, drop, Option, Some, None}
+use Rattle.verdict.specs.Verdict.{passed}
+use Rattle.text.specs.declared.Part.{Part}
 use Rattle.text.specs.Split.{split}
 use Rattle.text.specs.Lines.{join_lines, lines_among}
 use Rattle.slip_fields.specs.declared.Currency.TheVariants.{Euro}
 use Rattle.slip_fields.specs.Fields.{field_verdict}
-use Rattle.sheet.specs.declared.Held.{Held}
-use Rattle.sheet.specs.declared.Held.TheVariants.{At, Nothing}
 use Rattle.sheet.specs.Sheet.{is_standing, line_number, line_text}
 
 -- a field of a sheet: its number and its text
@@ -29,7 +29,7 @@ sheet_text ls = join_lines (map (λ (l : FieldLine). line_of l) ls)
 pub data RightLines : ℕ → List FieldLine → Type 0 where
   none : {last : ℕ} → RightLines last []
   more :
-      {last : ℕ} {l : FieldLine} {ls : List FieldLine} → last < l.number → is_standing l.number ≡ true → field_verdict Euro l.number [] l.text ≡ 0
+      {last : ℕ} {l : FieldLine} {ls : List FieldLine} → last < l.number → is_standing l.number ≡ true → field_verdict Euro l.number [] l.text ≡ passed
       → RightLines l.number ls → RightLines last (l ∷ ls)
 
 -- the field that a line is
@@ -51,14 +51,14 @@ is_among n [] = false
 is_among n (l ∷ ls) = cond (eqb l.number n) true (is_among n ls)
 
 -- a part of a sheet is a text: it lies within it, and those are its bytes; no part is the empty text
-abbrev pub StandsAs : Held → List ℕ → List ℕ → Type 0
-StandsAs (At p) s t = (p.start + p.length ≤ length s) × (take p.length (drop p.start s) ≡ t)
-StandsAs Nothing s t = t ≡ []
+abbrev pub StandsAs : Option Part → List ℕ → List ℕ → Type 0
+StandsAs (Some p) s t = (p.start + p.length ≤ length s) × (take p.length (drop p.start s) ≡ t)
+StandsAs None s t = t ≡ []
 
 -- whether there is a part
-abbrev pub is_held : Held → Bool
-is_held (At p) = true
-is_held Nothing = false
+abbrev pub is_held : Option Part → Bool
+is_held (Some p) = true
+is_held None = false
 
 -- line k is the first malformed one: those before it are right fields, and no right field behind them is it
 pub record FirstMalformed (s : List ℕ) (k : ℕ) : Type 0 where

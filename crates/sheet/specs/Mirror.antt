@@ -1,10 +1,9 @@
 -- What reading a sheet finds, as the code keeps it: by the number of a field where its text begins and how many bytes it has.
 -- proofs/Tables.antt leads from it to specs/Sheet.antt, and nobody has to read it to believe that.
-use Rattle.std.specs.Prelude.{ℕ, ◌+◌, ◌-◌, cond, List, [], ◌∷◌, eqb, ltb, length, get_or, set, replicate}
+use Rattle.std.specs.Prelude.{ℕ, ◌+◌, ◌-◌, cond, List, [], ◌∷◌, eqb, ltb, length, get_or, set, replicate, Option, Some, None}
+use Rattle.text.specs.declared.Part.{Part}
 use Rattle.text.specs.Split.{split}
 use Rattle.sheet.specs.declared.Lines.{Lines}
-use Rattle.sheet.specs.declared.Held.{Held}
-use Rattle.sheet.specs.declared.Held.TheVariants.{At, Nothing}
 use Rattle.sheet.specs.Sheet.{line_number, text_start, is_right}
 
 -- the number of a line that is right behind one of the number `last`, and 0 where it is malformed
@@ -35,8 +34,8 @@ unfoldable pub lines_of : List ℕ → Lines
 lines_of s = lines_from 1 0 0 no_texts no_texts (split 10 s)
 
 -- where the text of field n stands, by that
-unfoldable pub held_in : Lines → ℕ → Held
+unfoldable pub held_in : Lines → ℕ → Option Part
 held_in lines n =
-    cond (ltb 14 n) Nothing
-    (cond (eqb (get_or lines.starts n 0) 0) Nothing
-    (At (record { start = get_or lines.starts n 0; length = get_or lines.lengths n 0 })))
+    cond (ltb 14 n) None
+    (cond (eqb (get_or lines.starts n 0) 0) None
+    (Some (record { start = get_or lines.starts n 0; length = get_or lines.lengths n 0 })))

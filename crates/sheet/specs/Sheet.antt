@@ -1,12 +1,11 @@
 -- Document 02, W2: one sheet of field lines. "`number=text` with LF, numbers 4 to 9, 13 and 14, no leading zero, ascending, each at most
 -- once, each text obeying its field's rule in 01".
-use Rattle.std.specs.Prelude.{ℕ, ◌+◌, ◌-◌, Bool, cond, ◌&&◌, ◌||◌, List, [], ◌∷◌, eqb, leb, ltb, length, get_or, drop}
+use Rattle.std.specs.Prelude.{ℕ, ◌+◌, ◌-◌, Bool, cond, ◌&&◌, ◌||◌, List, [], ◌∷◌, eqb, leb, ltb, length, get_or, drop, Option, Some, None, is_ok}
+use Rattle.text.specs.declared.Part.{Part}
 use Rattle.text.specs.Split.{split}
 use Rattle.text.specs.Lines.{lines_among}
 use Rattle.slip_fields.specs.declared.Currency.TheVariants.{Euro}
 use Rattle.slip_fields.specs.Fields.{field_verdict}
-use Rattle.sheet.specs.declared.Held.{Held}
-use Rattle.sheet.specs.declared.Held.TheVariants.{At, Nothing}
 
 -- ---------------------------------------------------------------------------
 -- One line: `=` is 61, the digits are 48 to 57
@@ -37,7 +36,7 @@ line_text p = drop (text_start (line_number p)) p
 
 -- a line is right behind one of the number `last`: "ascending, each at most once, each text obeying its field's rule in 01"
 abbrev pub is_right : ℕ → List ℕ → Bool
-is_right last p = ltb last (line_number p) && eqb (field_verdict Euro (line_number p) [] (line_text p)) 0
+is_right last p = ltb last (line_number p) && is_ok (field_verdict Euro (line_number p) [] (line_text p))
 
 -- ---------------------------------------------------------------------------
 -- The sheet: its lines are the pieces between line feeds, and nothing stands behind the last
@@ -53,13 +52,13 @@ abbrev pub bad_line : List ℕ → ℕ
 bad_line s = bad_from 1 0 (split 10 s)
 
 -- where the text of field n stands, the first of these lines beginning at byte `at`
-unfoldable pub held_from : ℕ → ℕ → List (List ℕ) → Held
-held_from n at [] = Nothing
+unfoldable pub held_from : ℕ → ℕ → List (List ℕ) → Option Part
+held_from n at [] = None
 held_from n at (p ∷ ps) =
     cond (eqb (line_number p) n)
-    (At (record { start = at + text_start n; length = length p - text_start n }))
+    (Some (record { start = at + text_start n; length = length p - text_start n }))
     (held_from n (at + length p + 1) ps)
 
 -- "as the part of that sheet where it stands"
-abbrev pub line_held : ℕ → List ℕ → Held
+abbrev pub line_held : ℕ → List ℕ → Option Part
 line_held n s = held_from n 0 (lines_among (split 10 s))

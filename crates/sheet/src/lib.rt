@@ -10,7 +10,7 @@ ghost use Rattle.sheet.specs.Mirror.{right_number, malformed_at, lines_of, held_
 
 use classes::Class;
 use slip_fields::Currency;
-use text::{Found, Part};
+use text::Part;
 
 // What reading a sheet finds: its first malformed line, or 0; and by the number of a field where its text begins, 0 where
 // the sheet has no such line, and how many bytes it has.
@@ -19,13 +19,6 @@ pub struct Lines {
     pub bad: usize,
     pub starts: [usize; 15],
     pub lengths: [usize; 15],
-}
-
-// Where the text of a field stands in a sheet, if it has that line.
-#[derive(Clone, Copy)]
-pub enum Held {
-    At(Part),
-    Nothing,
 }
 
 // ---------------------------------------------------------------------------
@@ -114,7 +107,7 @@ fn right_number(last: usize, p: &[u8]) -> usize
         return 0;
     }
     let start = text_start(n);
-    if slip_fields::judge_field(Currency::Euro, n, b"", &p[start..]) != 0 {
+    if slip_fields::judge_field(Currency::Euro, n, b"", &p[start..]).is_err() {
         return 0;
     }
     n
@@ -145,7 +138,7 @@ pub fn read(s: &[u8]) -> Lines
     let mut at: usize = 0;
     loop {
         match text::first_bad(Class::Line, &s[at..]) {
-            Found::At(i) => {
+            Some(i) => {
                 let stop = at + i;
                 let n = right_number(last, &s[at..stop]);
                 if n == 0 {
@@ -158,7 +151,7 @@ pub fn read(s: &[u8]) -> Lines
                 line += 1;
                 at = stop + 1;
             }
-            Found::Nothing => {
+            None => {
                 if at < s.len() {
                     return malformed(line);
                 }
@@ -173,16 +166,16 @@ pub fn read(s: &[u8]) -> Lines
 }
 
 // Where the text of a field stands, by what reading its sheet found.
-pub fn find(lines: Lines, n: usize) -> Held
+pub fn find(lines: Lines, n: usize) -> Option<Part>
     ensures { result ≡ held_in lines n }
 {
     if 14 < n {
-        return Held::Nothing;
+        return None;
     }
     let start = lines.starts[n];
     if start == 0 {
-        return Held::Nothing;
+        return None;
     }
     let length = lines.lengths[n];
-    Held::At(Part { start, length })
+    Some(Part { start, length })
 }

@@ -1,15 +1,13 @@
 -- How the loops go through a slip piece by piece.
 -- Assumes nothing.
 use Rattle.refusal.proofs.Basics.{◌≡◌, refl, sym, ap, ◌∙◌, arith, ℕ, ◌+◌, ◌-◌, ◌≤◌, ◌<◌, length, take, drop, get_or, length-drop, ne_eqb, eq-eqb, le-leb, lt-leb, List, [], ◌∷◌, true, false, eqb, leb, length-take-le, left, entered, and_first, and_second}
-use Rattle.refusal.specs.Refusal.{none, first_of}
+use Rattle.std.specs.Prelude.{Some, None, Ok, Err}
+use Rattle.refusal.specs.Refusal.{Answer, none, first_of}
 use Rattle.verdict.specs.Verdict.{answer_at}
-use Rattle.refusal.specs.declared.Answer.{Answer}
-use Rattle.refusal.specs.declared.Answer.TheVariants.{Accepted, Refused}
 use Rattle.refusal.specs.declared.Refusal.{Refusal}
 use Rattle.refusal.specs.declared.Refusal.TheVariants.{Size, Ends}
 use Rattle.text.specs.Bytes.{first_bad, count_of}
 use Rattle.classes.specs.declared.Class.TheVariants.{Line}
-use Rattle.text.specs.declared.Found.TheVariants.{At, Nothing}
 use Rattle.text.specs.Split.{split}
 use Rattle.text.proofs.Pieces.{first_piece, next_piece_lem, last_piece_lem}
 use Rattle.slip_fields.specs.declared.Currency.{Currency}
@@ -64,7 +62,7 @@ pub reached_first : (c : Currency) (s : List ℕ) → Reached c s 1 0 0 0
 reached_first c s = record { within = omega arith; fewer = omega arith; ordered = omega arith; passed = omega arith; whole = refl }
 
 module _ (c : Currency) (s : List ℕ) (n before end at : ℕ) (w : Reached c s n before end at) where
-  module _ (i : ℕ) (e : first_bad Line (take (length s - at) (drop at s)) ≡ At i) where
+  module _ (i : ℕ) (e : first_bad Line (take (length s - at) (drop at s)) ≡ Some i) where
     -- the field that a scan found ends within the text
     pub reached_ends : at + i < length s
     reached_ends = (next_piece_lem s at i w.within e).0
@@ -85,7 +83,7 @@ module _ (c : Currency) (s : List ℕ) (n before end at : ℕ) (w : Reached c s 
 
     module _ (r : Answer) (j : r ≡ answer_at n at (field_verdict c n (part before end s) (part at (at + i) s))) where
       -- accepted: on to the next field
-      pub reached_next : r ≡ Accepted → Reached c s (n + 1) at (at + i) (at + i + 1)
+      pub reached_next : r ≡ Ok tt → Reached c s (n + 1) at (at + i) (at + i + 1)
       reached_next a =
           record {
             within = omega (arith, reached_ends);
@@ -96,11 +94,11 @@ module _ (c : Currency) (s : List ℕ) (n before end at : ℕ) (w : Reached c s 
           }
 
       -- refused: that is the answer
-      pub reached_refusal : (q : Refusal) → r ≡ Refused q → Refused q ≡ fields_answer c 1 0 [] (split 10 s)
+      pub reached_refusal : (q : Refusal) → r ≡ Err q → Err q ≡ fields_answer c 1 0 [] (split 10 s)
       reached_refusal q a = sym (reached_field ∙ rw (sym j ∙ a))
 
   -- no further line feed: every field was accepted
-  pub reached_last : first_bad Line (take (length s - at) (drop at s)) ≡ Nothing → Accepted ≡ fields_answer c 1 0 [] (split 10 s)
+  pub reached_last : first_bad Line (take (length s - at) (drop at s)) ≡ None → (Ok tt) ≡ fields_answer c 1 0 [] (split 10 s)
   unfolding fields_answer
   reached_last e = sym (w.whole ∙ rw (last_piece_lem s at e))
 
@@ -109,12 +107,12 @@ module _ (c : Currency) (s : List ℕ) (n before end at : ℕ) (w : Reached c s 
 
 module _ (c : Currency) (s : List ℕ) where
   -- 1
-  pub too_long : 483 < length s → Refused (Size none) ≡ slip_answer_in c s
+  pub too_long : 483 < length s → Err (Size none) ≡ slip_answer_in c s
   unfolding slip_answer_in
   too_long h = left (leb (length s) 483) _ _ _ (lt-leb (length s) 483 h) refl
 
   -- then 2
-  pub ends_wrong : length s ≤ 483 → slip_ends s ≡ false → Refused (Ends none) ≡ slip_answer_in c s
+  pub ends_wrong : length s ≤ 483 → slip_ends s ≡ false → Err (Ends none) ≡ slip_answer_in c s
   unfolding slip_answer_in
   ends_wrong h e = entered (leb (length s) 483) _ _ _ (le-leb (length s) 483 h) (left (slip_ends s) _ _ _ e refl)
 

@@ -2,11 +2,10 @@
 -- check digits of an accepted slip's reference.
 -- Assumes nothing.
 use Rattle.refusal.proofs.Basics.{◌≡◌, refl, sym, subst, ◌∙◌, arith, ℕ, ◌+◌, ◌-◌, ◌≤◌, length, get_or, eqb-true, eqb-false, List, [], Memᴰ, Bool, true, false, eqb, ◌↔◌, ◌⊎◌, inl, inr, both_true}
-use Rattle.refusal.specs.declared.Answer.TheVariants.{Accepted}
+use Rattle.std.specs.Prelude.{Some, None, Ok}
 use Rattle.classes.specs.declared.Class.TheVariants.{Digits, Letters}
 use Rattle.text.specs.Bytes.{all_of, count_of}
 use Rattle.text.specs.Split.{joined}
-use Rattle.text.specs.declared.Found.TheVariants.{At, Nothing}
 use Rattle.check_digits.specs.CheckDigit.{passes}
 use Rattle.characters.specs.Characters.{first_wrong, characters}
 use Rattle.models.specs.declared.Group.{Group}
@@ -25,7 +24,7 @@ use Rattle.slip.specs.Slip.{slip_answer_in, piece_of}
 use Rattle.slip.proofs.Theorems.{field_text, text_before, Right, accepted_exactly}
 
 -- ---------------------------------------------------------------------------
--- Accepted exactly when
+-- (Ok tt) exactly when
 
 -- a slip in currency c as document 01 asks for it, and document 02, W1
 pub record PlainSlip (c : Currency) (s : List ℕ) : Type 0 where
@@ -41,12 +40,12 @@ pub record PlainSlip (c : Currency) (s : List ℕ) : Type 0 where
   -- "3: exactly fifteen digits, cents"; W1: "amount in lipa"
   pub third : (all_of Digits (field_text s 3) ≡ true) × (length (field_text s 3) ≡ 15)
   -- "4 to 9 and 14: text of at most 30, 27, 27, 25, 25, 27 and 35 characters; may be empty here"
-  pub fourth : (first_wrong (field_text s 4) ≡ Nothing) × (characters (field_text s 4) ≤ 30)
-  pub fifth : (first_wrong (field_text s 5) ≡ Nothing) × (characters (field_text s 5) ≤ 27)
-  pub sixth : (first_wrong (field_text s 6) ≡ Nothing) × (characters (field_text s 6) ≤ 27)
-  pub seventh : (first_wrong (field_text s 7) ≡ Nothing) × (characters (field_text s 7) ≤ 25)
-  pub eighth : (first_wrong (field_text s 8) ≡ Nothing) × (characters (field_text s 8) ≤ 25)
-  pub ninth : (first_wrong (field_text s 9) ≡ Nothing) × (characters (field_text s 9) ≤ 27)
+  pub fourth : (first_wrong (field_text s 4) ≡ None) × (characters (field_text s 4) ≤ 30)
+  pub fifth : (first_wrong (field_text s 5) ≡ None) × (characters (field_text s 5) ≤ 27)
+  pub sixth : (first_wrong (field_text s 6) ≡ None) × (characters (field_text s 6) ≤ 27)
+  pub seventh : (first_wrong (field_text s 7) ≡ None) × (characters (field_text s 7) ≤ 25)
+  pub eighth : (first_wrong (field_text s 8) ≡ None) × (characters (field_text s 8) ≤ 25)
+  pub ninth : (first_wrong (field_text s 9) ≡ None) × (characters (field_text s 9) ≤ 27)
   -- "10: A to Z and digits; 21 characters; `HR` and nineteen digits; IBAN check"; W1: "or seven digits, a hyphen and ten digits"
   pub tenth : field.RightPayee c (field_text s 10)
   -- "11: `HR` and two digits, else 5 (never 3 or 4); then 7": those of a model that is handled
@@ -56,7 +55,7 @@ pub record PlainSlip (c : Currency) (s : List ℕ) : Type 0 where
   -- "13: empty (here) or four letters"
   pub thirteenth : (field_text s 13 ≡ []) ⊎ ((length (field_text s 13) ≡ 4) × (all_of Letters (field_text s 13) ≡ true))
   -- 14, a text as 4 to 9
-  pub fourteenth : (first_wrong (field_text s 14) ≡ Nothing) × (characters (field_text s 14) ≤ 35)
+  pub fourteenth : (first_wrong (field_text s 14) ≡ None) × (characters (field_text s 14) ≤ 35)
 
 -- what holds of a, and of every number behind it up to 14, holds of every number from a to 14
 from_on : (P : ℕ → Type 0) (a : ℕ) → P a → ((n : ℕ) → a + 1 ≤ n → n ≤ 14 → P n) → (n : ℕ) → a ≤ n → n ≤ 14 → P n
@@ -72,7 +71,7 @@ module _ (c : Currency) (s : List ℕ) where
   RightField n = field_verdict c n (text_before s n) (field_text s n) ≡ 0
 
   -- a text field is right exactly when it is permitted characters, and not too many
-  text_field : (n : ℕ) → ((4 ≤ n) × (n ≤ 9)) ⊎ (n ≡ 14) → RightField n ↔ ((first_wrong (field_text s n) ≡ Nothing) × (characters (field_text s n) ≤ most_of n))
+  text_field : (n : ℕ) → ((4 ≤ n) × (n ≤ 9)) ⊎ (n ≡ 14) → RightField n ↔ ((first_wrong (field_text s n) ≡ None) × (characters (field_text s n) ≤ most_of n))
   text_field n h = field.text_exactly c (text_before s n) (field_text s n) n h
 
   right_plain : Right c s → PlainSlip c s
@@ -125,7 +124,7 @@ module _ (c : Currency) (s : List ℕ) where
       }
 
   -- a slip is accepted in a currency exactly when it is as the documents ask
-  pub accepted_plainly : (slip_answer_in c s ≡ Accepted) ↔ PlainSlip c s
+  pub accepted_plainly : (slip_answer_in c s ≡ Ok tt) ↔ PlainSlip c s
   accepted_plainly = (λ e. right_plain ((accepted_exactly c s).0 e), λ w. (accepted_exactly c s).1 (plain_right w))
 
   -- ---------------------------------------------------------------------------
@@ -134,7 +133,7 @@ module _ (c : Currency) (s : List ℕ) where
   -- "A check group joins those of its parts that are present and ends in its check digit; with none present it is not checked": so does every
   -- group of an accepted slip's model, over the parts of field 12
   pub accepted_groups_pass :
-      slip_answer_in c s ≡ Accepted → (n : ℕ) → model_number (field_text s 11) ≡ At n → (g : Group) → Memᴰ g (model_of n).groups →
+      slip_answer_in c s ≡ Ok tt → (n : ℕ) → model_number (field_text s 11) ≡ Some n → (g : Group) → Memᴰ g (model_of n).groups →
       let here = present g (parts_of (field_text s 12)) in (here ≡ [] → ⊥) → passes g.rule (joined here) ≡ true
   accepted_groups_pass e n q g m =
       let w = (accepted_plainly.0 e).twelfth in
@@ -143,5 +142,5 @@ module _ (c : Currency) (s : List ℕ) where
       let r = both_true (contents_right (model_of n) (parts_of (field_text s 12))) (groups_right (model_of n).groups (parts_of (field_text s 12))) o.1 in
       groups_right_every (model_of n).groups (parts_of (field_text s 12)) r.1 g m
     where
-      same_number : {i j : ℕ} → At i ≡ At j → i ≡ j
+      same_number : {i j : ℕ} → Some i ≡ Some j → i ≡ j
       same_number p = cc

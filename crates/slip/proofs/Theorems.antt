@@ -1,9 +1,9 @@
 -- What is promised of a slip: accepted exactly when.
 -- Assumes nothing.
 use Rattle.refusal.proofs.Basics.{◌≡◌, refl, sym, arith, ℕ, zero, suc, ◌+◌, ◌-◌, ◌≤◌, ◌<◌, length, get_or, eq-eqb, eqb-true, leb-true, List, [], ◌∷◌, true, eqb, leb, add-zero, ◌↔◌, chosen, both_true, and_second}
+use Rattle.std.specs.Prelude.{Ok}
 use Rattle.refusal.specs.Refusal.{none}
 use Rattle.verdict.specs.Verdict.{answer_at}
-use Rattle.refusal.specs.declared.Answer.TheVariants.{Accepted}
 use Rattle.refusal.specs.declared.Refusal.TheVariants.{Size, Ends}
 use Rattle.verdict.proofs.Verdicts.{answer_accepted, first_both}
 use Rattle.text.specs.Bytes.{count_of}
@@ -16,7 +16,7 @@ use Rattle.text.proofs.Pieces.{pieces_counted}
 use Rattle.slip.proofs.Laws.{fields_judged}
 
 -- ---------------------------------------------------------------------------
--- Accepted exactly when
+-- (Ok tt) exactly when
 
 -- the text of field n, counted from 1: the piece between its line feeds
 abbrev pub field_text : List ℕ → ℕ → List ℕ
@@ -34,7 +34,7 @@ pub record Right (c : Currency) (s : List ℕ) : Type 0 where
   pub fields : (n : ℕ) → 1 ≤ n → n ≤ 14 → field_verdict c n (text_before s n) (field_text s n) ≡ 0
 
 -- the fields of an accepted slip are each accepted, up to the last line feed
-fields_each : (c : Currency) (n start : ℕ) (m : List ℕ) (ps : List (List ℕ)) → fields_answer c n start m ps ≡ Accepted → (k : ℕ) → k + 1 < length ps → field_verdict c (n + k) (get_or (m ∷ ps) k []) (get_or ps k []) ≡ 0
+fields_each : (c : Currency) (n start : ℕ) (m : List ℕ) (ps : List (List ℕ)) → fields_answer c n start m ps ≡ Ok tt → (k : ℕ) → k + 1 < length ps → field_verdict c (n + k) (get_or (m ∷ ps) k []) (get_or ps k []) ≡ 0
 unfolding fields_answer
 fields_each c n start m [] e k h = absurd (omega arith)
 fields_each c n start m (p ∷ []) e k h = absurd (omega arith)
@@ -44,7 +44,7 @@ fields_each c n start m (p ∷ (q ∷ ps)) e (suc k) h =
     rw z (fields_each c (n + 1) (start + length p + 1) p (q ∷ ps) (first_both (answer_at n start (field_verdict c n m p)) _ e).1 k (omega arith))
 
 -- and where each is accepted, so are they all
-each_fields : (c : Currency) (n start : ℕ) (m : List ℕ) (ps : List (List ℕ)) → ((k : ℕ) → k + 1 < length ps → field_verdict c (n + k) (get_or (m ∷ ps) k []) (get_or ps k []) ≡ 0) → Accepted ≡ fields_answer c n start m ps
+each_fields : (c : Currency) (n start : ℕ) (m : List ℕ) (ps : List (List ℕ)) → ((k : ℕ) → k + 1 < length ps → field_verdict c (n + k) (get_or (m ∷ ps) k []) (get_or ps k []) ≡ 0) → (Ok tt) ≡ fields_answer c n start m ps
 unfolding fields_answer
 each_fields c n start m [] f = refl
 each_fields c n start m (p ∷ []) f = refl
@@ -53,7 +53,7 @@ each_fields c n start m (p ∷ (q ∷ ps)) f =
     (each_fields c (n + 1) (start + length p + 1) p (q ∷ ps) (λ k h. let z : n + suc k ≡ n + 1 + k = omega arith in rw z at (f (suc k) (omega arith))))
 
 module _ (c : Currency) (s : List ℕ) where
-  accepted_right : slip_answer_in c s ≡ Accepted → Right c s
+  accepted_right : slip_answer_in c s ≡ Ok tt → Right c s
   unfolding slip_answer_in piece_of
   accepted_right e =
       let a = chosen (leb (length s) 483) _ _ _ (refused_not_accepted (Size none)) e in
@@ -67,13 +67,13 @@ module _ (c : Currency) (s : List ℕ) where
         fields = λ n g h. let z : 1 + (n - 1) ≡ n = omega arith in rw z at (fields_each c 1 0 [] (split 10 s) b.1 (n - 1) (omega (arith, pieces_counted 10 s)));
       }
 
-  right_accepted : Right c s → slip_answer_in c s ≡ Accepted
+  right_accepted : Right c s → slip_answer_in c s ≡ Ok tt
   unfolding piece_of
   right_accepted w =
-      sym (fields_judged c s Accepted w.short
+      sym (fields_judged c s (Ok tt) w.short
       (sym (and_second (eqb (count_of 10 s) 14) (eqb (get_or s (length s - 1) 0) 10) true (eq-eqb (count_of 10 s) 14 w.ends) (sym (eq-eqb (get_or s (length s - 1) 0) 10 w.last))))
       (each_fields c 1 0 [] (split 10 s) (λ k h. let z : k + 1 - 1 ≡ k = omega arith in let y : k + 1 ≡ 1 + k = omega arith in rw (z, y) at (w.fields (k + 1) (omega arith) (omega (arith, pieces_counted 10 s, w.ends))))))
 
   -- a slip is accepted exactly when it is right
-  pub accepted_exactly : (slip_answer_in c s ≡ Accepted) ↔ Right c s
+  pub accepted_exactly : (slip_answer_in c s ≡ Ok tt) ↔ Right c s
   accepted_exactly = (accepted_right, right_accepted)

@@ -1,9 +1,7 @@
 -- Document 01, "The slip's fourteen fields": what reading a slip answers, and its fields.
-use Rattle.std.specs.Prelude.{ℕ, ◌+◌, ◌-◌, Bool, cond, ◌&&◌, List, [], ◌∷◌, eqb, leb, length, get_or}
-use Rattle.refusal.specs.Refusal.{none, first_of}
+use Rattle.std.specs.Prelude.{ℕ, ◌+◌, ◌-◌, Bool, cond, ◌&&◌, List, [], ◌∷◌, eqb, leb, length, get_or, Ok, Err}
+use Rattle.refusal.specs.Refusal.{Answer, none, first_of}
 use Rattle.verdict.specs.Verdict.{answer_at}
-use Rattle.refusal.specs.declared.Answer.{Answer}
-use Rattle.refusal.specs.declared.Answer.TheVariants.{Accepted, Refused}
 use Rattle.refusal.specs.declared.Refusal.TheVariants.{Size, Ends}
 use Rattle.text.specs.Bytes.{count_of}
 use Rattle.text.specs.Split.{split}
@@ -23,16 +21,16 @@ slip_ends s = eqb (count_of 10 s) 14 && eqb (get_or s (length s - 1) 0) 10
 
 -- the pieces of a slip in currency c from field n on, which starts at a byte, after the field m; what follows the last line feed is no field
 unfoldable pub fields_answer : Currency → ℕ → ℕ → List ℕ → List (List ℕ) → Answer
-fields_answer c n start m [] = Accepted
-fields_answer c n start m (p ∷ []) = Accepted
+fields_answer c n start m [] = Ok tt
+fields_answer c n start m (p ∷ []) = Ok tt
 fields_answer c n start m (p ∷ (q ∷ ps)) = first_of (answer_at n start (field_verdict c n m p)) (fields_answer c (n + 1) (start + length p + 1) p (q ∷ ps))
 
 -- "Above 483 bytes is 1; empty is 2. Order: 1, then 2, then fields 1 to 14"
 unfoldable pub slip_answer_in : Currency → List ℕ → Answer
 slip_answer_in c s =
     cond (leb (length s) 483)
-    (cond (slip_ends s) (fields_answer c 1 0 [] (split 10 s)) (Refused (Ends none)))
-    (Refused (Size none))
+    (cond (slip_ends s) (fields_answer c 1 0 [] (split 10 s)) (Err (Ends none)))
+    (Err (Size none))
 
 -- document 01's slip: "2 is `EUR`"
 abbrev pub slip_answer : List ℕ → Answer

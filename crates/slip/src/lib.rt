@@ -14,7 +14,6 @@ ghost use Rattle.slip.specs.Slip.{slip_ends, fields_answer, slip_answer_in, slip
 use classes::Class;
 use refusal::{Answer, Refusal};
 use slip_fields::Currency;
-use text::Found;
 
 // Whether there are fourteen line feeds, one of them last.
 fn ends_right(s: &[u8]) -> bool
@@ -49,22 +48,22 @@ fn judge_fields(currency: Currency, s: &[u8]) -> Answer
     let mut at: usize = 0;
     loop {
         match text::first_bad(Class::Line, &s[at..]) {
-            Found::At(i) => {
+            Some(i) => {
                 let stop = at + i;
                 match judge_one(currency, n, at, &s[before..end], &s[at..stop]) {
-                    Answer::Accepted => {
+                    Ok(()) => {
                         before = at;
                         end = stop;
                         at = stop + 1;
                         n += 1;
                     }
-                    Answer::Refused(r) => {
-                        return Answer::Refused(r);
+                    Err(r) => {
+                        return Err(r);
                     }
                 }
             }
-            Found::Nothing => {
-                return Answer::Accepted;
+            None => {
+                return Ok(());
             }
         }
     }
@@ -75,10 +74,10 @@ pub fn read_in(currency: Currency, s: &[u8]) -> Answer
     ensures { result ≡ slip_answer_in currency s.now }
 {
     if 483 < s.len() {
-        return Answer::Refused(Refusal::Size(refusal::nowhere()));
+        return Err(Refusal::Size(refusal::nowhere()));
     }
     if !ends_right(s) {
-        return Answer::Refused(Refusal::Ends(refusal::nowhere()));
+        return Err(Refusal::Ends(refusal::nowhere()));
     }
     judge_fields(currency, s)
 }

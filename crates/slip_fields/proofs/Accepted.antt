@@ -1,14 +1,13 @@
 -- What an accepted field of each kind is: its bytes, its length, and that no line feed stands in it.
 -- Assumes nothing.
 use Rattle.refusal.proofs.Basics.{◌≡◌, refl, sym, ap, ◌∙◌, arith, ℕ, zero, suc, ◌*◌, ◌≤◌, ◌<◌, length, get_or, eqb-true, eq-eqb, ne_eqb, List, [], ◌∷◌, Bool, true, false, cond, not, ◌&&◌, ◌||◌, or-true, eqb, ◌↔◌, ◌⊎◌, inl, inr, ⊎_elim, both_true, and_second}
+use Rattle.std.specs.Prelude.{Option, None}
 use Rattle.verdict.proofs.Verdicts.{both_pass, test_holds}
 use Rattle.classes.specs.Classes.{is_digit, permits}
 use Rattle.text.specs.Bytes.{all_of, bytes_verdict, same}
 use Rattle.text.specs.Digits.{two_digits}
 use Rattle.classes.specs.declared.Class.{Class}
 use Rattle.classes.specs.declared.Class.TheVariants.{Account, AccountForm, Reference, Line}
-use Rattle.text.specs.declared.Found.{Found}
-use Rattle.text.specs.declared.Found.TheVariants.{Nothing}
 use Rattle.classes.proofs.Laws.{digit_bounds}
 use Rattle.text.proofs.Laws.{is_nothing, all_passes, passes_all}
 use Rattle.characters.specs.Answers.{characters_verdict}
@@ -150,7 +149,7 @@ pub record Named (s : List ℕ) : Type 0 where
   pub fourth : is_digit (get_or s 3 0) ≡ true
 
 -- a choice between a number and none has a number only where its test holds and the number is there
-numbered : (t : Bool) (f : Found) → is_nothing (cond t f Nothing) ≡ false → (t ≡ true) × (is_nothing f ≡ false)
+numbered : (t : Bool) (f : Option ℕ) → is_nothing (cond t f None) ≡ false → (t ≡ true) × (is_nothing f ≡ false)
 unfolding is_nothing
 numbered true f e = (refl, e)
 numbered false f e = let z : ◌≡◌ {A = ℕ} 0 1 = cc in absurd (omega arith)

@@ -1,8 +1,8 @@
 -- What each of a slip's fourteen fields is, in the words of document 01 and of document 02, W1: accepted exactly when.
 -- Assumes nothing.
 use Rattle.refusal.proofs.Basics.{◌≡◌, refl, arith, ℕ, ◌≤◌, ◌<◌, length, ne_eqb, List, [], ◌∷◌, true, false, eqb, ◌↔◌, ◌⊎◌, inl, inr, ⊎_elim}
+use Rattle.std.specs.Prelude.{None}
 use Rattle.text.specs.Bytes.{all_of}
-use Rattle.text.specs.declared.Found.TheVariants.{Nothing}
 use Rattle.classes.specs.declared.Class.TheVariants.{Digits, Letters}
 use Rattle.characters.specs.Characters.{first_wrong, characters}
 use Rattle.characters.proofs.Theorems as texts
@@ -47,7 +47,7 @@ module _ (c : Currency) (m s : List ℕ) where
   third_exactly = (third_is_digits c m s, λ w. digits_accepted c m s w.0 w.1)
 
   -- "4 to 9 and 14: text of at most 30, 27, 27, 25, 25, 27 and 35 characters; may be empty here"
-  pub text_exactly : (n : ℕ) → ((4 ≤ n) × (n ≤ 9)) ⊎ (n ≡ 14) → (field_verdict c n m s ≡ 0) ↔ ((first_wrong s ≡ Nothing) × (characters s ≤ most_of n))
+  pub text_exactly : (n : ℕ) → ((4 ≤ n) × (n ≤ 9)) ⊎ (n ≡ 14) → (field_verdict c n m s ≡ 0) ↔ ((first_wrong s ≡ None) × (characters s ≤ most_of n))
   unfolding field_verdict
   text_exactly n h =
       rw (below 1 (omega arith), below 2 (omega arith), below 3 (omega arith), between 10 (omega arith) (omega arith), between 11 (omega arith) (omega arith), between 12 (omega arith) (omega arith), between 13 (omega arith) (omega arith))

@@ -2,7 +2,8 @@
 -- byte, 4, 5, then 6 to 9.
 use Rattle.std.specs.Prelude.{ℕ, cond, ◌||◌, List, eqb, length}
 use Rattle.refusal.specs.Basics.{spelt}
-use Rattle.verdict.specs.Verdict.{only_if, and_then}
+use Rattle.verdict.specs.Verdict.{Verdict, only_if, and_then}
+use Rattle.verdict.specs.declared.Fault.{Fault}
 use Rattle.text.specs.Bytes.{bytes_verdict, same, eur}
 use Rattle.classes.specs.declared.Class.{Class}
 use Rattle.classes.specs.declared.Class.TheVariants.{Digits, Letters}
@@ -17,8 +18,8 @@ use Rattle.slip_fields.specs.declared.Currency.TheVariants.{Euro, Kuna}
 -- ---------------------------------------------------------------------------
 -- 1 and 2: words, "only 5 applies to them"
 
-abbrev pub word_verdict : List ℕ → List ℕ → ℕ
-word_verdict w s = only_if (same w s) 5
+abbrev pub word_verdict : List ℕ → List ℕ → Verdict
+word_verdict w s = only_if (same w s) Fault.Form
 
 -- the header
 abbrev pub hrvhub30 : List ℕ
@@ -33,15 +34,15 @@ currency_text Kuna = spelt "HRK"
 -- 3 and 13: bytes of a class, and one of two lengths
 
 -- a byte that the class does not permit is 3, another length 4
-abbrev pub sized_verdict : Class → ℕ → ℕ → List ℕ → ℕ
-sized_verdict k a b s = and_then (bytes_verdict k s) (only_if (eqb (length s) a || eqb (length s) b) 4)
+abbrev pub sized_verdict : Class → ℕ → ℕ → List ℕ → Verdict
+sized_verdict k a b s = and_then (bytes_verdict k s) (only_if (eqb (length s) a || eqb (length s) b) Fault.Length)
 
 -- 3: "exactly fifteen digits"
-abbrev pub amount_verdict : List ℕ → ℕ
+abbrev pub amount_verdict : List ℕ → Verdict
 amount_verdict s = sized_verdict Digits 15 15 s
 
 -- 13: "empty (here) or four letters; a byte not A to Z is 3, another length 4"
-abbrev pub purpose_verdict : List ℕ → ℕ
+abbrev pub purpose_verdict : List ℕ → Verdict
 purpose_verdict s = sized_verdict Letters 0 4 s
 
 -- ---------------------------------------------------------------------------
@@ -59,7 +60,7 @@ most_of n =
 -- ---------------------------------------------------------------------------
 -- 10: an IBAN; W1: "an IBAN or seven digits, a hyphen and ten digits"
 
-abbrev pub payee_verdict : Currency → List ℕ → ℕ
+abbrev pub payee_verdict : Currency → List ℕ → Verdict
 payee_verdict Euro s = iban_verdict s
 payee_verdict Kuna s = account_or_iban_verdict s
 
@@ -67,7 +68,7 @@ payee_verdict Kuna s = account_or_iban_verdict s
 -- Every field
 
 -- field n of a slip in currency c, where m is the field before it: 12 obeys "the model of field 11". W1: but for 2 and 10 "All else is as in 01"
-unfoldable pub field_verdict : Currency → ℕ → List ℕ → List ℕ → ℕ
+unfoldable pub field_verdict : Currency → ℕ → List ℕ → List ℕ → Verdict
 field_verdict c n m s =
     cond (eqb n 1) (word_verdict hrvhub30 s)
     (cond (eqb n 2) (word_verdict (currency_text c) s)

@@ -9,6 +9,7 @@ ghost use Rattle.std.specs.Prelude.{◌≡◌};
 ghost use Rattle.slip_fields.specs.Fields.{word_verdict, sized_verdict, most_of, currency_text, payee_verdict, field_verdict};
 
 use classes::Class;
+use verdict::{Fault, Verdict};
 
 // The currency of a slip: euro, or kuna before 2023.
 #[derive(Clone, Copy)]
@@ -18,17 +19,14 @@ pub enum Currency {
 }
 
 // A required word: 5.
-fn judge_word(word: &[u8], s: &[u8]) -> usize
+fn judge_word(word: &[u8], s: &[u8]) -> Verdict
     ensures { result ≡ word_verdict word.now s.now }
 {
-    if text::is_same(word, s) {
-        return 0;
-    }
-    5
+    verdict::only_if(word == s, Fault::Form)
 }
 
 // The word of a currency.
-fn judge_currency(currency: Currency, s: &[u8]) -> usize
+fn judge_currency(currency: Currency, s: &[u8]) -> Verdict
     ensures { result ≡ word_verdict (currency_text currency) s.now }
 {
     match currency {
@@ -38,7 +36,7 @@ fn judge_currency(currency: Currency, s: &[u8]) -> usize
 }
 
 // The account of the payee: an IBAN, and in a kuna slip an account by its number too.
-fn judge_payee(currency: Currency, s: &[u8]) -> usize
+fn judge_payee(currency: Currency, s: &[u8]) -> Verdict
     ensures { result ≡ payee_verdict currency s.now }
 {
     match currency {
@@ -48,20 +46,11 @@ fn judge_payee(currency: Currency, s: &[u8]) -> usize
 }
 
 // Bytes of a class, and one of two lengths: 3 with its byte, 4.
-fn judge_sized(class: Class, a: usize, b: usize, s: &[u8]) -> usize
+fn judge_sized(class: Class, a: usize, b: usize, s: &[u8]) -> Verdict
     ensures { result ≡ sized_verdict class a b s.now }
 {
-    let bad = text::judge(class, s);
-    if bad != 0 {
-        return bad;
-    }
-    if s.len() == a {
-        return 0;
-    }
-    if s.len() == b {
-        return 0;
-    }
-    4
+    text::judge(class, s)?;
+    verdict::only_if((s.len() == a) | (s.len() == b), Fault::Length)
 }
 
 // The most characters of a text field.
@@ -79,8 +68,8 @@ fn most_of(n: usize) -> usize
     }
 }
 
-// Field n of a slip in a currency, after the field `before` it: a verdict.
-pub fn judge_field(currency: Currency, n: usize, before: &[u8], s: &[u8]) -> usize
+// Field n of a slip in a currency, after the field `before` it.
+pub fn judge_field(currency: Currency, n: usize, before: &[u8], s: &[u8]) -> Verdict
     ensures { result ≡ field_verdict currency n before.now s.now }
 {
     match n {

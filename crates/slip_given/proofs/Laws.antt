@@ -1,10 +1,10 @@
 -- Fields judged one after the other.
 -- Assumes nothing.
 use Rattle.refusal.proofs.Basics.{◌≡◌, refl, sym, ap, ◌∙◌, arith, ℕ, zero, suc, ◌+◌, ◌≤◌, ◌<◌, length, get_or, List, [], ◌∷◌, ◌++◌, ◌⊎◌, inl, inr, ⊎_elim, add-zero}
+use Rattle.std.specs.Prelude.{Ok, Err}
+use Rattle.refusal.specs.Refusal.{Answer, refusal_place, first_of}
 use Rattle.refusal.specs.declared.Place.{Place}
 use Rattle.refusal.specs.declared.Refusal.{Refusal}
-use Rattle.refusal.specs.declared.Answer.{Answer}
-use Rattle.refusal.specs.Refusal.{refusal_place, first_of}
 use Rattle.refusal.proofs.Theorems.{refused_not_accepted}
 use Rattle.verdict.specs.Verdict.{verdict_byte, answer_in}
 use Rattle.verdict.proofs.Verdicts.{first_joined, accepted_answer, told_place_lem}
@@ -35,25 +35,25 @@ pub one_given : (n : ℕ) (m s : List ℕ) (x : Answer) → x ≡ answer_in n (f
 unfolding given_answer
 one_given n m s x e = e ∙ alone (answer_in n (field_verdict Euro n m s))
   where
-    alone : (a : Answer) → a ≡ first_of a Answer.Accepted
-    alone Answer.Accepted = refl
-    alone (Answer.Refused r) = refl
+    alone : (a : Answer) → a ≡ first_of a (Ok tt)
+    alone (Ok tt) = refl
+    alone (Err r) = refl
 
 module _ (n : ℕ) (m : List ℕ) {x : Answer} where
   module _ (ps qs : List (List ℕ)) (e : x ≡ given_answer n m ps) where
     -- refused among the first
-    pub refused_first : (r : Refusal) → x ≡ Answer.Refused r → Answer.Refused r ≡ given_answer n m (ps ++ qs)
+    pub refused_first : (r : Refusal) → x ≡ Err r → Err r ≡ given_answer n m (ps ++ qs)
     refused_first r g = rw (given_append n m ps qs, sym e ∙ g)
 
     -- the first accepted: the answer of the others
-    pub accepted_next : (y : Answer) → x ≡ Answer.Accepted → y ≡ given_answer (n + length ps) (last_of m ps) qs → y ≡ given_answer n m (ps ++ qs)
+    pub accepted_next : (y : Answer) → x ≡ Ok tt → y ≡ given_answer (n + length ps) (last_of m ps) qs → y ≡ given_answer n m (ps ++ qs)
     accepted_next y g h = rw (given_append n m ps qs, sym e ∙ g) h
 
 -- ---------------------------------------------------------------------------
 -- A refusal is told of a field that is not right
 
 -- of one field
-one_refused : (n : ℕ) (m p : List ℕ) (r : Refusal) → answer_in n (field_verdict Euro n m p) ≡ Answer.Refused r → ((refusal_place r).field ≡ n) × (field_verdict Euro n m p ≡ 0 → ⊥)
+one_refused : (n : ℕ) (m p : List ℕ) (r : Refusal) → answer_in n (field_verdict Euro n m p) ≡ Err r → ((refusal_place r).field ≡ n) × (field_verdict Euro n m p ≡ 0 → ⊥)
 one_refused n m p r e =
     let v = field_verdict Euro n m p in (
       ap (λ (x : Place). x.field) (told_place_lem v n (verdict_byte v) r e).0,
@@ -61,31 +61,31 @@ one_refused n m p r e =
     )
 
 -- of the first of two answers, or of the second
-either_refused : (a b : Answer) (r : Refusal) → first_of a b ≡ Answer.Refused r → (a ≡ Answer.Refused r) ⊎ (b ≡ Answer.Refused r)
-either_refused Answer.Accepted b r e = inr e
-either_refused (Answer.Refused q) b r e = inl e
+either_refused : (a b : Answer) (r : Refusal) → first_of a b ≡ Err r → (a ≡ Err r) ⊎ (b ≡ Err r)
+either_refused (Ok tt) b r e = inr e
+either_refused (Err q) b r e = inl e
 
 -- of no field before the first
-not_before : (n : ℕ) (m : List ℕ) (ps : List (List ℕ)) (r : Refusal) → given_answer n m ps ≡ Answer.Refused r → n ≤ (refusal_place r).field
+not_before : (n : ℕ) (m : List ℕ) (ps : List (List ℕ)) (r : Refusal) → given_answer n m ps ≡ Err r → n ≤ (refusal_place r).field
 unfolding given_answer
 not_before n m [] r e = absurd (refused_not_accepted r (sym e))
 not_before n m (p ∷ ps) r e =
-    ⊎_elim (λ (f : answer_in n (field_verdict Euro n m p) ≡ Answer.Refused r). omega (arith, (one_refused n m p r f).0))
-    (λ (f : given_answer (n + 1) p ps ≡ Answer.Refused r). omega (arith, not_before (n + 1) p ps r f))
+    ⊎_elim (λ (f : answer_in n (field_verdict Euro n m p) ≡ Err r). omega (arith, (one_refused n m p r f).0))
+    (λ (f : given_answer (n + 1) p ps ≡ Err r). omega (arith, not_before (n + 1) p ps r f))
     (either_refused (answer_in n (field_verdict Euro n m p)) (given_answer (n + 1) p ps) r e)
 
 -- and of no field that is right whatever stands before it
 pub not_there :
-    (n : ℕ) (m : List ℕ) (ps : List (List ℕ)) (r : Refusal) (i : ℕ) → given_answer n m ps ≡ Answer.Refused r → i < length ps
+    (n : ℕ) (m : List ℕ) (ps : List (List ℕ)) (r : Refusal) (i : ℕ) → given_answer n m ps ≡ Err r → i < length ps
     → ((before : List ℕ) → field_verdict Euro (n + i) before (get_or ps i []) ≡ 0) → (refusal_place r).field ≡ n + i → ⊥
 unfolding given_answer
 not_there n m [] r i e h right f = omega arith
 not_there n m (p ∷ ps) r zero e h right f =
-    ⊎_elim (λ (g : answer_in n (field_verdict Euro n m p) ≡ Answer.Refused r). (one_refused n m p r g).1 (rw (add-zero n) at (right m)))
-    (λ (g : given_answer (n + 1) p ps ≡ Answer.Refused r). omega (arith, f, not_before (n + 1) p ps r g))
+    ⊎_elim (λ (g : answer_in n (field_verdict Euro n m p) ≡ Err r). (one_refused n m p r g).1 (rw (add-zero n) at (right m)))
+    (λ (g : given_answer (n + 1) p ps ≡ Err r). omega (arith, f, not_before (n + 1) p ps r g))
     (either_refused (answer_in n (field_verdict Euro n m p)) (given_answer (n + 1) p ps) r e)
 not_there n m (p ∷ ps) r (suc i) e h right f =
     let z : n + suc i ≡ n + 1 + i = omega arith in
-    ⊎_elim (λ (g : answer_in n (field_verdict Euro n m p) ≡ Answer.Refused r). omega (arith, f, (one_refused n m p r g).0))
-    (λ (g : given_answer (n + 1) p ps ≡ Answer.Refused r). not_there (n + 1) p ps r i g (omega arith) (rw z at right) (rw z at f))
+    ⊎_elim (λ (g : answer_in n (field_verdict Euro n m p) ≡ Err r). omega (arith, f, (one_refused n m p r g).0))
+    (λ (g : given_answer (n + 1) p ps ≡ Err r). not_there (n + 1) p ps r i g (omega arith) (rw z at right) (rw z at f))
     (either_refused (answer_in n (field_verdict Euro n m p)) (given_answer (n + 1) p ps) r e)

@@ -1,9 +1,7 @@
 -- Document 01, "The slip's fourteen fields": what a writer of slips answers of the fields that it is given.
-use Rattle.std.specs.Prelude.{ℕ, ◌+◌, List, [], ◌∷◌}
-use Rattle.refusal.specs.Refusal.{first_of}
+use Rattle.std.specs.Prelude.{ℕ, ◌+◌, List, [], ◌∷◌, Ok}
+use Rattle.refusal.specs.Refusal.{Answer, first_of}
 use Rattle.verdict.specs.Verdict.{answer_in}
-use Rattle.refusal.specs.declared.Answer.{Answer}
-use Rattle.refusal.specs.declared.Answer.TheVariants as answer
 use Rattle.slip_fields.specs.declared.Currency.TheVariants.{Euro}
 use Rattle.slip_fields.specs.Fields.{field_verdict}
 
@@ -20,5 +18,5 @@ eleven a b c d e f g h i j k = a ∷ (b ∷ (c ∷ (d ∷ (e ∷ (f ∷ (g ∷ f
 
 -- "It refuses as the reader does, in field order, the byte of a 3 counted within its field and 0 otherwise": from field n on, after m
 unfoldable pub given_answer : ℕ → List ℕ → List (List ℕ) → Answer
-given_answer n m [] = answer.Accepted
+given_answer n m [] = Ok tt
 given_answer n m (p ∷ ps) = first_of (answer_in n (field_verdict Euro n m p)) (given_answer (n + 1) p ps)

@@ -22,12 +22,8 @@ fn judge_three(n: usize, before: &[u8], a: &[u8], b: &[u8], c: &[u8]) -> Answer
     requires { n ≤ 14 }
     ensures { result ≡ given_answer n before.now (three a.now b.now c.now) }
 {
-    if let Answer::Refused(r) = judge_one(n, before, a) {
-        return Answer::Refused(r);
-    }
-    if let Answer::Refused(r) = judge_one(n + 1, a, b) {
-        return Answer::Refused(r);
-    }
+    judge_one(n, before, a)?;
+    judge_one(n + 1, a, b)?;
     judge_one(n + 2, b, c)
 }
 
@@ -36,9 +32,7 @@ fn judge_four(n: usize, before: &[u8], a: &[u8], b: &[u8], c: &[u8], d: &[u8]) -
     requires { n ≤ 13 }
     ensures { result ≡ given_answer n before.now (four a.now b.now c.now d.now) }
 {
-    if let Answer::Refused(r) = judge_one(n, before, a) {
-        return Answer::Refused(r);
-    }
+    judge_one(n, before, a)?;
     judge_three(n + 1, a, b, c, d)
 }
 
@@ -58,11 +52,7 @@ pub fn judge_given(
 ) -> Answer
     ensures { result ≡ given_answer 4 [] (eleven f4.now f5.now f6.now f7.now f8.now f9.now f10.now f11.now f12.now f13.now f14.now) }
 {
-    if let Answer::Refused(r) = judge_four(4, b"", f4, f5, f6, f7) {
-        return Answer::Refused(r);
-    }
-    if let Answer::Refused(r) = judge_three(8, f7, f8, f9, f10) {
-        return Answer::Refused(r);
-    }
+    judge_four(4, b"", f4, f5, f6, f7)?;
+    judge_three(8, f7, f8, f9, f10)?;
     judge_four(11, f10, f11, f12, f13, f14)
 }

@@ -1,7 +1,7 @@
 -- The amount of a slip, digit by digit.
 -- Assumes nothing.
 use Rattle.refusal.proofs.Basics.{◌≡◌, arith, ℕ, length, List}
-use Rattle.refusal.specs.declared.Answer.TheVariants.{Accepted}
+use Rattle.std.specs.Prelude.{Ok}
 use Rattle.text.specs.Split.{split}
 use Rattle.sums.specs.Sums.{number_in}
 use Rattle.sums.proofs.Theorems.{number_of_all}
@@ -14,9 +14,9 @@ use Rattle.slip_handed.specs.Handed.{amount_of}
 -- ---------------------------------------------------------------------------
 -- An accepted slip's third field
 
-third_size : (c : Currency) (s : List ℕ) → slip_answer_in c s ≡ Accepted → length (piece_of 2 (split 10 s)) ≡ 15
+third_size : (c : Currency) (s : List ℕ) → slip_answer_in c s ≡ Ok tt → length (piece_of 2 (split 10 s)) ≡ 15
 third_size c s e = (third_is_digits _ _ _ (((accepted_exactly c s).0 e).fields 3 (omega arith) (omega arith))).1
 
 -- its digits are few enough to be read as one number
-pub amount_read : (c : Currency) (s : List ℕ) → slip_answer_in c s ≡ Accepted → number_in (piece_of 2 (split 10 s)) ≡ amount_of s
+pub amount_read : (c : Currency) (s : List ℕ) → slip_answer_in c s ≡ Ok tt → number_in (piece_of 2 (split 10 s)) ≡ amount_of s
 amount_read c s e = let z = third_size c s e in number_of_all (piece_of 2 (split 10 s)) (omega arith)

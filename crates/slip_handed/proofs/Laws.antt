@@ -1,11 +1,10 @@
 -- Where the pieces of a text stand between its line feeds, and the fields that a slip hands back.
 -- Assumes nothing.
 use Rattle.refusal.proofs.Basics.{◌≡◌, refl, sym, ap, ◌∙◌, arith, ℕ, zero, suc, ◌+◌, ◌-◌, ◌≤◌, ◌<◌, length, take, drop, length-drop, le-leb, List, [], ◌∷◌, Bool, true, false, cond, drop-drop, length-take-le, take_all, zero-add, add-zero, entered}
+use Rattle.std.specs.Prelude.{Option, Some, None}
 use Rattle.refusal.specs.Refusal.{is_accepted}
 use Rattle.text.specs.Bytes.{first_bad}
 use Rattle.classes.specs.declared.Class.TheVariants.{Line}
-use Rattle.text.specs.declared.Found.{Found}
-use Rattle.text.specs.declared.Found.TheVariants.{At, Nothing}
 use Rattle.text.specs.declared.Part.{Part}
 use Rattle.text.specs.Split.{split}
 use Rattle.text.proofs.Laws.{to_the_end}
@@ -31,13 +30,13 @@ pub behind_none : (p : Part) → p ≡ behind 0 p
 behind_none p = rw (zero-add p.start)
 
 -- past the end of a text without a line feed there is no piece
-piece_past : (s : List ℕ) (k : ℕ) → 0 < k → first_bad Line s ≡ Nothing → piece_part k (split 10 s) ≡ record { start = 0; length = 0 }
+piece_past : (s : List ℕ) (k : ℕ) → 0 < k → first_bad Line s ≡ None → piece_part k (split 10 s) ≡ record { start = 0; length = 0 }
 unfolding piece_start piece_of
 piece_past s zero h e = absurd (omega arith)
 piece_past s (suc k) h e = rw (split_whole s e)
 
 -- behind its first line feed stand the others
-piece_on : (s : List ℕ) (k i : ℕ) → 0 < k → first_bad Line s ≡ At i → piece_part k (split 10 s) ≡ behind (i + 1) (piece_part (k - 1) (split 10 (drop (i + 1) s)))
+piece_on : (s : List ℕ) (k i : ℕ) → 0 < k → first_bad Line s ≡ Some i → piece_part k (split 10 s) ≡ behind (i + 1) (piece_part (k - 1) (split 10 (drop (i + 1) s)))
 unfolding piece_of
 piece_on s zero i h e = absurd (omega arith)
 piece_on s (suc k) i h e =
@@ -49,14 +48,14 @@ piece_on s (suc k) i h e =
 module _ (s : List ℕ) (at left : ℕ) where
   -- a line feed: one piece fewer
   pub piece_again :
-      (i : ℕ) → 0 < left → first_bad Line (take (length s - at) (drop at s)) ≡ At i
+      (i : ℕ) → 0 < left → first_bad Line (take (length s - at) (drop at s)) ≡ Some i
       → behind at (piece_part left (split 10 (drop at s))) ≡ behind (at + (i + 1)) (piece_part (left - 1) (split 10 (drop (at + (i + 1)) s)))
   piece_again i h e =
       let q : at + (i + 1 + piece_start (left - 1) (split 10 (drop (at + (i + 1)) s))) ≡ at + (i + 1) + piece_start (left - 1) (split 10 (drop (at + (i + 1)) s)) = omega arith in
       ap (behind at) (piece_on (drop at s) left i h (rw (to_the_end at s) at e)) ∙ rw (drop-drop (i + 1) at s, q)
 
   -- none: it has no byte
-  pub piece_none : 0 < left → first_bad Line (take (length s - at) (drop at s)) ≡ Nothing → record { start = at; length = 0 } ≡ behind at (piece_part left (split 10 (drop at s)))
+  pub piece_none : 0 < left → first_bad Line (take (length s - at) (drop at s)) ≡ None → record { start = at; length = 0 } ≡ behind at (piece_part left (split 10 (drop at s)))
   piece_none h e = base ∙ ap (behind at) (sym (piece_past (drop at s) left h (rw (to_the_end at s) at e)))
     where
       base : record { start = at; length = 0 } ≡ behind at (record { start = 0; length = 0 })
@@ -77,20 +76,20 @@ pub piece_stands : (k : ℕ) (s : List ℕ) → Stands s (piece_of k (split 10 s
 unfolding piece_of piece_start
 piece_stands zero s = go (first_bad Line s) refl
   where
-    go : (f : Found) → first_bad Line s ≡ f → Stands s (piece_of 0 (split 10 s)) (piece_part 0 (split 10 s))
-    go (At i) e =
+    go : (f : Option ℕ) → first_bad Line s ≡ f → Stands s (piece_of 0 (split 10 s)) (piece_part 0 (split 10 s))
+    go (Some i) e =
         let d = split_at s i e in
         rw (d.1, length-take-le i s (omega (arith, d.0))) (omega (arith, d.0), refl)
-    go Nothing e = rw (split_whole s e) (omega arith, take_all (length s) s (omega arith))
+    go None e = rw (split_whole s e) (omega arith, take_all (length s) s (omega arith))
 piece_stands (suc k) s = go (first_bad Line s) refl (λ t. piece_stands k t)
   where
-    go : (f : Found) → first_bad Line s ≡ f → ((t : List ℕ) → Stands t (piece_of k (split 10 t)) (piece_part k (split 10 t))) → Stands s (piece_of (suc k) (split 10 s)) (piece_part (suc k) (split 10 s))
-    go (At i) e on =
+    go : (f : Option ℕ) → first_bad Line s ≡ f → ((t : List ℕ) → Stands t (piece_of k (split 10 t)) (piece_part k (split 10 t))) → Stands s (piece_of (suc k) (split 10 s)) (piece_part (suc k) (split 10 s))
+    go (Some i) e on =
         let d = split_at s i e in
         let t = drop (i + 1) s in
         rw (d.1, start_behind s t i k (omega (arith, d.0)), ← (drop-drop (piece_start k (split 10 t)) (i + 1) s))
         (omega (arith, (on t).0, d.0, length-drop (i + 1) s), (on t).1)
-    go Nothing e on = rw (split_whole s e) (omega arith, refl)
+    go None e on = rw (split_whole s e) (omega arith, refl)
 
 -- ---------------------------------------------------------------------------
 -- Fields

@@ -1,17 +1,13 @@
 -- Document 01, "The slip's fourteen fields", and document 02, W1: what an accepted slip hands back.
-use Rattle.std.specs.Prelude.{ℕ, zero, suc, ◌+◌, ◌-◌, Bool, cond, ◌&&◌, List, [], ◌∷◌, leb, length}
-use Rattle.refusal.specs.Refusal.{is_accepted}
-use Rattle.refusal.specs.declared.Answer.{Answer}
-use Rattle.refusal.specs.declared.Answer.TheVariants.{Accepted, Refused}
+use Rattle.std.specs.Prelude.{ℕ, zero, suc, ◌+◌, ◌-◌, Bool, cond, ◌&&◌, List, [], ◌∷◌, leb, length, Result, Ok, Err}
+use Rattle.refusal.specs.Refusal.{Answer, is_accepted}
+use Rattle.refusal.specs.declared.Refusal.{Refusal}
 use Rattle.text.specs.declared.Part.{Part}
 use Rattle.text.specs.Digits.{digits_of, value_of}
 use Rattle.text.specs.Split.{split}
 use Rattle.slip_fields.specs.declared.Currency.{Currency}
 use Rattle.slip_fields.specs.declared.Currency.TheVariants.{Euro}
 use Rattle.slip.specs.Slip.{slip_answer_in, slip_answer, piece_of}
-use Rattle.slip_handed.specs.declared.Amount.{Amount}
-use Rattle.slip_handed.specs.declared.Amount.TheVariants as amount
-use Rattle.slip_handed.specs.declared.Amount.TheVariants.{Cents}
 
 -- ---------------------------------------------------------------------------
 -- A field of a slip
@@ -54,10 +50,10 @@ field_part s n = field_part_in Euro s n
 abbrev pub amount_of : List ℕ → ℕ
 amount_of s = value_of (digits_of (piece_of 2 (split 10 s)))
 
-abbrev pub cents_from : List ℕ → Answer → Amount
-cents_from s Accepted = Cents (amount_of s)
-cents_from s (Refused r) = amount.Refused r
+abbrev pub cents_from : List ℕ → Answer → Result ℕ Refusal
+cents_from s (Ok tt) = Ok (amount_of s)
+cents_from s (Err r) = Err r
 
 -- the amount of an accepted euro slip in cents; else its refusal
-abbrev pub slip_cents : List ℕ → Amount
+abbrev pub slip_cents : List ℕ → Result ℕ Refusal
 slip_cents s = cents_from s (slip_answer s)

@@ -13,7 +13,7 @@ ghost use Rattle.slip_handed.specs.Handed.{piece_part, field_part_in, field_part
 use classes::Class;
 use refusal::{Answer, Refusal};
 use slip_fields::Currency;
-use text::{Found, Part};
+use text::Part;
 
 // ---------------------------------------------------------------------------
 // Its fields
@@ -30,8 +30,8 @@ fn first_length(s: &[u8]) -> usize
     ensures { result ≡ length (piece_of 0 (split 10 s.now)) }
 {
     match text::first_bad(Class::Line, s) {
-        Found::At(i) => i,
-        Found::Nothing => s.len(),
+        Some(i) => i,
+        None => s.len(),
     }
 }
 
@@ -43,11 +43,11 @@ fn piece(s: &[u8], k: usize) -> Part
     let mut at: usize = 0;
     while 0 < left {
         match text::first_bad(Class::Line, &s[at..]) {
-            Found::At(i) => {
+            Some(i) => {
                 left -= 1;
                 at += i + 1;
             }
-            Found::Nothing => {
+            None => {
                 return Part {
                     start: at,
                     length: 0,
@@ -123,19 +123,12 @@ pub fn field(s: &[u8], n: usize) -> &[u8]
 // ---------------------------------------------------------------------------
 // Its amount
 
-// The amount of an accepted euro slip, or the slip's refusal.
-#[derive(Clone, Copy)]
-pub enum Amount {
-    Cents(u64),
-    Refused(Refusal),
-}
-
 // The amount of a euro slip in cents.
-pub fn cents(s: &[u8]) -> Amount
+pub fn cents(s: &[u8]) -> Result<u64, Refusal>
     ensures { result ≡ slip_cents s.now }
 {
     match slip::read(s) {
-        Answer::Accepted => Amount::Cents(sums::number(piece_text(s, 2))),
-        Answer::Refused(r) => Amount::Refused(r),
+        Ok(()) => Ok(sums::number(piece_text(s, 2))),
+        Err(r) => Err(r),
     }
 }

@@ -1,8 +1,8 @@
 -- All that `slipfile` prints of a slip stands in a room of 6,100 bytes, and all that `ledger` prints in one of 6,200.
 -- Assumes nothing.
 use Rattle.refusal.proofs.Basics.{◌≡◌, refl, arith, ℕ, zero, suc, ◌+◌, ◌-◌, ◌*◌, ◌≤◌, length, take, length-append, List, [], ◌∷◌, ◌++◌, suc-mul}
-use Rattle.refusal.specs.declared.Answer.{Answer}
-use Rattle.refusal.specs.declared.Answer.TheVariants.{Accepted, Refused}
+use Rattle.std.specs.Prelude.{Ok, Err}
+use Rattle.refusal.specs.Refusal.{Answer}
 use Rattle.text.specs.Split.{split}
 use Rattle.slip_fields.specs.declared.Currency.{Currency}
 use Rattle.slip_fields.specs.declared.Currency.TheVariants.{Euro, Kuna}
@@ -45,8 +45,8 @@ unfolding slip_printed
 slip_at_most s = go (slip_answer s) refl
   where
     go : (a : Answer) → slip_answer s ≡ a → length (printed_for a s) ≤ 6100
-    go Accepted e = let b = both_at_most accepted_line (field_lines s 3 12) 9 6060 (omega arith) (lines_at_most s 3 12 ((accepted_plainly Euro s).0 e).short) in omega arith
-    go (Refused r) e = let b = refused_at_most r in omega arith
+    go (Ok tt) e = let b = both_at_most accepted_line (field_lines s 3 12) 9 6060 (omega arith) (lines_at_most s 3 12 ((accepted_plainly Euro s).0 e).short) in omega arith
+    go (Err r) e = let b = refused_at_most r in omega arith
 
 -- with a kuna slip's cents
 cents_at_most : (lipa : ℕ) → length (cents_line lipa) ≤ 27
@@ -61,12 +61,12 @@ unfolding ledger_printed ledger_of amount_in
 ledger_at_most s = go (currency_of s) (slip_answer_in (currency_of s) s) refl
   where
     go : (c : Currency) (a : Answer) → slip_answer_in (currency_of s) s ≡ a → length (ledger_lines (ledger_from c (amount_of s) a) s) ≤ 6200
-    go c (Refused r) e = let b = refused_at_most r in omega arith
-    go Euro Accepted e =
+    go c (Err r) e = let b = refused_at_most r in omega arith
+    go Euro (Ok tt) e =
         let l = lines_at_most s 3 12 ((accepted_plainly (currency_of s) s).0 e).short in
         let b = both_at_most euro_line (field_lines s 3 12) 14 6060 (omega arith) l in
         omega arith
-    go Kuna Accepted e =
+    go Kuna (Ok tt) e =
         let l = lines_at_most s 3 12 ((accepted_plainly (currency_of s) s).0 e).short in
         let b = both_at_most kuna_line (field_lines s 3 12) 14 6060 (omega arith) l in
         let d = both_at_most (kuna_line ++ field_lines s 3 12) (cents_line (amount_of s)) 6074 27 b (cents_at_most (amount_of s)) in

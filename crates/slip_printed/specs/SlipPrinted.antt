@@ -1,8 +1,7 @@
 -- What the programs `slipfile` and `ledger` print of a slip: `accepted` and its fields 3 to 14, a line each, or its refusal with its place.
-use Rattle.std.specs.Prelude.{ℕ, zero, suc, ◌-◌, List, [], ◌∷◌, ◌++◌}
+use Rattle.std.specs.Prelude.{ℕ, zero, suc, ◌-◌, List, [], ◌∷◌, ◌++◌, Ok, Err}
+use Rattle.refusal.specs.Refusal.{Answer}
 use Rattle.refusal.specs.Basics.{spelt}
-use Rattle.refusal.specs.declared.Answer.{Answer}
-use Rattle.refusal.specs.declared.Answer.TheVariants.{Accepted, Refused}
 use Rattle.text.specs.Split.{split}
 use Rattle.slip.specs.Slip.{slip_answer, piece_of}
 use Rattle.units.specs.Units.{lipa_in_cents}
@@ -36,8 +35,8 @@ field_lines s n zero = []
 field_lines s n (suc k) = field_line n (piece_of (n - 1) (split 10 s)) ++ field_lines s (suc n) k
 
 abbrev pub printed_for : Answer → List ℕ → List ℕ
-printed_for Accepted s = accepted_line ++ field_lines s 3 12
-printed_for (Refused r) s = refused_text r
+printed_for (Ok tt) s = accepted_line ++ field_lines s 3 12
+printed_for (Err r) s = refused_text r
 
 unfoldable pub slip_printed : List ℕ → List ℕ
 slip_printed s = printed_for (slip_answer s) s

@@ -47,8 +47,8 @@ pub fn print(s: &[u8], out: &mut [u8]) -> usize
     ensures { Puts (slip_printed s.now) 0 out.old result out.new }
 {
     match slip::read(s) {
-        Answer::Accepted => put_accepted(b"accepted\n", s, out),
-        Answer::Refused(r) => printed::put_refused(out, 0, r),
+        Ok(()) => put_accepted(b"accepted\n", s, out),
+        Err(r) => printed::put_refused(out, 0, r),
     }
 }
 

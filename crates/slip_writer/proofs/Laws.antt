@@ -1,10 +1,10 @@
 -- Laws of texts written one behind another, of fields judged one after another, and of what the writer answers. Assumes nothing.
 use Rattle.refusal.proofs.Basics.{◌≡◌, refl, sym, ◌∙◌, arith, ℕ, ◌+◌, ◌≤◌, ◌<◌, length, set, length-append, lt-ltb, le-ltb, List, [], ◌∷◌, ◌++◌, append_assoc}
+use Rattle.std.specs.Prelude.{Result, Ok, Err}
+use Rattle.refusal.specs.Refusal.{Answer, none}
 use Rattle.refusal.specs.declared.Place.{Place}
 use Rattle.refusal.specs.declared.Refusal.{Refusal}
 use Rattle.refusal.specs.declared.Refusal.TheVariants.{Length, Room}
-use Rattle.refusal.specs.declared.Answer.{Answer}
-use Rattle.refusal.specs.Refusal.{none}
 use Rattle.text.specs.Bytes.{eur}
 use Rattle.text.specs.Digits.{digits_text}
 use Rattle.text.specs.Stands.{Stands}
@@ -12,7 +12,6 @@ use Rattle.text.proofs.Stands.{stands_append, stands_length}
 use Rattle.slip_fields.specs.Fields.{hrvhub30}
 use Rattle.room.proofs.Digits.{digits_length}
 use Rattle.slip_given.specs.Given.{given_answer, three}
-use Rattle.slip_writer.specs.declared.Written.{Written}
 use Rattle.text.specs.Lines.{join_lines}
 use Rattle.slip_writer.specs.Writer.{slip_text, written_in_room, write_answer}
 use Rattle.slip_writer.specs.Steps.{WritesSlip, WritesAccepted}
@@ -106,11 +105,11 @@ module _ (cents : ℕ) (ps qs rs : List (List ℕ)) where
 
 -- more than there is room for: refused
 pub room_refused :
-    (s : List ℕ) (room n : ℕ) (place : Place) → n ≡ length s → room < n → place ≡ none → Written.Refused (Room place n) ≡ written_in_room s room
+    (s : List ℕ) (room n : ℕ) (place : Place) → n ≡ length s → room < n → place ≡ none → Err (Room place n) ≡ written_in_room s room
 room_refused s room n place e h g = rw (lt-ltb room (length s) (omega arith), e, g)
 
 -- there is room: counted
-pub room_counted : (s : List ℕ) (room n : ℕ) → n ≡ length s → n ≤ room → Written.Bytes n ≡ written_in_room s room
+pub room_counted : (s : List ℕ) (room n : ℕ) → n ≡ length s → n ≤ room → Ok n ≡ written_in_room s room
 room_counted s room n e h = rw (le-ltb room (length s) (omega arith), e)
 
 -- ---------------------------------------------------------------------------
@@ -118,17 +117,17 @@ room_counted s room n e h = rw (le-ltb room (length s) (omega arith), e)
 
 module _ (cents : ℕ) (fields : List (List ℕ)) (out : List ℕ) where
   -- an amount of more than fifteen digits
-  pub amount_refused : 1000000000000000 ≤ cents → WritesSlip cents fields out (Written.Refused (Length (record { line = 0; field = 3; byte = 0 }))) out
+  pub amount_refused : 1000000000000000 ≤ cents → WritesSlip cents fields out (Err (Length (record { line = 0; field = 3; byte = 0 }))) out
   unfolding write_answer
   amount_refused h = (rw (le-ltb cents 1000000000000000 h), refl)
 
   module _ {x : Answer} (h : cents < 1000000000000000) (e : x ≡ given_answer 4 [] fields) where
     -- a field refused
-    pub field_refused : (r : Refusal) → x ≡ Answer.Refused r → WritesSlip cents fields out (Written.Refused r) out
+    pub field_refused : (r : Refusal) → x ≡ Err r → WritesSlip cents fields out (Err r) out
     unfolding write_answer
     field_refused r g = (rw (lt-ltb cents 1000000000000000 h, sym e ∙ g), refl)
 
     -- all fields accepted
-    pub fields_accepted : (r : Written) (after : List ℕ) → x ≡ Answer.Accepted → WritesAccepted cents fields out r after → WritesSlip cents fields out r after
+    pub fields_accepted : (r : Result ℕ Refusal) (after : List ℕ) → x ≡ Ok tt → WritesAccepted cents fields out r after → WritesSlip cents fields out r after
     unfolding write_answer
     fields_accepted r after g w = (rw (lt-ltb cents 1000000000000000 h, sym e ∙ g) w.0, w.1)

@@ -1,8 +1,8 @@
 -- The size of a slip of accepted fields: at most 483 bytes. Assumes nothing.
 use Rattle.refusal.proofs.Basics.{◌≡◌, refl, sym, ◌∙◌, arith, ℕ, zero, suc, ◌+◌, ◌≤◌, length, List, [], ◌∷◌}
+use Rattle.std.specs.Prelude.{Ok}
+use Rattle.refusal.specs.Refusal.{Answer}
 use Rattle.verdict.specs.Verdict.{answer_in}
-use Rattle.refusal.specs.declared.Answer.{Answer}
-use Rattle.refusal.specs.declared.Answer.TheVariants.{Accepted}
 use Rattle.verdict.proofs.Verdicts.{answer_accepted, first_both}
 use Rattle.slip_fields.specs.declared.Currency.TheVariants.{Euro}
 use Rattle.slip_fields.specs.Fields.{field_verdict}
@@ -15,7 +15,7 @@ use Rattle.slip_writer.proofs.Laws.{lines_length, slip_length}
 
 -- of accepted fields the first is accepted, and so are those after it
 pub given_first :
-    (n : ℕ) (m p : List ℕ) (ps : List (List ℕ)) → given_answer n m (p ∷ ps) ≡ Accepted → (field_verdict Euro n m p ≡ 0) × (given_answer (n + 1) p ps ≡ Accepted)
+    (n : ℕ) (m p : List ℕ) (ps : List (List ℕ)) → given_answer n m (p ∷ ps) ≡ Ok tt → (field_verdict Euro n m p ≡ 0) × (given_answer (n + 1) p ps ≡ Ok tt)
 unfolding given_answer
 given_first n m p ps e = let h = first_both (answer_in n (field_verdict Euro n m p)) _ e in (answer_accepted _ _ _ h.0, h.1)
 
@@ -25,7 +25,7 @@ sizes n zero = 0
 sizes n (suc k) = size_of n + 1 + sizes (n + 1) k
 
 -- accepted fields have no more
-pub given_size : (n : ℕ) (m : List ℕ) (ps : List (List ℕ)) → given_answer n m ps ≡ Accepted → length (join_lines ps) ≤ sizes n (length ps)
+pub given_size : (n : ℕ) (m : List ℕ) (ps : List (List ℕ)) → given_answer n m ps ≡ Ok tt → length (join_lines ps) ≤ sizes n (length ps)
 given_size n m [] e = unfold join_lines in omega arith
 given_size n m (p ∷ ps) e =
     let h = given_first n m p ps e in
@@ -38,7 +38,7 @@ sizes_eleven = refl
 
 -- the slip of accepted fields
 pub accepted_small :
-    (cents : ℕ) (a b c d e f g h i j k : List ℕ) {x : Answer} → x ≡ given_answer 4 [] (eleven a b c d e f g h i j k) → x ≡ Accepted
+    (cents : ℕ) (a b c d e f g h i j k : List ℕ) {x : Answer} → x ≡ given_answer 4 [] (eleven a b c d e f g h i j k) → x ≡ Ok tt
     → length (slip_text cents (eleven a b c d e f g h i j k)) ≤ 483
 accepted_small cents a b c d e f g h i j k v w =
     omega (arith, slip_length cents (eleven a b c d e f g h i j k), given_size 4 [] (eleven a b c d e f g h i j k) (sym v ∙ w), sizes_eleven)

@@ -1,9 +1,8 @@
 -- What is promised of slips written and read: what the writer writes the reader accepts, field by field; what the reader accepts is
 -- written again byte for byte. Assumes nothing.
 use Rattle.refusal.proofs.Basics.{◌≡◌, refl, sym, ap, ◌∙◌, arith, ℕ, zero, suc, ◌+◌, ◌-◌, ◌^◌, ◌≤◌, ◌<◌, length, get_or, drop, get_or-append, drop_of_length-le, le-leb, eqb-true, ltb-true, ltb-false, lt-ltb, le-ltb, List, [], ◌∷◌, ◌++◌, Bool, true, false, cond, eqb, leb, ltb, drop-cons, zero-add, add-zero, add-one, both_true}
-use Rattle.refusal.specs.declared.Answer.{Answer}
-use Rattle.refusal.specs.declared.Answer.TheVariants.{Accepted, Refused}
-use Rattle.refusal.specs.Refusal.{none}
+use Rattle.std.specs.Prelude.{Result, Ok, Err}
+use Rattle.refusal.specs.Refusal.{Answer, none}
 use Rattle.refusal.specs.declared.Refusal.{Refusal}
 use Rattle.verdict.specs.Verdict.{answer_at}
 use Rattle.verdict.proofs.Verdicts.{answer_accepted, first_both}
@@ -17,8 +16,6 @@ use Rattle.room.proofs.Digits.{digits_length, text_digits, number_back, value_be
 use Rattle.slip.specs.Slip.{slip_ends, fields_answer, slip_answer_in, slip_answer, piece_of}
 use Rattle.slip_handed.specs.Handed.{field_in, field_of, amount_of}
 use Rattle.slip_given.specs.Given.{given_answer}
-use Rattle.slip_writer.specs.declared.Written.{Written}
-use Rattle.slip_writer.specs.declared.Written.TheVariants.{Bytes}
 use Rattle.text.specs.Lines.{join_lines, lines_among, EachLine, none as no_line, more}
 use Rattle.slip_writer.specs.Writer.{slip_text, after_fields, write_answer}
 use Rattle.slip_writer.specs.Claims.{slip_fields, ReadsBack, WritesBack}
@@ -30,26 +27,26 @@ use Rattle.text.proofs.Lines.{split_joined, count_joined, last_joined, joined_sp
 -- Fields accepted by the writer and by the reader
 
 -- accepted fields have no line feed
-given_lines : (n : ℕ) (m : List ℕ) (ps : List (List ℕ)) → given_answer n m ps ≡ Accepted → EachLine ps
+given_lines : (n : ℕ) (m : List ℕ) (ps : List (List ℕ)) → given_answer n m ps ≡ Ok tt → EachLine ps
 given_lines n m [] e = no_line
 given_lines n m (p ∷ ps) e = let h = given_first n m p ps e in more (no_line_feed Euro n m p h.0) (given_lines (n + 1) p ps h.1)
 
 -- an accepted field, and then accepted ones
 first_given :
-    (n : ℕ) (m p : List ℕ) (ps : List (List ℕ)) → field_verdict Euro n m p ≡ 0 → given_answer (n + 1) p ps ≡ Accepted → given_answer n m (p ∷ ps) ≡ Accepted
+    (n : ℕ) (m p : List ℕ) (ps : List (List ℕ)) → field_verdict Euro n m p ≡ 0 → given_answer (n + 1) p ps ≡ Ok tt → given_answer n m (p ∷ ps) ≡ Ok tt
 unfolding given_answer
 first_given n m p ps e g = rw (e, g)
 
 -- what the writer accepts the reader accepts, with nothing behind the last line feed
 given_read :
-    (n start : ℕ) (m : List ℕ) (ps : List (List ℕ)) → given_answer n m ps ≡ Accepted → fields_answer Euro n start m (ps ++ ([] ∷ [])) ≡ Accepted
+    (n start : ℕ) (m : List ℕ) (ps : List (List ℕ)) → given_answer n m ps ≡ Ok tt → fields_answer Euro n start m (ps ++ ([] ∷ [])) ≡ Ok tt
 unfolding fields_answer
 given_read n start m [] e = refl
 given_read n start m (p ∷ []) e = rw (given_first n m p [] e).0
 given_read n start m (p ∷ (q ∷ ps)) e = let h = given_first n m p (q ∷ ps) e in rw h.0 (given_read (n + 1) (start + length p + 1) p (q ∷ ps) h.1)
 
 -- what the reader accepts the writer accepts
-read_given : (n start : ℕ) (m : List ℕ) (ps : List (List ℕ)) → fields_answer Euro n start m ps ≡ Accepted → given_answer n m (lines_among ps) ≡ Accepted
+read_given : (n start : ℕ) (m : List ℕ) (ps : List (List ℕ)) → fields_answer Euro n start m ps ≡ Ok tt → given_answer n m (lines_among ps) ≡ Ok tt
 unfolding fields_answer given_answer
 read_given n start m [] e = refl
 read_given n start m (p ∷ []) e = refl
@@ -69,23 +66,23 @@ given_four m m' (p ∷ ps) = rw (before_matters_to_12_alone Euro 4 m m' p (omega
 -- bytes are told of an amount of at most fifteen digits, of accepted fields, and of the slip's size
 pub record Counted (cents : ℕ) (fields : List (List ℕ)) (room n : ℕ) : Type 0 where
   pub small : cents < 10 ^ 15
-  pub given : given_answer 4 [] fields ≡ Accepted
+  pub given : given_answer 4 [] fields ≡ Ok tt
   pub size : n ≡ length (slip_text cents fields)
   pub fits : n ≤ room
 
-pub bytes_counted : (cents : ℕ) (fields : List (List ℕ)) (room n : ℕ) → write_answer cents fields room ≡ Bytes n → Counted cents fields room n
+pub bytes_counted : (cents : ℕ) (fields : List (List ℕ)) (room n : ℕ) → write_answer cents fields room ≡ Ok n → Counted cents fields room n
 unfolding write_answer
 bytes_counted cents fields room n e = small (ltb cents (10 ^ 15)) refl e
   where
-    fits : cents < 10 ^ 15 → given_answer 4 [] fields ≡ Accepted → (t : Bool) → ltb room (length (slip_text cents fields)) ≡ t → cond t (Written.Refused (Refusal.Room none (length (slip_text cents fields)))) (Bytes (length (slip_text cents fields))) ≡ Bytes n → Counted cents fields room n
+    fits : cents < 10 ^ 15 → given_answer 4 [] fields ≡ Ok tt → (t : Bool) → ltb room (length (slip_text cents fields)) ≡ t → cond t (Err (Refusal.Room none (length (slip_text cents fields)))) (Ok (length (slip_text cents fields))) ≡ Ok n → Counted cents fields room n
     fits h a true g e = let z : ◌≡◌ {A = ℕ} 0 1 = cc in absurd (omega arith)
     fits h a false g e = let z : n ≡ length (slip_text cents fields) = cc in record { small = h; given = a; size = z; fits = omega (arith, ltb-false room (length (slip_text cents fields)) g) }
 
-    given : cents < 10 ^ 15 → (a : Answer) → given_answer 4 [] fields ≡ a → after_fields a (slip_text cents fields) room ≡ Bytes n → Counted cents fields room n
-    given h Accepted g e = fits h g (ltb room (length (slip_text cents fields))) refl e
-    given h (Refused r) g e = let z : ◌≡◌ {A = ℕ} 0 1 = cc in absurd (omega arith)
+    given : cents < 10 ^ 15 → (a : Answer) → given_answer 4 [] fields ≡ a → after_fields a (slip_text cents fields) room ≡ Ok n → Counted cents fields room n
+    given h (Ok tt) g e = fits h g (ltb room (length (slip_text cents fields))) refl e
+    given h (Err r) g e = let z : ◌≡◌ {A = ℕ} 0 1 = cc in absurd (omega arith)
 
-    small : (t : Bool) → ltb cents (10 ^ 15) ≡ t → cond t (after_fields (given_answer 4 [] fields) (slip_text cents fields) room) (Written.Refused (Refusal.Length (record { line = 0; field = 3; byte = 0 }))) ≡ Bytes n → Counted cents fields room n
+    small : (t : Bool) → ltb cents (10 ^ 15) ≡ t → cond t (after_fields (given_answer 4 [] fields) (slip_text cents fields) room) (Err (Refusal.Length (record { line = 0; field = 3; byte = 0 }))) ≡ Ok n → Counted cents fields room n
     small true g e = given (ltb-true cents (10 ^ 15) g) (given_answer 4 [] fields) refl e
     small false g e = let z : ◌≡◌ {A = ℕ} 0 1 = cc in absurd (omega arith)
 
@@ -96,9 +93,9 @@ bytes_counted cents fields room n e = small (ltb cents (10 ^ 15)) refl e
 abbrev fourteen : ℕ → List (List ℕ) → List (List ℕ)
 fourteen cents fields = hrvhub30 ∷ (eur ∷ (digits_text 15 cents ∷ fields))
 
-module _ (cents : ℕ) (fields : List (List ℕ)) (given : given_answer 4 [] fields ≡ Accepted) (all : length fields ≡ 11) where
+module _ (cents : ℕ) (fields : List (List ℕ)) (given : given_answer 4 [] fields ≡ Ok tt) (all : length fields ≡ 11) where
   -- all fourteen are accepted
-  all_given : given_answer 1 [] (fourteen cents fields) ≡ Accepted
+  all_given : given_answer 1 [] (fourteen cents fields) ≡ Ok tt
   all_given =
       let d = digits_text 15 cents in
       first_given 1 [] hrvhub30 (eur ∷ (d ∷ fields)) (hrvhub30_accepted Euro [])
@@ -125,7 +122,7 @@ module _ (cents : ℕ) (fields : List (List ℕ)) (given : given_answer 4 [] fie
   unfolding slip_text
   slip_ends_lem = rw (count_joined all_lines, all, last_joined hrvhub30 (eur ∷ (digits_text 15 cents ∷ fields)))
 
-  slip_accepted : slip_answer (slip_text cents fields) ≡ Accepted
+  slip_accepted : slip_answer (slip_text cents fields) ≡ Ok tt
   unfolding slip_answer_in
   slip_accepted = rw (le-leb (length (slip_text cents fields)) 483 slip_small, slip_ends_lem, slip_split) (given_read 1 0 [] (fourteen cents fields) all_given)
 
@@ -142,7 +139,7 @@ module _ (cents : ℕ) (fields : List (List ℕ)) (given : given_answer 4 [] fie
       rw (le-leb 4 k l, le-leb k 14 u, slip_accepted, slip_split, e) (get_or-append fields ([] ∷ []) [] (k - 4) (omega arith))
 
 -- the reader accepts what the writer wrote, and reads the same amount and fields
-pub written_is_accepted : (cents : ℕ) (fields : List (List ℕ)) (room n : ℕ) → length fields ≡ 11 → write_answer cents fields room ≡ Bytes n → ReadsBack cents fields n
+pub written_is_accepted : (cents : ℕ) (fields : List (List ℕ)) (room n : ℕ) → length fields ≡ 11 → write_answer cents fields room ≡ Ok n → ReadsBack cents fields n
 written_is_accepted cents fields room n all e =
     let w = bytes_counted cents fields room n e in
     record {
@@ -159,17 +156,17 @@ written_is_accepted cents fields room n all e =
 -- of an accepted slip
 record Read (s : List ℕ) : Type 0 where
   ends : slip_ends s ≡ true
-  fields : fields_answer Euro 1 0 [] (split 10 s) ≡ Accepted
+  fields : fields_answer Euro 1 0 [] (split 10 s) ≡ Ok tt
 
-slip_read : (s : List ℕ) → slip_answer s ≡ Accepted → Read s
+slip_read : (s : List ℕ) → slip_answer s ≡ Ok tt → Read s
 unfolding slip_answer_in
 slip_read s e = small (leb (length s) 483) e
   where
-    ends : (t : Bool) → slip_ends s ≡ t → cond t (fields_answer Euro 1 0 [] (split 10 s)) (Refused (Refusal.Ends none)) ≡ Accepted → Read s
+    ends : (t : Bool) → slip_ends s ≡ t → cond t (fields_answer Euro 1 0 [] (split 10 s)) (Err (Refusal.Ends none)) ≡ Ok tt → Read s
     ends true g e = record { ends = g; fields = e }
     ends false g e = let z : ◌≡◌ {A = ℕ} 0 1 = cc in absurd (omega arith)
 
-    small : (t : Bool) → cond t (cond (slip_ends s) (fields_answer Euro 1 0 [] (split 10 s)) (Refused (Refusal.Ends none))) (Refused (Refusal.Size none)) ≡ Accepted → Read s
+    small : (t : Bool) → cond t (cond (slip_ends s) (fields_answer Euro 1 0 [] (split 10 s)) (Err (Refusal.Ends none))) (Err (Refusal.Size none)) ≡ Ok tt → Read s
     small true e = ends (slip_ends s) refl e
     small false e = let z : ◌≡◌ {A = ℕ} 0 1 = cc in absurd (omega arith)
 
@@ -197,7 +194,7 @@ listed_ext f g n m (suc k) h =
     rw (x, y) (h (suc i) (omega arith)) in
     rw a (ap (λ (l : List (List ℕ)). g m ∷ l) (listed_ext f g (n + 1) (m + 1) k rest))
 
-module _ (s : List ℕ) (accepted : slip_answer s ≡ Accepted) (ls : List (List ℕ)) (lines : lines_among (split 10 s) ≡ ls) (all : length ls ≡ 14) where
+module _ (s : List ℕ) (accepted : slip_answer s ≡ Ok tt) (ls : List (List ℕ)) (lines : lines_among (split 10 s) ≡ ls) (all : length ls ≡ 14) where
   -- a piece is a line
   piece_line : (i : ℕ) → i < 14 → piece_of i (split 10 s) ≡ get_or ls i []
   unfolding piece_of
@@ -219,7 +216,7 @@ slip_lines p q r s cents fields a b d w = rw d (rw (a, b) at w)
 
 -- from the lines of an accepted slip
 lines_again :
-    (s : List ℕ) → slip_answer s ≡ Accepted → (ls : List (List ℕ)) → lines_among (split 10 s) ≡ ls → length ls ≡ 14 → given_answer 1 [] ls ≡ Accepted
+    (s : List ℕ) → slip_answer s ≡ Ok tt → (ls : List (List ℕ)) → lines_among (split 10 s) ≡ ls → length ls ≡ 14 → given_answer 1 [] ls ≡ Ok tt
     → join_lines ls ≡ s → WritesBack s
 lines_again s a [] l n g w = absurd (omega arith)
 lines_again s a (p ∷ []) l n g w = absurd (omega arith)
@@ -240,14 +237,14 @@ lines_again s a (p ∷ (q ∷ (r ∷ fields))) l n g w =
     }
 
 -- the amount and the fields of an accepted slip are written as that slip
-pub read_and_written_again : (s : List ℕ) → slip_answer s ≡ Accepted → WritesBack s
+pub read_and_written_again : (s : List ℕ) → slip_answer s ≡ Ok tt → WritesBack s
 read_and_written_again s e =
     let h = slip_read s e in
     let b = both_true (eqb (count_of 10 s) 14) (eqb (get_or s (length s - 1) 0) 10) h.ends in
     lines_again s e (lines_among (split 10 s)) refl (lines_of_text s ∙ eqb-true (count_of 10 s) 14 b.0) (read_given 1 0 [] (split 10 s) h.fields) (joined_split s (eqb-true (get_or s (length s - 1) 0) 10 b.1))
 
 -- so the writer writes that slip wherever it has the room
-pub accepted_is_written : (s : List ℕ) (room : ℕ) → slip_answer s ≡ Accepted → length s ≤ room → write_answer (amount_of s) (slip_fields s) room ≡ Bytes (length s)
+pub accepted_is_written : (s : List ℕ) (room : ℕ) → slip_answer s ≡ Ok tt → length s ≤ room → write_answer (amount_of s) (slip_fields s) room ≡ Ok (length s)
 unfolding write_answer
 accepted_is_written s room e h =
     let w = read_and_written_again s e in

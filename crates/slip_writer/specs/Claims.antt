@@ -1,6 +1,5 @@
 -- What is claimed of slips written and read (proofs/Theorems.antt): a slip's amount and fields, and what is read back.
-use Rattle.std.specs.Prelude.{ℕ, ◌-◌, ◌^◌, ◌<◌, ◌≤◌, ◌≡◌, List, [], length, get_or}
-use Rattle.refusal.specs.declared.Answer.TheVariants.{Accepted}
+use Rattle.std.specs.Prelude.{ℕ, ◌-◌, ◌^◌, ◌<◌, ◌≤◌, ◌≡◌, List, [], length, get_or, Ok}
 use Rattle.text.specs.Split.{split}
 use Rattle.text.specs.Digits.{digits_text}
 use Rattle.slip.specs.Slip.{piece_of, slip_answer}
@@ -15,7 +14,7 @@ slip_fields s =
 
 -- a slip of n bytes was written: the reader accepts it, and it has the amount and the fields that were given
 pub record ReadsBack (cents : ℕ) (fields : List (List ℕ)) (n : ℕ) : Type 0 where
-  pub accepted : slip_answer (slip_text cents fields) ≡ Accepted
+  pub accepted : slip_answer (slip_text cents fields) ≡ Ok tt
   pub size : n ≡ length (slip_text cents fields)
   pub digits : piece_of 2 (split 10 (slip_text cents fields)) ≡ digits_text 15 cents
   pub amount : amount_of (slip_text cents fields) ≡ cents
@@ -25,4 +24,4 @@ pub record ReadsBack (cents : ℕ) (fields : List (List ℕ)) (n : ℕ) : Type 0
 pub record WritesBack (s : List ℕ) : Type 0 where
   pub same : slip_text (amount_of s) (slip_fields s) ≡ s
   pub small : amount_of s < 10 ^ 15
-  pub given : given_answer 4 [] (slip_fields s) ≡ Accepted
+  pub given : given_answer 4 [] (slip_fields s) ≡ Ok tt

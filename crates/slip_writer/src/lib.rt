@@ -15,13 +15,6 @@ ghost use Rattle.slip_writer.specs.Steps.{WritesSlip, WritesAccepted};
 
 use refusal::{Answer, Place, Refusal};
 
-// What writing a slip answers: how many bytes it has, or a refusal.
-#[derive(Clone, Copy)]
-pub enum Written {
-    Bytes(usize),
-    Refused(Refusal),
-}
-
 // ---------------------------------------------------------------------------
 // Bytes written at a place; each answers the place behind them
 
@@ -129,7 +122,7 @@ fn write_accepted(
     f13: &[u8],
     f14: &[u8],
     out: &mut [u8],
-) -> Written
+) -> Result<usize, Refusal>
     requires { length (slip_text cents (eleven f4.now f5.now f6.now f7.now f8.now f9.now f10.now f11.now f12.now f13.now f14.now)) ≤ 483 }
     ensures { WritesAccepted cents (eleven f4.now f5.now f6.now f7.now f8.now f9.now f10.now f11.now f12.now f13.now f14.now) out.old result out.new }
 {
@@ -137,13 +130,13 @@ fn write_accepted(
     let middle = front + size_three(f8, f9, f10);
     let size = middle + size_four(f11, f12, f13, f14);
     if out.len() < size {
-        return Written::Refused(Refusal::Room(refusal::nowhere(), size));
+        return Err(Refusal::Room(refusal::nowhere(), size));
     }
     let at = put_head(out, cents);
     let at8 = put_four(out, at, f4, f5, f6, f7);
     let at11 = put_three(out, at8, f8, f9, f10);
     put_four(out, at11, f11, f12, f13, f14);
-    Written::Bytes(size)
+    Ok(size)
 }
 
 // Writes the slip of an amount in cents and the fields 4 to 14 at the front of `out`; the bytes beyond it stay. Refusals: those of
@@ -162,20 +155,18 @@ pub fn write(
     f13: &[u8],
     f14: &[u8],
     out: &mut [u8],
-) -> Written
+) -> Result<usize, Refusal>
     ensures { WritesSlip cents (eleven f4.now f5.now f6.now f7.now f8.now f9.now f10.now f11.now f12.now f13.now f14.now) out.old result out.new }
 {
     if 1000000000000000 <= cents {
-        return Written::Refused(Refusal::Length(Place {
+        return Err(Refusal::Length(Place {
             line: 0,
             field: 3,
             byte: 0,
         }));
     }
-    if let Answer::Refused(r) = slip_given::judge_given(
+    slip_given::judge_given(
         f4, f5, f6, f7, f8, f9, f10, f11, f12, f13, f14,
-    ) {
-        return Written::Refused(r);
-    }
+    )?;
     write_accepted(cents, f4, f5, f6, f7, f8, f9, f10, f11, f12, f13, f14, out)
 }

@@ -1,6 +1,7 @@
 -- Document 01, "The wage file": what 10, 12 and 13 say of a line where the judge stands, and the record after a right line.
 use Rattle.std.specs.Prelude.{ℕ, ◌+◌, cond, ◌&&◌, List, eqb, ltb}
-use Rattle.verdict.specs.Verdict.{only_if, and_then}
+use Rattle.verdict.specs.Verdict.{Verdict, passed, only_if, and_then}
+use Rattle.verdict.specs.declared.Fault.{Fault}
 use Rattle.sums.specs.Sums.{no_cents, sum_of, added, same_sum, number_of, number_in}
 use Rattle.wage_places.specs.declared.LineType.{LineType}
 use Rattle.wage_places.specs.declared.LineType.TheVariants.{Label, Group, Order, Closing}
@@ -11,6 +12,7 @@ use Rattle.tally.specs.declared.Growth.TheVariants as growth
 use Rattle.condition.specs.declared.Condition.{Condition}
 use Rattle.condition.specs.declared.Condition.TheVariants.{Labelled, Grouped, Closed}
 use Rattle.condition.specs.declared.Counts.{Counts}
+use Rattle.condition.specs.Record.{stage_of}
 use Rattle.condition.specs.declared.Open.{Open}
 use Rattle.condition.specs.declared.Judge.{Judge}
 
@@ -63,18 +65,18 @@ after j s t = record {
 }
 
 -- ---------------------------------------------------------------------------
--- 10, 12, 13, then the fields in order: a number tells the first three, 0 none of them
+-- 10, 12, 13, then the fields in order: a verdict tells the first three
 
 -- the end of a group, which has at least one order, "A 301 or 399 straight after a 301 is 10"; "too few give 12 at the following 301 or 399;
 -- the sum is judged there too"
-abbrev pub whole_verdict : ℕ → Open → ℕ
-whole_verdict at g =
-    and_then (only_if (eqb at 2 && ltb 0 g.counted) 10)
-    (and_then (only_if (eqb g.counted g.declared) 12) (only_if (same_sum g.total g.promised) 13))
+abbrev pub whole_verdict : Condition → Open → Verdict
+whole_verdict c g =
+    and_then (only_if (eqb (stage_of c) 2 && ltb 0 g.counted) Fault.Misplaced)
+    (and_then (only_if (eqb g.counted g.declared) Fault.Orders) (only_if (same_sum g.total g.promised) Fault.Sum))
 
 -- "One 300; then one or more groups, each one 301 and one or more 309; then one 399"; "A 309 beyond the declared number gives 12 at once"
-unfoldable pub stand_verdict : ℕ → Open → LineType → ℕ
-stand_verdict at g Label = only_if (eqb at 0) 10
-stand_verdict at g Group = cond (eqb at 1) 0 (whole_verdict at g)
-stand_verdict at g Order = and_then (only_if (eqb at 2) 10) (only_if (ltb g.counted g.declared) 12)
-stand_verdict at g Closing = whole_verdict at g
+unfoldable pub stand_verdict : Condition → Open → LineType → Verdict
+stand_verdict c g Label = only_if (eqb (stage_of c) 0) Fault.Misplaced
+stand_verdict c g Group = cond (eqb (stage_of c) 1) passed (whole_verdict c g)
+stand_verdict c g Order = and_then (only_if (eqb (stage_of c) 2) Fault.Misplaced) (only_if (ltb g.counted g.declared) Fault.Orders)
+stand_verdict c g Closing = whole_verdict c g

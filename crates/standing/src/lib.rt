@@ -12,60 +12,47 @@ ghost use Rattle.standing.specs.Standing.{growth_of, group_after, opened, after 
 
 use condition::{Condition, Counts, Judge, Open};
 use tally::Growth;
+use verdict::{Fault, Verdict};
 use wage_places::LineType;
 
 // ---------------------------------------------------------------------------
 // 10, 12, 13
 
-// The end of the group that is open: 10, 12, 13, or 0 where it may end.
-fn judge_whole(at: usize, g: Open) -> usize
-    ensures { result ≡ whole_verdict at g }
+// The end of the group that is open: 10, 12, 13.
+fn judge_whole(c: Condition, g: Open) -> Verdict
+    ensures { result ≡ whole_verdict c g }
 {
     let counted = g.counted;
     let declared = g.declared;
     let total = g.total;
     let promised = g.promised;
-    if (at == 2) & (0 < counted) {
-        if counted != declared {
-            return 12;
-        }
-        if sums::is_same(total, promised) {
-            return 0;
-        }
-        return 13;
-    }
-    10
+    verdict::only_if(
+        (condition::stage(c) == 2) & (0 < counted),
+        Fault::Misplaced,
+    )?;
+    verdict::only_if(counted == declared, Fault::Orders)?;
+    verdict::only_if(sums::is_same(total, promised), Fault::Sum)
 }
 
-// A line of a type, where the judge stands: 10, 12, 13, or 0 where it may come.
-pub fn judge_standing(at: usize, g: Open, t: LineType) -> usize
-    ensures { result ≡ stand_verdict at g t }
+// A line of a type, where the judge stands: 10, 12, 13.
+pub fn judge_standing(c: Condition, g: Open, t: LineType) -> Verdict
+    ensures { result ≡ stand_verdict c g t }
 {
     let counted = g.counted;
     let declared = g.declared;
     match t {
-        LineType::Label => {
-            if at == 0 {
-                return 0;
-            }
-            10
-        }
+        LineType::Label => verdict::only_if(condition::stage(c) == 0, Fault::Misplaced),
         LineType::Group => {
-            if at == 1 {
-                return 0;
+            if condition::stage(c) == 1 {
+                return Ok(());
             }
-            judge_whole(at, g)
+            judge_whole(c, g)
         }
         LineType::Order => {
-            if at != 2 {
-                return 10;
-            }
-            if counted < declared {
-                return 0;
-            }
-            12
+            verdict::only_if(condition::stage(c) == 2, Fault::Misplaced)?;
+            verdict::only_if(counted < declared, Fault::Orders)
         }
-        LineType::Closing => judge_whole(at, g),
+        LineType::Closing => judge_whole(c, g),
     }
 }
 

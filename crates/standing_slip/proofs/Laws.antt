@@ -1,13 +1,12 @@
 -- The fields that the code fills by what reading both sheets found are those of the definition, and what the call answers.
 -- Assumes nothing.
 use Rattle.refusal.proofs.Basics.{◌≡◌, refl, sym, ap, ◌∙◌, ℕ, length, List, [], true, false, cond, ◌&&◌, eqb, eqb-true, ne_eqb, and-false, Bool}
-use Rattle.refusal.specs.declared.Answer.TheVariants.{Accepted, Refused}
+use Rattle.std.specs.Prelude.{Result, Ok, Err}
 use Rattle.refusal.specs.declared.Refusal.{Refusal}
 use Rattle.refusal.specs.declared.Refusal.TheVariants.{Size}
 use Rattle.refusal.specs.Refusal.{none}
 use Rattle.lent_fields.specs.Fields.{given_of, lent_whole}
 use Rattle.slip_fields.proofs.Plain.{no_byte}
-use Rattle.slip_writer.specs.declared.Written.{Written}
 use Rattle.slip_writer.specs.Steps.{WritesSlip}
 use Rattle.sheet.specs.Sheet.{is_standing, bad_line}
 use Rattle.sheet.specs.Mirror.{lines_of, held_in}
@@ -69,22 +68,22 @@ module _ (farm association : List ℕ) (right : bad_line farm ≡ 0) (right' : b
 
 module _ (cents : ℕ) (sizes text farm association out : List ℕ) where
   -- the sizes are not the text's
-  pub unsized : lent_whole 11 sizes text ≡ false → WritesStanding cents sizes text farm association out (record { sheet = Sheet.Neither; written = Written.Refused (Size none) }) out
+  pub unsized : lent_whole 11 sizes text ≡ false → WritesStanding cents sizes text farm association out (record { sheet = Sheet.Neither; written = Err (Size none) }) out
   unfolding standing_slip
   unsized h = record { answers = rw h; leaves = refl }
 
   module _ (whole : lent_whole 11 sizes text ≡ true) (j : Judged) (judged : j ≡ both_judged farm association) where
     -- a sheet is malformed
-    pub sheets_refused : (r : Refusal) → j.answer ≡ Refused r → WritesStanding cents sizes text farm association out (record { sheet = j.sheet; written = Written.Refused r }) out
+    pub sheets_refused : (r : Refusal) → j.answer ≡ Err r → WritesStanding cents sizes text farm association out (record { sheet = j.sheet; written = Err r }) out
     unfolding standing_slip
     sheets_refused r e = record { answers = rw (whole, ← judged, e); leaves = refl }
 
     -- both are right: the writer's answer
     pub sheets_right :
-        (w : Written) (after : List ℕ) → j.answer ≡ Accepted → WritesSlip cents (fields_by sizes text (lines_of farm) (lines_of association) farm association) out w after
+        (w : Result ℕ Refusal) (after : List ℕ) → j.answer ≡ Ok tt → WritesSlip cents (fields_by sizes text (lines_of farm) (lines_of association) farm association) out w after
         → WritesStanding cents sizes text farm association out (record { sheet = Sheet.Neither; written = w }) after
     unfolding standing_slip
     sheets_right w after e v =
         let x = neither_bad (bad_line farm) (bad_line association) (ap (λ (y : Judged). y.answer) (sym judged) ∙ e) in
         let f = fields_filled farm association x.0 x.1 sizes text in
-        record { answers = rw (whole, ← judged, e, ← f) (ap (λ (y : Written). record { sheet = Sheet.Neither; written = y }) v.0); leaves = rw (← f) v.1 }
+        record { answers = rw (whole, ← judged, e, ← f) (ap (λ (y : Result ℕ Refusal). record { sheet = Sheet.Neither; written = y }) v.0); leaves = rw (← f) v.1 }

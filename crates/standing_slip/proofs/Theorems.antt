@@ -2,10 +2,11 @@
 -- the one that is given, or where that is empty the standing text; and no refusal of the writer is told of a field with standing text.
 -- Assumes nothing.
 use Rattle.refusal.proofs.Basics.{◌≡◌, refl, arith, ℕ, zero, suc, ◌+◌, ◌<◌, length, get_or, ne_eqb, List, [], ◌∷◌, Bool, true, false, cond, add-zero}
+use Rattle.std.specs.Prelude.{Result, Err}
+use Rattle.refusal.specs.declared.Refusal.{Refusal}
 use Rattle.refusal.specs.Refusal.{none}
 use Rattle.refusal.specs.declared.Refusal.TheVariants.{Size}
 use Rattle.lent_fields.specs.Fields.{lent_whole}
-use Rattle.slip_writer.specs.declared.Written.{Written}
 use Rattle.slip_writer.specs.Writer.{write_answer}
 use Rattle.sheet.specs.Sheet.{is_standing, bad_from, held_from}
 use Rattle.text.specs.Split.{split}
@@ -36,7 +37,7 @@ with_empty_sheets sizes text = fields_as_given 4 (eleven_of sizes text)
 -- and the answer is the writer's
 pub slip_of_empty_sheets :
     (cents : ℕ) (sizes text : List ℕ) (room : ℕ)
-    → standing_slip cents sizes text [] [] room ≡ cond (lent_whole 11 sizes text) (record { sheet = Sheet.Neither; written = write_answer cents (eleven_of sizes text) room }) (record { sheet = Sheet.Neither; written = Written.Refused (Size none) })
+    → standing_slip cents sizes text [] [] room ≡ cond (lent_whole 11 sizes text) (record { sheet = Sheet.Neither; written = write_answer cents (eleven_of sizes text) room }) (record { sheet = Sheet.Neither; written = Err (Size none) })
 unfolding standing_slip sheets_judged bad_from split
 slip_of_empty_sheets cents sizes text room = rw (with_empty_sheets sizes text)
 

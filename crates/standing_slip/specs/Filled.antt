@@ -1,13 +1,10 @@
 -- Document 02, W2: a slip written with standing text, what the call answers and what it leaves in the lent room.
-use Rattle.std.specs.Prelude.{ℕ, ◌+◌, ◌≡◌, cond, List, [], ◌∷◌, eqb, length}
-use Rattle.refusal.specs.Refusal.{none}
-use Rattle.refusal.specs.declared.Answer.{Answer}
-use Rattle.refusal.specs.declared.Answer.TheVariants as answer
+use Rattle.std.specs.Prelude.{ℕ, ◌+◌, ◌≡◌, cond, List, [], ◌∷◌, eqb, length, Result, Err, Ok}
+use Rattle.refusal.specs.Refusal.{Answer, none}
+use Rattle.refusal.specs.declared.Refusal.{Refusal}
 use Rattle.refusal.specs.declared.Refusal.TheVariants.{Size}
 use Rattle.lent_fields.specs.Fields.{given_of, lent_whole}
 use Rattle.slip_given.specs.Given.{eleven}
-use Rattle.slip_writer.specs.declared.Written.{Written}
-use Rattle.slip_writer.specs.declared.Written.TheVariants as written
 use Rattle.slip_writer.specs.Writer.{slip_text, write_answer, left_by_slip}
 use Rattle.standing_text.specs.declared.Sheet.{Sheet}
 use Rattle.standing_text.specs.declared.Sheet.TheVariants.{Neither}
@@ -40,16 +37,16 @@ filled_fields sizes text farm association = filled_from 4 (eleven_of sizes text)
 -- The call
 
 -- "20 before the writer's"
-abbrev pub slip_after_sheets : Sheet → Answer → Written → StandingSlip
-slip_after_sheets sheet answer.Accepted w = record { sheet = Neither; written = w }
-slip_after_sheets sheet (answer.Refused r) w = record { sheet = sheet; written = written.Refused r }
+abbrev pub slip_after_sheets : Sheet → Answer → Result ℕ Refusal → StandingSlip
+slip_after_sheets sheet (Ok tt) w = record { sheet = Neither; written = w }
+slip_after_sheets sheet (Err r) w = record { sheet = sheet; written = Err r }
 
 -- 1 where the sizes are not the text's, then the sheets, then the writer's answer
 unfoldable pub standing_slip : ℕ → List ℕ → List ℕ → List ℕ → List ℕ → ℕ → StandingSlip
 standing_slip cents sizes text farm association room =
     cond (lent_whole 11 sizes text)
     (slip_after_sheets (both_judged farm association).sheet (both_judged farm association).answer (write_answer cents (filled_fields sizes text farm association) room))
-    (record { sheet = Neither; written = written.Refused (Size none) })
+    (record { sheet = Neither; written = Err (Size none) })
 
 -- what the call answers, and what it leaves in the lent room
 pub record WritesStanding (cents : ℕ) (sizes text farm association out : List ℕ) (r : StandingSlip) (after : List ℕ) : Type 0 where

@@ -12,14 +12,13 @@ ghost use Rattle.standing_slip.specs.Steps.{field_by, fields_by};
 
 use refusal::{Answer, Refusal};
 use sheet::Lines;
-use slip_writer::Written;
 use standing_text::Sheet;
 
 // What writing a slip answers, and for 20 the sheet whose line it tells.
 #[derive(Clone, Copy)]
 pub struct StandingSlip {
     pub sheet: Sheet,
-    pub written: Written,
+    pub written: Result<usize, Refusal>,
 }
 
 // Field n of a slip: as it is given, or where that is empty what the sheets supply.
@@ -55,7 +54,7 @@ fn write_filled<'a>(
     f: Lines,
     a: Lines,
     out: &mut [u8],
-) -> Written
+) -> Result<usize, Refusal>
     ensures { WritesSlip cents (fields_by sizes.now text.now f a farm.now association.now) out.old result out.new }
 {
     slip_writer::write(
@@ -90,7 +89,7 @@ pub fn write<'a>(
     if !lent_fields::is_lent_whole(text, sizes, 11) {
         return StandingSlip {
             sheet: Sheet::Neither,
-            written: Written::Refused(Refusal::Size(refusal::nowhere())),
+            written: Err(Refusal::Size(refusal::nowhere())),
         };
     }
     let f = sheet::read(farm);
@@ -98,10 +97,10 @@ pub fn write<'a>(
     let judged = standing_text::judge_sheets(f.bad, a.bad);
     let sheet = judged.sheet;
     let answer = judged.answer;
-    if let Answer::Refused(r) = answer {
+    if let Err(r) = answer {
         return StandingSlip {
             sheet,
-            written: Written::Refused(r),
+            written: Err(r),
         };
     }
     StandingSlip {

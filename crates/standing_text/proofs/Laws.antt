@@ -1,7 +1,7 @@
 -- What asking for a standing text answers, by what reading both sheets found.
 -- Assumes nothing.
 use Rattle.refusal.proofs.Basics.{◌≡◌, refl, sym, ap, ◌∙◌, arith, ℕ, ◌≤◌, ◌<◌, length, drop, take, take-nil, drop_of_length-le, List, [], true, false, cond, eqb, eqb-true, Bool}
-use Rattle.refusal.specs.declared.Answer.TheVariants.{Accepted, Refused}
+use Rattle.std.specs.Prelude.{Ok, Err}
 use Rattle.refusal.specs.declared.Refusal.{Refusal}
 use Rattle.refusal.specs.Refusal.{none}
 use Rattle.refusal.proofs.Theorems.{refused_not_accepted}
@@ -16,13 +16,13 @@ use Rattle.standing_text.specs.Standing.{no_part, malformed_in, sheets_judged, s
 -- Both sheets
 
 -- neither has a malformed line where both are accepted
-pub neither_bad : (f a : ℕ) → (sheets_judged f a).answer ≡ Accepted → (f ≡ 0) × (a ≡ 0)
+pub neither_bad : (f a : ℕ) → (sheets_judged f a).answer ≡ Ok tt → (f ≡ 0) × (a ≡ 0)
 unfolding sheets_judged
 neither_bad f a e = go (eqb f 0) (eqb a 0) refl refl e
   where
     go :
         (t u : Bool) → eqb f 0 ≡ t → eqb a 0 ≡ u
-        → (cond t (cond u (record { sheet = Sheet.Neither; answer = Accepted }) (malformed_in Sheet.Association a)) (malformed_in Sheet.Farm f)).answer ≡ Accepted
+        → (cond t (cond u (record { sheet = Sheet.Neither; answer = Ok tt }) (malformed_in Sheet.Association a)) (malformed_in Sheet.Farm f)).answer ≡ Ok tt
         → (f ≡ 0) × (a ≡ 0)
     go true true x y h = (eqb-true f 0 x, eqb-true a 0 y)
     go true false x y h = absurd (refused_not_accepted _ h)
@@ -37,18 +37,18 @@ found_judged farm association j e = e ∙ rw (bad_told farm, bad_told associatio
 
 module _ (n : ℕ) (farm association : List ℕ) where
   -- 28
-  pub not_standing : is_standing n ≡ false → record { sheet = Sheet.Neither; answer = Refused (Refusal.Field none); part = no_part } ≡ standing_of n farm association
+  pub not_standing : is_standing n ≡ false → record { sheet = Sheet.Neither; answer = Err (Refusal.Field none); part = no_part } ≡ standing_of n farm association
   unfolding standing_of
   not_standing e = rw e
 
   module _ (standing : is_standing n ≡ true) (j : Judged) (judged : j ≡ both_judged farm association) where
     -- 20
-    pub sheets_refused : (r : Refusal) → j.answer ≡ Refused r → record { sheet = j.sheet; answer = Refused r; part = no_part } ≡ standing_of n farm association
+    pub sheets_refused : (r : Refusal) → j.answer ≡ Err r → record { sheet = j.sheet; answer = Err r; part = no_part } ≡ standing_of n farm association
     unfolding standing_of
     sheets_refused r e = rw (standing, ← judged, e)
 
     -- both right: the farm's text, else the association's
-    pub sheets_right : j.answer ≡ Accepted → supplied_by (held_in (lines_of farm) n) (held_in (lines_of association) n) ≡ standing_of n farm association
+    pub sheets_right : j.answer ≡ Ok tt → supplied_by (held_in (lines_of farm) n) (held_in (lines_of association) n) ≡ standing_of n farm association
     unfolding standing_of
     sheets_right e =
         let w = neither_bad (bad_line farm) (bad_line association) (ap (λ (x : Judged). x.answer) (sym judged) ∙ e) in

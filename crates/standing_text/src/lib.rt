@@ -4,12 +4,12 @@
 // sheet where the text stands.
 #![tactic(auto)]
 
-ghost use Rattle.std.specs.Prelude.{◌≡◌};
+ghost use Rattle.std.specs.Prelude.{◌≡◌, Err, Ok};
 ghost use Rattle.sheet.specs.Mirror.{held_in};
 ghost use Rattle.standing_text.specs.Standing.{sheets_judged, supplied_by, standing_of, bytes_of, standing_bytes, standing_text};
 
 use refusal::{Answer, Place, Refusal};
-use sheet::{Held, Lines};
+use sheet::Lines;
 use text::Part;
 
 // One of the two sheets, or neither.
@@ -41,7 +41,7 @@ pub struct Standing {
 
 // 20 at a line of a sheet.
 fn malformed(sheet: Sheet, line: usize) -> Judged
-    ensures { result ≡ record { sheet = sheet; answer = Answer.Refused (Refusal.Sheet (record { line = line; field = 0; byte = 0 })) } }
+    ensures { result ≡ record { sheet = sheet; answer = Err (Refusal.Sheet (record { line = line; field = 0; byte = 0 })) } }
 {
     let place = Place {
         line,
@@ -50,7 +50,7 @@ fn malformed(sheet: Sheet, line: usize) -> Judged
     };
     Judged {
         sheet,
-        answer: Answer::Refused(Refusal::Sheet(place)),
+        answer: Err(Refusal::Sheet(place)),
     }
 }
 
@@ -66,17 +66,17 @@ pub fn judge_sheets(farm: usize, association: usize) -> Judged
     }
     Judged {
         sheet: Sheet::Neither,
-        answer: Answer::Accepted,
+        answer: Ok(()),
     }
 }
 
 // A text that a sheet supplied.
 fn supplied(sheet: Sheet, part: Part) -> Standing
-    ensures { result ≡ record { sheet = sheet; answer = Answer.Accepted; part = part } }
+    ensures { result ≡ record { sheet = sheet; answer = (Ok tt); part = part } }
 {
     Standing {
         sheet,
-        answer: Answer::Accepted,
+        answer: Ok(()),
         part,
     }
 }
@@ -86,10 +86,10 @@ pub fn supply(n: usize, farm: Lines, association: Lines) -> Standing
     ensures { result ≡ supplied_by (held_in farm n) (held_in association n) }
 {
     match sheet::find(farm, n) {
-        Held::At(p) => supplied(Sheet::Farm, p),
-        Held::Nothing => match sheet::find(association, n) {
-            Held::At(p) => supplied(Sheet::Association, p),
-            Held::Nothing => supplied(
+        Some(p) => supplied(Sheet::Farm, p),
+        None => match sheet::find(association, n) {
+            Some(p) => supplied(Sheet::Association, p),
+            None => supplied(
                 Sheet::Neither,
                 Part {
                     start: 0,
@@ -114,7 +114,7 @@ pub fn ask(n: usize, farm: &[u8], association: &[u8]) -> Standing
     if !sheet::is_standing(n) {
         return Standing {
             sheet: Sheet::Neither,
-            answer: Answer::Refused(Refusal::Field(refusal::nowhere())),
+            answer: Err(Refusal::Field(refusal::nowhere())),
             part: none,
         };
     }
@@ -123,10 +123,10 @@ pub fn ask(n: usize, farm: &[u8], association: &[u8]) -> Standing
     let judged = judge_sheets(f.bad, a.bad);
     let sheet = judged.sheet;
     let answer = judged.answer;
-    if let Answer::Refused(r) = answer {
+    if let Err(r) = answer {
         return Standing {
             sheet,
-            answer: Answer::Refused(r),
+            answer: Err(r),
             part: none,
         };
     }

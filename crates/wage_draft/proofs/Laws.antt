@@ -1,10 +1,9 @@
 -- Laws of a line being drafted: the fields put at their places; what a rule looks at besides its own field; and what a draft changes and leaves.
 -- Assumes nothing.
 use Rattle.refusal.proofs.Basics.{◌≡◌, refl, sym, ap, ◌∙◌, arith, ℕ, zero, suc, ◌+◌, ◌-◌, ◌≤◌, ◌<◌, length, length-replicate, replicate, take, drop, get_or, drop_of_length-le, eq-eqb, ne_eqb, eqb-true, eqb-false, leb-true, ltb-true, ltb-false, List, [], ◌∷◌, ◌++◌, map, append-nil, Bool, true, false, ◌&&◌, eqb, leb, ltb, sets, drop-cons, drop-length, take-nil, take-take, inr, add-one, both_true}
-use Rattle.refusal.specs.Refusal.{none}
+use Rattle.std.specs.Prelude.{Ok, Err}
+use Rattle.refusal.specs.Refusal.{Answer, none}
 use Rattle.refusal.specs.declared.Place.{Place}
-use Rattle.refusal.specs.declared.Answer.{Answer}
-use Rattle.refusal.specs.declared.Answer.TheVariants.{Accepted, Refused}
 use Rattle.refusal.specs.declared.Refusal.{Refusal}
 use Rattle.refusal.specs.declared.Refusal.TheVariants.{Size}
 use Rattle.verdict.proofs.Verdicts.{first_both}
@@ -54,12 +53,12 @@ module _ (day kind : ℕ) (t : LineType) (ps : List Spot) (last k : ℕ) (sizes 
   Left = drafted day kind t (take (last - k) (drop k ps)) (fields_of (drop i sizes) (drop at text)) line
 
   -- no place is left: what stands is the draft
-  pub draft_last : last ≤ k → Drafts Left Accepted line
+  pub draft_last : last ≤ k → Drafts Left (Ok tt) line
   unfolding drafted
   draft_last h = let e : last - k ≡ 0 = omega arith in rw e (record { answers = refl; leaves = refl })
 
   -- the line has no more places
-  pub draft_past : length ps ≤ k → Drafts Left Accepted line
+  pub draft_past : length ps ≤ k → Drafts Left (Ok tt) line
   unfolding drafted
   draft_past h = rw (drop_of_length-le ps h, take-nil (last - k)) (record { answers = refl; leaves = refl })
 
@@ -75,9 +74,9 @@ module _ (day kind : ℕ) (t : LineType) (ps : List Spot) (last k : ℕ) (sizes 
     -- it was refused: that is the draft
     pub draft_stops :
         (r : Answer) (after : List ℕ) → Drafts (placed day kind t (get_or ps k no_spot) (take (end - at) (drop at text)) line) r after
-        → (q : Refusal) → r ≡ Refused q → Drafts Left (Refused q) after
+        → (q : Refusal) → r ≡ Err q → Drafts Left (Err q) after
     draft_stops r after w q e =
-        let f : (placed day kind t (get_or ps k no_spot) (take (end - at) (drop at text)) line).answer ≡ Refused q = sym w.answers ∙ e in
+        let f : (placed day kind t (get_or ps k no_spot) (take (end - at) (drop at text)) line).answer ≡ Err q = sym w.answers ∙ e in
         rw (left_next, f) (record { answers = sym f; leaves = w.leaves })
 
 -- the place was accepted: what is left is drafted
@@ -85,9 +84,9 @@ pub draft_on :
     (day kind : ℕ) (t : LineType) (ps : List Spot) (last k : ℕ) (sizes : List ℕ) (i : ℕ) (text : List ℕ) (at : ℕ) (line : List ℕ)
     (end : ℕ) → FieldEnd text at (get_or sizes i 0) end → k < last → k < length ps
     → (r : Answer) (after : List ℕ) → Drafts (placed day kind t (get_or ps k no_spot) (take (end - at) (drop at text)) line) r after
-    → r ≡ Accepted → Left day kind t ps last k sizes i text at line ≡ Left day kind t ps last (k + 1) sizes (i + 1) text end after
+    → r ≡ Ok tt → Left day kind t ps last k sizes i text at line ≡ Left day kind t ps last (k + 1) sizes (i + 1) text end after
 draft_on day kind t ps last k sizes i text at line end ended more known r after w e =
-    let f : (placed day kind t (get_or ps k no_spot) (take (end - at) (drop at text)) line).answer ≡ Accepted = sym w.answers ∙ e in
+    let f : (placed day kind t (get_or ps k no_spot) (take (end - at) (drop at text)) line).answer ≡ (Ok tt) = sym w.answers ∙ e in
     left_next day kind t ps last k sizes i text at line end ended more known ∙ rw (f, w.leaves)
 
 -- ---------------------------------------------------------------------------
@@ -99,24 +98,24 @@ put_whole s f e = front s f (omega arith) ∙ rw (e, drop-length s) (append-nil 
 
 module _ (line : List ℕ) (d : Draft) where
   -- the line has not 1,002 bytes
-  pub scratch_short : (length line ≡ 1002 → ⊥) → (p : Place) → p ≡ none → Drafts (in_scratch line d) (Refused (Size p)) line
+  pub scratch_short : (length line ≡ 1002 → ⊥) → (p : Place) → p ≡ none → Drafts (in_scratch line d) (Err (Size p)) line
   unfolding in_scratch
   scratch_short h p n = rw (ne_eqb (length line) 1002 h, n) (record { answers = refl; leaves = refl })
 
   module _ (whole : length line ≡ 1002) (r : Answer) (after : List ℕ) where
     -- a refused draft leaves the line as it was
-    pub scratch_refused : Drafts d r after → (q : Refusal) → r ≡ Refused q → Drafts (in_scratch line d) (Refused q) line
+    pub scratch_refused : Drafts d r after → (q : Refusal) → r ≡ Err q → Drafts (in_scratch line d) (Err q) line
     unfolding in_scratch
     scratch_refused w q e =
-        let f : d.answer ≡ Refused q = sym w.answers ∙ e in
+        let f : d.answer ≡ Err q = sym w.answers ∙ e in
         rw (eq-eqb (length line) 1002 whole, f) (record { answers = refl; leaves = refl })
 
     -- an accepted one is put back
     pub scratch_accepted :
-        Drafts d r after → r ≡ Accepted → length after ≡ 1002 → (back : List ℕ) → back ≡ sets line 0 after → Drafts (in_scratch line d) Accepted back
+        Drafts d r after → r ≡ Ok tt → length after ≡ 1002 → (back : List ℕ) → back ≡ sets line 0 after → Drafts (in_scratch line d) (Ok tt) back
     unfolding in_scratch
     scratch_accepted w e l back b =
-        let f : d.answer ≡ Accepted = sym w.answers ∙ e in
+        let f : d.answer ≡ (Ok tt) = sym w.answers ∙ e in
         let g : back ≡ d.line = b ∙ put_whole line after (omega arith) ∙ w.leaves in
         rw (eq-eqb (length line) 1002 whole, f) (record { answers = refl; leaves = g })
 
@@ -125,16 +124,16 @@ module _ (line : List ℕ) (d : Draft) where
     unfolding in_scratch
     drafts_right w = go d.answer refl (rw (eq-eqb (length line) 1002 whole) at w)
       where
-        other : {q : Refusal} → r ≡ Accepted → r ≡ Refused q → after ≡ d.line
+        other : {q : Refusal} → r ≡ Ok tt → r ≡ Err q → after ≡ d.line
         other h g = let z : ◌≡◌ {A = ℕ} 0 1 = cc in absurd (omega arith)
 
         go : (a : Answer) → d.answer ≡ a → Drafts (going_on d.answer (record { answer = d.answer; line = line }) d) r after → DraftsRight d r after
-        go Accepted e v =
-            let u : Drafts (record { answer = Accepted; line = d.line }) r after = rw e at v in
-            record { answers = u.answers ∙ sym e; leaves = λ (h : r ≡ Accepted). u.leaves }
-        go (Refused q) e v =
-            let u : Drafts (record { answer = Refused q; line = line }) r after = rw e at v in
-            record { answers = u.answers ∙ sym e; leaves = λ (h : r ≡ Accepted). other h u.answers }
+        go (Ok tt) e v =
+            let u : Drafts (record { answer = Ok tt; line = d.line }) r after = rw e at v in
+            record { answers = u.answers ∙ sym e; leaves = λ (h : r ≡ Ok tt). u.leaves }
+        go (Err q) e v =
+            let u : Drafts (record { answer = Err q; line = line }) r after = rw e at v in
+            record { answers = u.answers ∙ sym e; leaves = λ (h : r ≡ Ok tt). other h u.answers }
 
 -- ---------------------------------------------------------------------------
 -- Going on, and the fields that a draft reads
@@ -148,12 +147,12 @@ later_field (f ∷ fs) k = refl
 pub going_twice :
     (next : Draft → Draft) (d e : Draft) (a : Answer) → d.answer ≡ a
     → going_on a d (going_on e.answer e (next e)) ≡ going_on (going_on a d e).answer (going_on a d e) (next (going_on a d e))
-going_twice next d e Accepted h = refl
-going_twice next d e (Refused r) h = rw h
+going_twice next d e (Ok tt) h = refl
+going_twice next d e (Err r) h = rw h
 
 module _ (day kind : ℕ) (t : LineType) where
   -- where there are no places, nothing is put
-  pub no_places : (fs : List (List ℕ)) (line : List ℕ) → drafted day kind t [] fs line ≡ record { answer = Accepted; line = line }
+  pub no_places : (fs : List (List ℕ)) (line : List ℕ) → drafted day kind t [] fs line ≡ record { answer = Ok tt; line = line }
   unfolding drafted
   no_places fs line = refl
 
@@ -317,55 +316,55 @@ module _ (day kind : ℕ) (t : LineType) where
       rw (drafted_first day kind t p ps fs line) (go d e a (kept_both n m line d.line e.line (omega arith) a (drafted_kept m ps h.1.1 (drop 1 fs) d.line)) d.answer)
     where
       go : (d e : Draft) → Kept n line d.line → Kept n line e.line → (a : Answer) → Kept n line (going_on a d e).line
-      go d e x y Accepted = y
-      go d e x y (Refused r) = x
+      go d e x y (Ok tt) = y
+      go d e x y (Err r) = x
 
 -- ---------------------------------------------------------------------------
 -- An accepted draft
 
 -- what was accepted went on
-went_on : (a : Answer) (d e : Draft) → d.answer ≡ a → (going_on a d e).answer ≡ Accepted → (a ≡ Accepted) × (going_on a d e ≡ e)
-went_on Accepted d e h g = (refl, refl)
-went_on (Refused r) d e h g = let z : ◌≡◌ {A = ℕ} 0 1 = cc in absurd (omega arith)
+went_on : (a : Answer) (d e : Draft) → d.answer ≡ a → (going_on a d e).answer ≡ Ok tt → (a ≡ Ok tt) × (going_on a d e ≡ e)
+went_on (Ok tt) d e h g = (refl, refl)
+went_on (Err r) d e h g = let z : ◌≡◌ {A = ℕ} 0 1 = cc in absurd (omega arith)
 
 -- a field was accepted: it has the place's size, it was put, and judged there
 pub record Placed (day kind : ℕ) (t : LineType) (p : Spot) (f line after : List ℕ) : Type 0 where
   pub sized : length f ≡ p.size
   pub put : after ≡ sets line p.start f
-  pub right : place_answer day kind t p after ≡ Accepted
+  pub right : place_answer day kind t p after ≡ Ok tt
 
 -- each field stands at its place, and each place is accepted
 pub record Written (day kind : ℕ) (t : LineType) (ps : List Spot) (fs : List (List ℕ)) (line : List ℕ) : Type 0 where
   pub holds : (k : ℕ) → k < length ps → part_at (get_or ps k no_spot) line ≡ get_or fs k []
-  pub right : places_from day kind t ps line ≡ Accepted
+  pub right : places_from day kind t ps line ≡ Ok tt
 
 module _ (day kind : ℕ) (t : LineType) where
   -- a field that is accepted was put
-  pub placed_accepted : (p : Spot) (f line : List ℕ) → (placed day kind t p f line).answer ≡ Accepted → Placed day kind t p f line (placed day kind t p f line).line
+  pub placed_accepted : (p : Spot) (f line : List ℕ) → (placed day kind t p f line).answer ≡ Ok tt → Placed day kind t p f line (placed day kind t p f line).line
   placed_accepted p f line h = go (eqb (length f) p.size) refl
     where
       go : (b : Bool) → eqb (length f) p.size ≡ b → Placed day kind t p f line (placed day kind t p f line).line
       go true e = rw e (record { sized = eqb-true (length f) p.size e; put = refl; right = rw e at h })
-      go false e = let g : wrong_length p ≡ Accepted = rw e at h in let z : ◌≡◌ {A = ℕ} 0 1 = cc in absurd (omega arith)
+      go false e = let g : wrong_length p ≡ (Ok tt) = rw e at h in let z : ◌≡◌ {A = ℕ} 0 1 = cc in absurd (omega arith)
 
   -- no places, all accepted
-  places_none : (s : List ℕ) → places_from day kind t [] s ≡ Accepted
+  places_none : (s : List ℕ) → places_from day kind t [] s ≡ Ok tt
   unfolding places_from
   places_none s = refl
 
   -- one more
-  places_more : (p : Spot) (ps : List Spot) (s : List ℕ) → place_answer day kind t p s ≡ Accepted → places_from day kind t ps s ≡ Accepted → places_from day kind t (p ∷ ps) s ≡ Accepted
+  places_more : (p : Spot) (ps : List Spot) (s : List ℕ) → place_answer day kind t p s ≡ Ok tt → places_from day kind t ps s ≡ Ok tt → places_from day kind t (p ∷ ps) s ≡ Ok tt
   unfolding places_from
   places_more p ps s e f = accept_both (place_answer day kind t p s) (places_from day kind t ps s) e f
 
   -- the first, and the others
-  places_each : (p : Spot) (ps : List Spot) (s : List ℕ) → places_from day kind t (p ∷ ps) s ≡ Accepted → (place_answer day kind t p s ≡ Accepted) × (places_from day kind t ps s ≡ Accepted)
+  places_each : (p : Spot) (ps : List Spot) (s : List ℕ) → places_from day kind t (p ∷ ps) s ≡ Ok tt → (place_answer day kind t p s ≡ Ok tt) × (places_from day kind t ps s ≡ Ok tt)
   unfolding places_from
   places_each p ps s e = first_both (place_answer day kind t p s) (places_from day kind t ps s) e
 
   -- one more field stands at its place
   written_more :
-      (p : Spot) (ps : List Spot) (fs : List (List ℕ)) (line : List ℕ) → part_at p line ≡ get_or fs 0 [] → place_answer day kind t p line ≡ Accepted
+      (p : Spot) (ps : List Spot) (fs : List (List ℕ)) (line : List ℕ) → part_at p line ≡ get_or fs 0 [] → place_answer day kind t p line ≡ Ok tt
       → Written day kind t ps (drop 1 fs) line → Written day kind t (p ∷ ps) fs line
   written_more p ps fs line e f w = record { holds = at; right = places_more p ps line f w.right }
     where
@@ -375,7 +374,7 @@ module _ (day kind : ℕ) (t : LineType) where
 
   -- an accepted draft holds each field at its place, and each place is right
   pub drafted_accepted :
-      (n : ℕ) (ps : List Spot) → Rising t n ps → (fs : List (List ℕ)) (line : List ℕ) → length line ≡ 1002 → (drafted day kind t ps fs line).answer ≡ Accepted
+      (n : ℕ) (ps : List Spot) → Rising t n ps → (fs : List (List ℕ)) (line : List ℕ) → length line ≡ 1002 → (drafted day kind t ps fs line).answer ≡ Ok tt
       → Written day kind t ps fs (drafted day kind t ps fs line).line
   drafted_accepted n [] h fs line l e = record { holds = λ k g. absurd (omega arith); right = places_none (drafted day kind t [] fs line).line }
   drafted_accepted n (p ∷ ps) h fs line l e =
@@ -464,16 +463,16 @@ module _ (day kind : ℕ) (t : LineType) where
       go :
           (d x : Draft) → blanked (p ∷ ps) d.line ≡ blanked (p ∷ ps) line → blanked (p ∷ ps) x.line ≡ blanked (p ∷ ps) line →
           (a : Answer) → blanked (p ∷ ps) (going_on a d x).line ≡ blanked (p ∷ ps) line
-      go d x e f Accepted = f
-      go d x e f (Refused r) = e
+      go d x e f (Ok tt) = f
+      go d x e f (Err r) = e
 
   -- a line's own parts, put at its places over blanks, give it back
   pub parts_drafted :
-      (n : ℕ) (ps : List Spot) → Rising t n ps → (s : List ℕ) → length s ≡ 1002 → places_from day kind t ps s ≡ Accepted
-      → drafted day kind t ps (map (λ (p : Spot). part_at p s) ps) (blanked ps s) ≡ record { answer = Accepted; line = s }
+      (n : ℕ) (ps : List Spot) → Rising t n ps → (s : List ℕ) → length s ≡ 1002 → places_from day kind t ps s ≡ Ok tt
+      → drafted day kind t ps (map (λ (p : Spot). part_at p s) ps) (blanked ps s) ≡ record { answer = Ok tt; line = s }
   parts_drafted n [] h s l e = no_places day kind t [] (blanked [] s) ∙ none_blanked
     where
-      none_blanked : ◌≡◌ {A = Draft} (record { answer = Accepted; line = blanked [] s }) (record { answer = Accepted; line = s })
+      none_blanked : ◌≡◌ {A = Draft} (record { answer = Ok tt; line = blanked [] s }) (record { answer = Ok tt; line = s })
       none_blanked = rw blanked_none
   parts_drafted n (p ∷ ps) h s l e =
       let m = p.start + p.size in

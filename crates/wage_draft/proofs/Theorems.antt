@@ -1,12 +1,11 @@
 -- What is promised of a wage line drafted from its fields: drafts joined, what an accepted draft is, and a line
 -- drafted from its own parts. Assumes nothing.
 use Rattle.refusal.proofs.Basics.{◌≡◌, refl, sym, ap, ◌∙◌, arith, ℕ, suc, ◌<◌, length, take, drop, get_or, replicate, get_or-map, List, [], ◌∷◌, ◌++◌, drop-drop, ◌↔◌}
-use Rattle.refusal.specs.declared.Answer.TheVariants.{Accepted}
+use Rattle.std.specs.Prelude.{Ok}
 use Rattle.text.specs.Split.{joined}
 use Rattle.wage_places.specs.declared.LineType.{LineType}
 use Rattle.wage_places.specs.declared.LineType.TheVariants.{Label, Group, Order, Closing}
 use Rattle.wage_places.specs.declared.Spot.{Spot}
-use Rattle.wage_line.specs.declared.Typed.TheVariants.{Line}
 use Rattle.wage_places.specs.Places.{spots, no_spot, part_at}
 use Rattle.wage_line.specs.Line.{type_text, typed_of}
 use Rattle.wage_places.proofs.Theorems.{place_at}
@@ -72,8 +71,8 @@ module _ (day kind : ℕ) (t : LineType) where
 -- a line of its type that the judge accepts, each field at its place, and elsewhere what the writer puts there
 pub record DraftedRight (day kind : ℕ) (t : LineType) (fs : List (List ℕ)) (line : List ℕ) : Type 0 where
   pub whole : length line ≡ 1002
-  pub typed : typed_of line ≡ Line t
-  pub right : places_answer day kind t line ≡ Accepted
+  pub typed : typed_of line ≡ Ok t
+  pub right : places_answer day kind t line ≡ Ok tt
   pub holds : (k : ℕ) → k < length (spots t) → part_at (place_at t k) line ≡ get_or fs k []
   pub plain : PlainElsewhere t line
 
@@ -84,7 +83,7 @@ part_at_lem t s k = get_or-map (λ (p : Spot). part_at p s) (spots t) k no_spot
 module _ (day kind : ℕ) (t : LineType) where
   -- an accepted draft is one
   pub drafted_right :
-      (fs : List (List ℕ)) → (drafted day kind t (spots t) fs (bare_line t)).answer ≡ Accepted
+      (fs : List (List ℕ)) → (drafted day kind t (spots t) fs (bare_line t)).answer ≡ Ok tt
       → DraftedRight day kind t fs (drafted day kind t (spots t) fs (bare_line t)).line
   unfolding places_answer
   drafted_right fs e =
@@ -107,17 +106,17 @@ module _ (day kind : ℕ) (t : LineType) where
 
   -- "Read and written again, a file is the same where those places held that": of each line
   pub right_drafted :
-      (s : List ℕ) → typed_of s ≡ Line t → places_answer day kind t s ≡ Accepted → PlainElsewhere t s
-      → drafted day kind t (spots t) (parts_of_line t s) (bare_line t) ≡ record { answer = Accepted; line = s }
+      (s : List ℕ) → typed_of s ≡ Ok t → places_answer day kind t s ≡ Ok tt → PlainElsewhere t s
+      → drafted day kind t (spots t) (parts_of_line t s) (bare_line t) ≡ record { answer = Ok tt; line = s }
   unfolding places_answer
   right_drafted s e f h = rw (← h) (parts_drafted day kind t 0 (spots t) (places_rising t) s ((typed_exactly t s).0 e).whole f)
 
   -- a draft is accepted with a line exactly when the line is as said
   pub drafted_exactly :
       (fs : List (List ℕ)) (s : List ℕ)
-      → (drafted day kind t (spots t) fs (bare_line t) ≡ record { answer = Accepted; line = s }) ↔ DraftedRight day kind t fs s
+      → (drafted day kind t (spots t) fs (bare_line t) ≡ record { answer = Ok tt; line = s }) ↔ DraftedRight day kind t fs s
   drafted_exactly fs s = (
-    (λ (e : drafted day kind t (spots t) fs (bare_line t) ≡ record { answer = Accepted; line = s }).
+    (λ (e : drafted day kind t (spots t) fs (bare_line t) ≡ record { answer = Ok tt; line = s }).
         rw e at (drafted_right fs (ap (λ (d : Draft). d.answer) e))),
     (λ (w : DraftedRight day kind t fs s).
         drafted_by_fields day kind t (spots t) fs (parts_of_line t s) (bare_line t) (λ k h. sym (w.holds k h) ∙ sym (part_at_lem t s k)) ∙

@@ -1,9 +1,7 @@
 -- Document 01, "The wage file", the writer: "the judge's for the fields, 4 (another length) first in each".
-use Rattle.std.specs.Prelude.{ℕ, ◌≡◌, cond, List, [], ◌∷◌, map, eqb, length, replicate}
+use Rattle.std.specs.Prelude.{ℕ, ◌≡◌, cond, List, [], ◌∷◌, map, eqb, length, replicate, Ok, Err}
+use Rattle.refusal.specs.Refusal.{Answer, none}
 use Rattle.std.proofs.lemmas.List.Edits.{sets}
-use Rattle.refusal.specs.Refusal.{none}
-use Rattle.refusal.specs.declared.Answer.{Answer}
-use Rattle.refusal.specs.declared.Answer.TheVariants.{Accepted, Refused}
 use Rattle.refusal.specs.declared.Refusal.TheVariants.{Size, Length}
 use Rattle.wage_places.specs.declared.LineType.{LineType}
 use Rattle.wage_places.specs.declared.Spot.{Spot}
@@ -21,7 +19,7 @@ pub record Draft : Type 0 where
 
 -- "4 (another length)", at the field's first byte
 abbrev pub wrong_length : Spot → Answer
-wrong_length p = Refused (Length (record { line = 0; field = p.field; byte = p.start }))
+wrong_length p = Err (Length (record { line = 0; field = p.field; byte = p.start }))
 
 -- a field of the right length is put at its place and judged there
 abbrev pub placed : ℕ → ℕ → LineType → Spot → List ℕ → List ℕ → Draft
@@ -32,12 +30,12 @@ placed day kind t p f line =
 
 -- after a refusal nothing more is put
 abbrev pub going_on : Answer → Draft → Draft → Draft
-going_on Accepted d next = next
-going_on (Refused r) d next = d
+going_on (Ok tt) d next = next
+going_on (Err r) d next = d
 
 -- fields at places in order; a field that is not there is an empty one
 unfoldable pub drafted : ℕ → ℕ → LineType → List Spot → List (List ℕ) → List ℕ → Draft
-drafted day kind t [] fs line = record { answer = Accepted; line = line }
+drafted day kind t [] fs line = record { answer = Ok tt; line = line }
 drafted day kind t (p ∷ ps) [] line =
     going_on (placed day kind t p [] line).answer (placed day kind t p [] line) (drafted day kind t ps [] (placed day kind t p [] line).line)
 drafted day kind t (p ∷ ps) (f ∷ fs) line =
@@ -46,7 +44,7 @@ drafted day kind t (p ∷ ps) (f ∷ fs) line =
 -- a draft made in scratch room: a line that has not 1,002 bytes is 1, and a refusal leaves the line as it was
 unfoldable pub in_scratch : List ℕ → Draft → Draft
 in_scratch line d =
-    cond (eqb (length line) 1002) (going_on d.answer (record { answer = d.answer; line = line }) d) (record { answer = Refused (Size none); line = line })
+    cond (eqb (length line) 1002) (going_on d.answer (record { answer = d.answer; line = line }) d) (record { answer = Err (Size none); line = line })
 
 -- ---------------------------------------------------------------------------
 -- A line's own fields
@@ -79,4 +77,4 @@ pub record Drafts (d : Draft) (r : Answer) (after : List ℕ) : Type 0 where
 -- one that answers as a draft says, and leaves its line where it is accepted
 pub record DraftsRight (d : Draft) (r : Answer) (after : List ℕ) : Type 0 where
   pub answers : r ≡ d.answer
-  pub leaves : r ≡ Accepted → after ≡ d.line
+  pub leaves : r ≡ Ok tt → after ≡ d.line

@@ -21,7 +21,7 @@ fn place(day: u64, kind: u64, t: LineType, k: usize, f: &[u8], line: &mut [u8]) 
     let start = p.start;
     let size = p.size;
     if f.len() != size {
-        return Answer::Refused(Refusal::Length(Place {
+        return Err(Refusal::Length(Place {
             line: 0,
             field,
             byte: start,
@@ -50,20 +50,20 @@ fn draft_in(
     let mut at: usize = 0;
     'places: loop {
         if last <= k {
-            break 'places Answer::Accepted;
+            break 'places Ok(());
         }
         if count <= k {
-            break 'places Answer::Accepted;
+            break 'places Ok(());
         }
         let end = lent_fields::end_of(text, at, lent_fields::size_at(sizes, i));
         match place(day, kind, t, k, &text[at..end], line) {
-            Answer::Accepted => {
+            Ok(()) => {
                 at = end;
                 k += 1;
                 i += 1;
             }
-            Answer::Refused(r) => {
-                break 'places Answer::Refused(r);
+            Err(r) => {
+                break 'places Err(r);
             }
         }
     }
@@ -85,11 +85,9 @@ fn draft_aside(
     ensures { Drafts (in_scratch line.old (drafted day kind t (take (last - first) (drop first (spots t))) (fields_of sizes.now text.now) line.old)) result line.new }
 {
     room::put(scratch, 0, line);
-    if let Answer::Refused(r) = draft_in(day, kind, t, first, last, text, sizes, scratch) {
-        return Answer::Refused(r);
-    }
+    draft_in(day, kind, t, first, last, text, sizes, scratch)?;
     room::put(line, 0, scratch);
-    Answer::Accepted
+    Ok(())
 }
 
 // The places from one order up to another on a lent line of 1,002 bytes, which a refusal leaves as it was.
@@ -106,7 +104,7 @@ pub fn draft(
     ensures { Drafts (in_scratch line.old (drafted day kind t (take (last - first) (drop first (spots t))) (fields_of sizes.now text.now) line.old)) result line.new }
 {
     if line.len() != 1002 {
-        return Answer::Refused(Refusal::Size(refusal::nowhere()));
+        return Err(Refusal::Size(refusal::nowhere()));
     }
     let mut scratch = [0u8; 1002];
     draft_aside(day, kind, t, first, last, text, sizes, &mut scratch, line)

@@ -1,10 +1,9 @@
 -- Laws of a line's places: the byte that a verdict tells, answers joined, the places from one up to another, and the first that is refused.
 -- Assumes nothing.
 use Rattle.refusal.proofs.Basics.{◌≡◌, refl, sym, ap, ◌∙◌, arith, ℕ, zero, suc, ◌+◌, ◌-◌, ◌≤◌, ◌<◌, ◌^◌, length, drop, get_or, length-take, get_or-eq_default, leb-true, ltb-true, ltb-false, eqb-true, ne_eqb, List, [], ◌∷◌, Bool, true, false, cond, eqb, leb, ltb, add-one}
-use Rattle.refusal.specs.Refusal.{none, refusal_number, refusal_place, answer_number, first_of}
+use Rattle.std.specs.Prelude.{Ok, Err}
+use Rattle.refusal.specs.Refusal.{Answer, none, refusal_number, refusal_place, answer_number, first_of}
 use Rattle.verdict.specs.Verdict.{verdict_byte, answer_at, Within}
-use Rattle.refusal.specs.declared.Answer.{Answer}
-use Rattle.refusal.specs.declared.Answer.TheVariants.{Accepted, Refused}
 use Rattle.refusal.specs.declared.Place.{Place}
 use Rattle.refusal.specs.declared.Refusal.{Refusal}
 use Rattle.refusal.specs.declared.Refusal.TheVariants.{Size}
@@ -51,20 +50,20 @@ fits day kind t k s p v e w = rw (w, e) (omega (arith, place_within day kind t (
 -- Answers joined
 
 -- both are accepted
-pub accept_both : (a b : Answer) → a ≡ Accepted → b ≡ Accepted → first_of a b ≡ Accepted
+pub accept_both : (a b : Answer) → a ≡ Ok tt → b ≡ Ok tt → first_of a b ≡ Ok tt
 accept_both a b e f = rw e f
 
 -- what is accepted of a line passed its size
-pub size_right : (n : ℕ) (a : Answer) → cond (eqb n 1002) a (Refused (Size none)) ≡ Accepted → (n ≡ 1002) × (a ≡ Accepted)
+pub size_right : (n : ℕ) (a : Answer) → cond (eqb n 1002) a (Err (Size none)) ≡ Ok tt → (n ≡ 1002) × (a ≡ Ok tt)
 size_right n a e = go (eqb n 1002) refl e
   where
-    go : (b : Bool) → eqb n 1002 ≡ b → cond b a (Refused (Size none)) ≡ Accepted → (n ≡ 1002) × (a ≡ Accepted)
+    go : (b : Bool) → eqb n 1002 ≡ b → cond b a (Err (Size none)) ≡ Ok tt → (n ≡ 1002) × (a ≡ Ok tt)
     go true z h = (eqb-true n 1002 z, h)
     go false z h = let z : ◌≡◌ {A = ℕ} 0 1 = cc in absurd (omega arith)
 
 -- the byte that a refusal tells: of a 3 one of the n bytes that were judged, of any other the first of them
 pub told_byte :
-    (n v field start : ℕ) (r : Refusal) → Within n v → 0 < n → answer_at field start v ≡ Refused r →
+    (n v field start : ℕ) (r : Refusal) → Within n v → 0 < n → answer_at field start v ≡ Err r →
     (refusal_number r ≡ 3 → (start ≤ (refusal_place r).byte) × ((refusal_place r).byte < start + n)) × ((refusal_number r ≡ 3 → ⊥) → (refusal_place r).byte ≡ start)
 told_byte n v field start r w some e = go (leb 32 v) refl
   where
@@ -93,7 +92,7 @@ module _ (day kind : ℕ) (t : LineType) (s : List ℕ) (k last : ℕ) where
   Rest = places_from day kind t (spots_from t k (last - k)) s
 
   -- none: accepted
-  pub range_end : last ≤ k → Accepted ≡ Rest
+  pub range_end : last ≤ k → (Ok tt) ≡ Rest
   unfolding places_from spots_from
   range_end h = let e : last - k ≡ 0 = omega arith in rw e
 
@@ -103,7 +102,7 @@ module _ (day kind : ℕ) (t : LineType) (s : List ℕ) (k last : ℕ) where
   range_next h = let e : last - k ≡ suc (last - (k + 1)) = omega arith in rw (e, add-one k)
 
   -- the line has another size: refused
-  pub range_size : k < last → (length s ≡ 1002 → ⊥) → Refused (Size none) ≡ Rest
+  pub range_size : k < last → (length s ≡ 1002 → ⊥) → Err (Size none) ≡ Rest
   unfolding place_answer
   range_size h e = rw (range_next h, ne_eqb (length s) 1002 e)
 
@@ -140,9 +139,9 @@ module _ (day kind : ℕ) (t : LineType) (s : List ℕ) where
   unfolding places_from spots_from
   range_one k = let e : k + 1 - k ≡ 1 = omega arith in rw e (alone (place_answer day kind t (place_at t k) s))
     where
-      alone : (a : Answer) → first_of a Accepted ≡ a
-      alone Accepted = refl
-      alone (Refused r) = refl
+      alone : (a : Answer) → first_of a (Ok tt) ≡ a
+      alone (Ok tt) = refl
+      alone (Err r) = refl
 
   -- past the last there is none, and all are alike
   pub range_past : (k : ℕ) → length (spots t) < k → Rest day kind t s (length (spots t)) (length (spots t) + 1) ≡ place_answer day kind t (place_at t k) s
@@ -164,21 +163,21 @@ module _ (day kind : ℕ) (t : LineType) (s : List ℕ) where
 pub record Stops (day kind : ℕ) (t : LineType) (s : List ℕ) (ps : List Spot) (r : Refusal) : Type 0 where
   pub order : ℕ
   pub known : order < length ps
-  pub before : (k : ℕ) → k < order → place_answer day kind t (get_or ps k no_spot) s ≡ Accepted
-  pub here : place_answer day kind t (get_or ps order no_spot) s ≡ Refused r
+  pub before : (k : ℕ) → k < order → place_answer day kind t (get_or ps k no_spot) s ≡ Ok tt
+  pub here : place_answer day kind t (get_or ps order no_spot) s ≡ Err r
 
 module _ (day kind : ℕ) (t : LineType) (s : List ℕ) (r : Refusal) where
   -- places that are refused stop at one
-  pub stops : (ps : List Spot) → places_from day kind t ps s ≡ Refused r → Stops day kind t s ps r
+  pub stops : (ps : List Spot) → places_from day kind t ps s ≡ Err r → Stops day kind t s ps r
   unfolding places_from
   stops [] e = let z : ◌≡◌ {A = ℕ} 0 1 = cc in absurd (omega arith)
   stops (p ∷ ps) e = go (place_answer day kind t p s) refl e (stops ps)
     where
       go :
-          (a : Answer) → place_answer day kind t p s ≡ a → first_of a (places_from day kind t ps s) ≡ Refused r →
-          (places_from day kind t ps s ≡ Refused r → Stops day kind t s ps r) → Stops day kind t s (p ∷ ps) r
-      go (Refused q) f g rest = record { order = 0; known = omega arith; before = λ k h. absurd (omega arith); here = f ∙ g }
-      go Accepted f g rest =
+          (a : Answer) → place_answer day kind t p s ≡ a → first_of a (places_from day kind t ps s) ≡ Err r →
+          (places_from day kind t ps s ≡ Err r → Stops day kind t s ps r) → Stops day kind t s (p ∷ ps) r
+      go (Err q) f g rest = record { order = 0; known = omega arith; before = λ k h. absurd (omega arith); here = f ∙ g }
+      go (Ok tt) f g rest =
           let w = rest g in
           record {
             order = suc w.order;
@@ -187,6 +186,6 @@ module _ (day kind : ℕ) (t : LineType) (s : List ℕ) (r : Refusal) where
             here = w.here;
           }
         where
-          earlier : (w : Stops day kind t s ps r) (k : ℕ) → k < suc w.order → place_answer day kind t (get_or (p ∷ ps) k no_spot) s ≡ Accepted
+          earlier : (w : Stops day kind t s ps r) (k : ℕ) → k < suc w.order → place_answer day kind t (get_or (p ∷ ps) k no_spot) s ≡ Ok tt
           earlier w zero h = f
           earlier w (suc k) h = w.before k (omega arith)

@@ -2,7 +2,7 @@
 -- and that a line is right exactly when it has its size, ends and type and passes them all.
 -- Assumes nothing.
 use Rattle.refusal.proofs.Basics.{◌≡◌, refl, arith, ℕ, ◌≤◌, length, take, drop, get_or, List, [], ◌∷◌, true, false, cond, not, ◌&&◌, ◌||◌, eqb, leb, ◌↔◌}
-use Rattle.refusal.specs.declared.Answer.TheVariants.{Accepted}
+use Rattle.std.specs.Prelude.{Ok}
 use Rattle.verdict.proofs.Verdicts.{first_both}
 use Rattle.classes.specs.declared.Class.TheVariants.{Digits, Zeros, Blanks, Letters, Description}
 use Rattle.text.specs.Bytes.{all_of, trimmed, same, eur}
@@ -18,7 +18,6 @@ use Rattle.wage_places.specs.declared.LineType.TheVariants.{Label, Group, Order,
 use Rattle.wage_places.specs.declared.Spot.{Spot}
 use Rattle.wage_places.specs.Places.{spots, spot_in, part_at, part_of}
 use Rattle.wage_places.proofs.Theorems.{field_size}
-use Rattle.wage_line.specs.declared.Typed.TheVariants.{Line}
 use Rattle.wage_line.specs.Line.{typed_of}
 use Rattle.wage_line.proofs.Theorems.{typed_exactly}
 use Rattle.wage_contents.specs.Contents.{one_of, two_of}
@@ -113,7 +112,7 @@ module _ (day kind : ℕ) (t : LineType) (s : List ℕ) where
   Asked R (p ∷ ps) = rule_verdict day kind t p.field (part_at p s) s ≡ 0 → Asked R ps
 
   -- of a line of 1,002 bytes, exactly when it holds where the places are accepted
-  asked_exactly : length s ≡ 1002 → (R : Type 0) (ps : List Spot) → Asked R ps ↔ (places_from day kind t ps s ≡ Accepted → R)
+  asked_exactly : length s ≡ 1002 → (R : Type 0) (ps : List Spot) → Asked R ps ↔ (places_from day kind t ps s ≡ Ok tt → R)
   unfolding places_from
   asked_exactly whole R [] = ((λ r e. r), (λ f. f refl))
   asked_exactly whole R (p ∷ ps) =
@@ -123,9 +122,9 @@ module _ (day kind : ℕ) (t : LineType) (s : List ℕ) where
 
   -- so a line is right exactly when it has its type and P holds, where P holds by its places' rules and they by P
   said_exactly :
-      let Places = places_answer day kind t s ≡ Accepted in
+      let Places = places_answer day kind t s ≡ Ok tt in
       (P : Type 0) → (length s ≡ 1002 → Asked P (spots t)) → (length s ≡ 1002 → P → Asked Places (spots t) → Places) →
-      RightLine day kind t s ↔ ((typed_of s ≡ Line t) × P)
+      RightLine day kind t s ↔ ((typed_of s ≡ Ok t) × P)
   unfolding places_answer
   said_exactly P told made = (
     (λ w. let whole = ((typed_exactly t s).0 w.typed).whole in (w.typed, (asked_exactly whole P (spots t)).0 (told whole) w.fields)),
@@ -136,7 +135,7 @@ module _ (day kind : ℕ) (t : LineType) (s : List ℕ) where
 
 module _ (day kind : ℕ) (s : List ℕ) where
   -- a 300
-  pub label_exactly : RightLine day kind Label s ↔ ((typed_of s ≡ Line Label) × LabelPlaces day s)
+  pub label_exactly : RightLine day kind Label s ↔ ((typed_of s ≡ Ok Label) × LabelPlaces day s)
   unfolding spots spot_in
   label_exactly =
       said_exactly day kind Label s (LabelPlaces day s)
@@ -158,7 +157,7 @@ module _ (day kind : ℕ) (s : List ℕ) where
       short whole = omega (arith, field_size Label s whole 3)
 
   -- a 301
-  pub group_exactly : RightLine day kind Group s ↔ ((typed_of s ≡ Line Group) × GroupPlaces day s)
+  pub group_exactly : RightLine day kind Group s ↔ ((typed_of s ≡ Ok Group) × GroupPlaces day s)
   unfolding spots spot_in
   group_exactly =
       said_exactly day kind Group s (GroupPlaces day s)
@@ -176,7 +175,7 @@ module _ (day kind : ℕ) (s : List ℕ) where
       ((bytes_accepted Digits _).1 w.field_5) ((bytes_accepted Digits _).1 w.field_6) ((later_accepted day _).1 w.field_7))
 
   -- a 309
-  pub order_exactly : RightLine day kind Order s ↔ ((typed_of s ≡ Line Order) × OrderPlaces kind s)
+  pub order_exactly : RightLine day kind Order s ↔ ((typed_of s ≡ Ok Order) × OrderPlaces kind s)
   unfolding spots spot_in
   order_exactly =
       said_exactly day kind Order s (OrderPlaces kind s)
@@ -205,5 +204,5 @@ module _ (day kind : ℕ) (s : List ℕ) where
       ((oib_accepted (not (eqb kind 5)) _).1 w.field_23))
 
   -- a 399 has no places
-  pub closing_exactly : RightLine day kind Closing s ↔ (typed_of s ≡ Line Closing)
+  pub closing_exactly : RightLine day kind Closing s ↔ (typed_of s ≡ Ok Closing)
   closing_exactly = ((λ w. w.typed), (λ e. record { typed = e; fields = closing_has_none day kind s }))

@@ -1,9 +1,9 @@
 -- What is promised of a line's places: accepted exactly when each is, and what a refusal tells.
 -- Assumes nothing.
 use Rattle.refusal.proofs.Basics.{◌≡◌, refl, ap, arith, ℕ, zero, suc, ◌+◌, ◌≤◌, ◌<◌, length, get_or, ltb-true, List, [], ◌∷◌, Bool, true, false, cond, ◌&&◌, eqb, ltb, ◌↔◌, both_true}
+use Rattle.std.specs.Prelude.{Ok, Err}
 use Rattle.refusal.specs.Refusal.{none, refusal_number, refusal_place, answer_number}
 use Rattle.verdict.specs.Verdict.{verdict_byte, answer_at}
-use Rattle.refusal.specs.declared.Answer.TheVariants.{Accepted, Refused}
 use Rattle.refusal.specs.declared.Place.{Place}
 use Rattle.refusal.specs.declared.Refusal.{Refusal}
 use Rattle.refusal.specs.declared.Refusal.TheVariants.{Size}
@@ -21,36 +21,36 @@ use Rattle.wage_fields.specs.Rules.{rule_verdict, place_verdict, place_answer, p
 use Rattle.wage_fields.proofs.Laws.{size_right, accept_both, rule_within, told_byte, Stops, stops}
 
 -- ---------------------------------------------------------------------------
--- Accepted exactly when
+-- (Ok tt) exactly when
 
 module _ (day kind : ℕ) (t : LineType) (s : List ℕ) where
   -- a place is accepted exactly when the line has 1,002 bytes and its field's rule refuses nothing of its bytes
-  pub place_right : (p : Spot) → (place_answer day kind t p s ≡ Accepted) ↔ ((length s ≡ 1002) × (rule_verdict day kind t p.field (part_at p s) s ≡ 0))
+  pub place_right : (p : Spot) → (place_answer day kind t p s ≡ Ok tt) ↔ ((length s ≡ 1002) × (rule_verdict day kind t p.field (part_at p s) s ≡ 0))
   unfolding place_answer place_verdict
   place_right p =
       let v = rule_verdict day kind t p.field (part_at p s) s in
       (λ e. let w = size_right (length s) _ e in (w.0, answer_accepted v p.field _ w.1), λ w. rw w.0 (accepted_answer v p.field _ w.1))
 
   -- places that are accepted are so each
-  each_accepted : (ps : List Spot) → places_from day kind t ps s ≡ Accepted → (k : ℕ) → k < length ps → place_answer day kind t (get_or ps k no_spot) s ≡ Accepted
+  each_accepted : (ps : List Spot) → places_from day kind t ps s ≡ Ok tt → (k : ℕ) → k < length ps → place_answer day kind t (get_or ps k no_spot) s ≡ Ok tt
   unfolding places_from
   each_accepted [] e k h = absurd (omega arith)
   each_accepted (p ∷ ps) e zero h = (first_both (place_answer day kind t p s) (places_from day kind t ps s) e).0
   each_accepted (p ∷ ps) e (suc k) h = each_accepted ps (first_both (place_answer day kind t p s) (places_from day kind t ps s) e).1 k (omega arith)
 
   -- and the other way round
-  all_accepted : (ps : List Spot) → ((k : ℕ) → k < length ps → place_answer day kind t (get_or ps k no_spot) s ≡ Accepted) → places_from day kind t ps s ≡ Accepted
+  all_accepted : (ps : List Spot) → ((k : ℕ) → k < length ps → place_answer day kind t (get_or ps k no_spot) s ≡ Ok tt) → places_from day kind t ps s ≡ Ok tt
   unfolding places_from
   all_accepted [] f = refl
   all_accepted (p ∷ ps) f = accept_both (place_answer day kind t p s) (places_from day kind t ps s) (f 0 (omega arith)) (all_accepted ps (λ k h. f (suc k) (omega arith)))
 
   -- a line's places are accepted exactly when each place is
-  pub places_right : (places_answer day kind t s ≡ Accepted) ↔ ((k : ℕ) → k < length (spots t) → place_answer day kind t (place_at t k) s ≡ Accepted)
+  pub places_right : (places_answer day kind t s ≡ Ok tt) ↔ ((k : ℕ) → k < length (spots t) → place_answer day kind t (place_at t k) s ≡ Ok tt)
   unfolding places_answer
   places_right = (each_accepted (spots t), all_accepted (spots t))
 
   -- of an accepted line, the rule of each field that has a place refuses nothing of the field's bytes
-  pub field_right : places_answer day kind t s ≡ Accepted → (n k : ℕ) → k < length (spots t) → (place_at t k).field ≡ n → rule_verdict day kind t n (part_of t n s) s ≡ 0
+  pub field_right : places_answer day kind t s ≡ Ok tt → (n k : ℕ) → k < length (spots t) → (place_at t k).field ≡ n → rule_verdict day kind t n (part_of t n s) s ≡ 0
   field_right e n k h f =
       rw (← f, found_spot t k h) ((place_right (place_at t k)).0 (places_right.0 e k h)).1
 
@@ -59,27 +59,27 @@ module _ (day kind : ℕ) (t : LineType) (s : List ℕ) where
 
 module _ (day kind : ℕ) (s : List ℕ) where
   -- an accepted 300 tells its kind, 4 or 5
-  pub label_kind : places_answer day kind Label s ≡ Accepted → among_verdict 4 5 5 (part_of Label 2 s) ≡ 0
+  pub label_kind : places_answer day kind Label s ≡ Ok tt → among_verdict 4 5 5 (part_of Label 2 s) ≡ 0
   unfolding spots
   label_kind e = field_right day kind Label s e 2 1 (omega arith) refl
 
   -- an accepted 301 tells its number of orders in digits
-  pub group_number_digits : places_answer day kind Group s ≡ Accepted → bytes_verdict Digits (part_of Group 5 s) ≡ 0
+  pub group_number_digits : places_answer day kind Group s ≡ Ok tt → bytes_verdict Digits (part_of Group 5 s) ≡ 0
   unfolding spots
   group_number_digits e = field_right day kind Group s e 5 4 (omega arith) refl
 
   -- and its sum
-  pub group_sum_digits : places_answer day kind Group s ≡ Accepted → bytes_verdict Digits (part_of Group 6 s) ≡ 0
+  pub group_sum_digits : places_answer day kind Group s ≡ Ok tt → bytes_verdict Digits (part_of Group 6 s) ≡ 0
   unfolding spots
   group_sum_digits e = field_right day kind Group s e 6 5 (omega arith) refl
 
   -- an accepted 309 tells its amount in digits
-  pub order_amount_digits : places_answer day kind Order s ≡ Accepted → bytes_verdict Digits (part_of Order 10 s) ≡ 0
+  pub order_amount_digits : places_answer day kind Order s ≡ Ok tt → bytes_verdict Digits (part_of Order 10 s) ≡ 0
   unfolding spots
   order_amount_digits e = field_right day kind Order s e 10 7 (omega arith) refl
 
   -- a 399 has no places
-  pub closing_has_none : places_answer day kind Closing s ≡ Accepted
+  pub closing_has_none : places_answer day kind Closing s ≡ Ok tt
   unfolding places_answer places_from spots
   closing_has_none = refl
 
@@ -127,12 +127,12 @@ all_numbered Closing = refl
 
 module _ (day kind : ℕ) (t : LineType) (s : List ℕ) (r : Refusal) where
   -- a refusal is that of the first place that is not accepted
-  pub first_refused : places_answer day kind t s ≡ Refused r → Stops day kind t s (spots t) r
+  pub first_refused : places_answer day kind t s ≡ Err r → Stops day kind t s (spots t) r
   unfolding places_answer
   first_refused e = stops day kind t s r (spots t) e
 
   -- a refusal of a line of 1,002 bytes tells no line, a field that has a place, and a byte there: of a 3 the wrong one, else the first
-  pub refusal_no_line : length s ≡ 1002 → places_answer day kind t s ≡ Refused r → Told t r
+  pub refusal_no_line : length s ≡ 1002 → places_answer day kind t s ≡ Err r → Told t r
   unfolding place_answer place_verdict
   refusal_no_line whole e =
       let w = first_refused e in
@@ -156,12 +156,12 @@ module _ (day kind : ℕ) (t : LineType) (s : List ℕ) (r : Refusal) where
       }
 
 -- the number 29, of a tally, is not among those that a line's places give
-pub places_never_29 : (day kind : ℕ) (t : LineType) (s : List ℕ) (r : Refusal) → places_answer day kind t s ≡ Refused r → refusal_number r ≡ 29 → ⊥
+pub places_never_29 : (day kind : ℕ) (t : LineType) (s : List ℕ) (r : Refusal) → places_answer day kind t s ≡ Err r → refusal_number r ≡ 29 → ⊥
 unfolding place_answer place_verdict
 places_never_29 day kind t s r e h =
     let w = first_refused day kind t s r e in
     go (place_at t w.order) (eqb (length s) 1002) w.here
   where
-    go : (p : Spot) (b : Bool) → cond b (answer_at p.field p.start (place_verdict day kind t p s)) (Refused (Size none)) ≡ Refused r → ⊥
+    go : (p : Spot) (b : Bool) → cond b (answer_at p.field p.start (place_verdict day kind t p s)) (Err (Size none)) ≡ Err r → ⊥
     go p true f = answer_never_29 (length (part_at p s)) (place_verdict day kind t p s) p.field _ r (rule_within day kind t p.field (part_at p s) s) f h
     go p false f = let n : 1 ≡ refusal_number r = ap answer_number f in omega arith

@@ -1,7 +1,7 @@
 // A line's places in order, each judged by the rule of its type of line.
 //
 // Document 01, "The wage file". The rules are the crates `label_rules`, `group_rules` and `order_rules`; where the places
-// stand is the crate `wage_places`. A rule answers a verdict, one number; only the place that is refused makes an answer of it.
+// stand is the crate `wage_places`. A rule answers a verdict; only the place that is refused makes an answer of it.
 #![tactic(auto)]
 
 ghost use Rattle.std.specs.Prelude.{◌≡◌, get_or, ◌+◌, ◌-◌, ◌<◌, ◌^◌};
@@ -10,22 +10,23 @@ ghost use Rattle.wage_places.specs.Places.{spots, no_spot};
 ghost use Rattle.wage_fields.specs.Rules.{place_verdict, place_answer, spots_from, places_from, places_answer};
 
 use refusal::{Answer, Refusal};
+use verdict::Verdict;
 use wage_places::{LineType, Spot};
 
 // The rule of a place, under a day and a kind.
-fn rule(day: u64, kind: u64, t: LineType, k: usize, s: &[u8]) -> usize
+fn rule(day: u64, kind: u64, t: LineType, k: usize, s: &[u8]) -> Verdict
     ensures { result ≡ place_verdict day kind t (get_or (spots t) k no_spot) s.now }
 {
     match t {
         LineType::Label => label_rules::label_rule(day, k, s),
         LineType::Group => group_rules::group_rule(day, k, s),
         LineType::Order => order_rules::order_rule(kind, k, s),
-        LineType::Closing => 0,
+        LineType::Closing => Ok(()),
     }
 }
 
 // A verdict told of its place in the line.
-fn told(p: Spot, verdict: usize) -> Answer
+fn told(p: Spot, verdict: Verdict) -> Answer
     requires { p.start + verdict_byte verdict < 2 ^ 64 }
     ensures { result ≡ answer_at p.field p.start verdict }
 {
@@ -41,15 +42,15 @@ fn judge_range(day: u64, kind: u64, t: LineType, first: usize, last: usize, s: &
     ensures { result ≡ places_from day kind t (spots_from t first (last - first)) s.now }
 {
     if s.len() != 1002 {
-        return Answer::Refused(Refusal::Size(refusal::nowhere()));
+        return Err(Refusal::Size(refusal::nowhere()));
     }
     let mut k = first;
     'places: loop {
         if last <= k {
-            break 'places Answer::Accepted;
+            break 'places Ok(());
         }
         let verdict = rule(day, kind, t, k, s);
-        if verdict != 0 {
+        if verdict.is_err() {
             break 'places told(wage_places::spot_at(t, k), verdict);
         }
         k += 1;
@@ -73,7 +74,7 @@ pub fn judge_places(day: u64, kind: u64, t: LineType, s: &[u8]) -> Answer
 {
     let count = wage_places::count(t);
     if count == 0 {
-        return Answer::Accepted;
+        return Ok(());
     }
     judge_range(day, kind, t, 0, count, s)
 }

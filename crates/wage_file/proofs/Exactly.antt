@@ -1,21 +1,19 @@
 -- What is promised of a whole wage file: accepted exactly when it is right, with its counts told, and its parts told by its lines.
 -- Assumes nothing.
 use Rattle.refusal.proofs.Basics.{◌≡◌, refl, sym, ap, ◌∙◌, arith, ℕ, suc, ◌+◌, zero-add, length, List, [], ◌∷◌, ◌++◌, append_assoc, true, ◌↔◌}
+use Rattle.std.specs.Prelude.{Err, Ok, Result}
+use Rattle.refusal.specs.declared.Refusal.{Refusal}
 use Rattle.refusal.specs.Refusal.{none}
-use Rattle.refusal.specs.declared.Answer.TheVariants.{Accepted}
 use Rattle.refusal.specs.declared.Refusal.TheVariants.{Date}
 use Rattle.dates.specs.Dates.{is_date}
 use Rattle.sums.specs.Sums.{sum_of}
 use Rattle.wage_places.specs.declared.LineType.{LineType}
 use Rattle.wage_places.specs.declared.LineType.TheVariants.{Label, Group, Order, Closing}
-use Rattle.wage_line.specs.declared.Typed.{Typed}
-use Rattle.wage_line.specs.declared.Typed.TheVariants as typed
 use Rattle.wage_line.specs.Line.{typed_of}
 use Rattle.wage_line.proofs.PieceLaws.{Each, each_more}
 use Rattle.wage_fields.specs.Rules.{places_answer, RightLine}
 use Rattle.worked_out.specs.Amounts.{amounts}
 use Rattle.condition.specs.declared.Counts.{Counts}
-use Rattle.condition.specs.declared.Ending.TheVariants as ending
 use Rattle.condition.specs.declared.Judge.{Judge}
 use Rattle.condition.specs.Record.{is_sound, fresh, begun, ended}
 use Rattle.tally.specs.Tally.{is_within}
@@ -65,7 +63,7 @@ module _ (day : ℕ) where
     label_told s ss e = let w = came n ss (fresh day) s e in go w.0.line w.0.typed w.0.stands w.0.fields w.1
       where
         go :
-            (t : LineType) → typed_of s ≡ typed.Line t → stand_verdict 0 (fresh day).group t ≡ 0 → places_answer day 0 t s ≡ Accepted → Ends n ss (after (fresh day) s t) →
+            (t : LineType) → typed_of s ≡ Ok t → stand_verdict 0 (fresh day).group t ≡ 0 → places_answer day 0 t s ≡ Ok tt → Ends n ss (after (fresh day) s t) →
             RightLine day 0 Label s × Ends n ss (after_label s)
         go Label f v p g = (record { typed = f; fields = p }, g)
         go Group f v p g = absurd (omega arith)
@@ -78,7 +76,7 @@ module _ (day : ℕ) where
     head_told label s ss e = let w = came n ss (after_label label) s e in go w.0.line w.0.typed w.0.stands w.0.fields w.1
       where
         go :
-            (t : LineType) → typed_of s ≡ typed.Line t → stand_verdict 1 (fresh day).group t ≡ 0 → places_answer day (kind_of label) t s ≡ Accepted → Ends n ss (after (after_label label) s t) →
+            (t : LineType) → typed_of s ≡ Ok t → stand_verdict 1 (fresh day).group t ≡ 0 → places_answer day (kind_of label) t s ≡ Ok tt → Ends n ss (after (after_label label) s t) →
             RightLine day (kind_of label) Group s × Ends n ss (in_group day (kind_of label) s two 0 0)
         go Label f v p g = absurd (omega arith)
         go Group f v p g = (record { typed = f; fields = p }, g)
@@ -86,7 +84,7 @@ module _ (day : ℕ) where
         go Closing f v p g = absurd (omega arith)
 
 -- ---------------------------------------------------------------------------
--- Accepted exactly when
+-- (Ok tt) exactly when
 
 -- lines are those of a right file, and these are its counts
 pub record RightLines (day : ℕ) (ls : List (List ℕ)) (n : Counts) : Type 0 where
@@ -121,7 +119,7 @@ module _ (day : ℕ) where
       }
 
   -- what is accepted is right
-  accepted_right : (ls : List (List ℕ)) (n : Counts) → ended (steps (begun day) ls) ≡ ending.Accepted n → RightLines day ls n
+  accepted_right : (ls : List (List ℕ)) (n : Counts) → ended (steps (begun day) ls) ≡ Ok n → RightLines day ls n
   unfolding steps
   accepted_right [] n e =
       let t = (told n (fresh day) (begun_told day n [] e).1).last in
@@ -170,15 +168,15 @@ module _ (day : ℕ) where
       rest_run day (kind_of label) g.head two 0 0 ss (counts_in f) (record { groups = omega arith; orders = omega arith; cents = omega arith }) r))
 
   -- what is right is accepted
-  right_accepted : (ls : List (List ℕ)) (n : Counts) → RightLines day ls n → ended (steps (begun day) ls) ≡ ending.Accepted n
+  right_accepted : (ls : List (List ℕ)) (n : Counts) → RightLines day ls n → ended (steps (begun day) ls) ≡ Ok n
   right_accepted ls n w =
       let f = w.file in
       ap (λ (ss : List (List ℕ)). ended (steps (begun day) ss)) (sym w.lines) ∙
       (right_run f.label f.groups f.closing w.right ∙
-      ap ending.Accepted w.counts)
+      ap Ok w.counts)
 
   -- a wage file is accepted, and these counts told, exactly when its lines are those of a right file with these counts
-  pub accepted_exactly : (ls : List (List ℕ)) (n : Counts) → (ended (steps (begun day) ls) ≡ ending.Accepted n) ↔ RightLines day ls n
+  pub accepted_exactly : (ls : List (List ℕ)) (n : Counts) → (ended (steps (begun day) ls) ≡ Ok n) ↔ RightLines day ls n
   accepted_exactly ls n = (accepted_right ls n, right_accepted ls n)
 
 -- ---------------------------------------------------------------------------
@@ -191,12 +189,12 @@ record Parts : Type 0 where
   closing : List ℕ
 
 -- with one more line in front, by its type
-abbrev with_line : List ℕ → Parts → Typed → Parts
-with_line s p (typed.Line Label) = p
-with_line s p (typed.Line Group) = record { orders = []; groups = record { head = s; orders = p.orders } ∷ p.groups; closing = p.closing }
-with_line s p (typed.Line Order) = record { orders = s ∷ p.orders; groups = p.groups; closing = p.closing }
-with_line s p (typed.Line Closing) = record { orders = []; groups = []; closing = s }
-with_line s p (typed.Refused r) = p
+abbrev with_line : List ℕ → Parts → Result LineType Refusal → Parts
+with_line s p (Ok Label) = p
+with_line s p (Ok Group) = record { orders = []; groups = record { head = s; orders = p.orders } ∷ p.groups; closing = p.closing }
+with_line s p (Ok Order) = record { orders = s ∷ p.orders; groups = p.groups; closing = p.closing }
+with_line s p (Ok Closing) = record { orders = []; groups = []; closing = s }
+with_line s p (Err r) = p
 
 -- the parts of some lines
 parts_of : List (List ℕ) → Parts
@@ -221,7 +219,7 @@ module _ (day kind : ℕ) (closing : List ℕ) where
 
   -- and right groups from one another
   groups_parts :
-      typed_of closing ≡ typed.Line Closing → (gs : List Payments) → Each (RightGroup day kind) no_group gs →
+      typed_of closing ≡ Ok Closing → (gs : List Payments) → Each (RightGroup day kind) no_group gs →
       parts_of (group_lines gs ++ (closing ∷ [])) ≡ record { orders = []; groups = gs; closing = closing }
   unfolding parts_of group_lines
   groups_parts w [] f = rw w

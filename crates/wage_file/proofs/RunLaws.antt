@@ -1,7 +1,7 @@
 -- Laws of a judge's run: what an accepted end says of each step, which records are sound, and the lines from inside a group on.
 -- Assumes nothing.
 use Rattle.refusal.proofs.Basics.{◌≡◌, refl, sym, ap, ◌∙◌, arith, ℕ, suc, ◌+◌, ◌*◌, ◌≤◌, ◌<◌, length, take, length-take, length-append, lt-ltb, le-leb, eq-eqb, ltb-true, eqb-true, List, [], ◌∷◌, ◌++◌, append_assoc, Bool, true, false, cond, eqb, ltb, add-zero}
-use Rattle.refusal.specs.declared.Answer.TheVariants as answer
+use Rattle.std.specs.Prelude.{Err, Ok}
 use Rattle.refusal.specs.declared.Refusal.{Refusal}
 use Rattle.verdict.specs.Verdict.{only_if, and_then}
 use Rattle.verdict.proofs.Verdicts.{both_pass, test_holds}
@@ -10,7 +10,6 @@ use Rattle.sums.proofs.Laws.{added_on}
 use Rattle.sums.proofs.Theorems.{sum_fits, sums_told_apart, text_small}
 use Rattle.wage_places.specs.declared.LineType.{LineType}
 use Rattle.wage_places.specs.declared.LineType.TheVariants.{Label, Group, Order, Closing}
-use Rattle.wage_line.specs.declared.Typed.TheVariants as typed
 use Rattle.wage_places.specs.Places.{spots, spot_in, part_of}
 use Rattle.wage_line.specs.Line.{typed_of}
 use Rattle.wage_line.proofs.PieceLaws.{Each, each_more}
@@ -21,7 +20,6 @@ use Rattle.worked_out.proofs.Theorems.{amounts_at_most}
 use Rattle.wage_fields.proofs.Plain.{closing_exactly}
 use Rattle.condition.specs.declared.Condition.TheVariants.{Grouped}
 use Rattle.condition.specs.declared.Counts.{Counts}
-use Rattle.condition.specs.declared.Ending.TheVariants as ending
 use Rattle.condition.specs.declared.Judge.{Judge}
 use Rattle.condition.specs.Record.{stage_of, is_refused, refusal_in, refused_with, at_line, next_line, beyond, is_sound, ended}
 use Rattle.standing.specs.Standing.{growth_of, after, whole_verdict, stand_verdict}
@@ -38,10 +36,10 @@ use Rattle.wage_file.specs.Right.{Payments, group_lines, orders_in, amounts_in, 
 
 -- from a record, these lines end accepted with these counts
 abbrev pub Ends : Counts → List (List ℕ) → Judge → Type 0
-Ends n ss j = ended (steps j ss) ≡ ending.Accepted n
+Ends n ss j = ended (steps j ss) ≡ Ok n
 
 -- the end of a refused record is its refusal
-refused_ends : (j : Judge) → is_refused j.condition ≡ true → ended j ≡ ending.Refused (refusal_in j.condition)
+refused_ends : (j : Judge) → is_refused j.condition ≡ true → ended j ≡ Err (refusal_in j.condition)
 unfolding ended
 refused_ends j e = rw e
 
@@ -49,7 +47,7 @@ module _ (n : Counts) (ss : List (List ℕ)) where
   -- a refused record never ends accepted
   pub never : (j : Judge) → is_refused j.condition ≡ true → Ends n ss j → ⊥
   never j f e =
-      let g : ending.Refused (refusal_in j.condition) ≡ ending.Accepted n = sym (refused_ends j f) ∙ (ap ended (sym (refusal_stays_on j f ss)) ∙ e) in
+      let g : Err (refusal_in j.condition) ≡ Ok n = sym (refused_ends j f) ∙ (ap ended (sym (refusal_stays_on j f ss)) ∙ e) in
       let z : ◌≡◌ {A = ℕ} 0 1 = cc in
       omega arith
 
@@ -80,7 +78,7 @@ told n j e = go (is_refused j.condition) (is_sound j) (eqb (stage_of j.condition
   where
     go :
         (a b c : Bool) → is_sound j ≡ b → eqb (stage_of j.condition) 3 ≡ c →
-        cond a (ending.Refused (refusal_in j.condition)) (cond b (cond c (ending.Accepted j.read) (ending.Refused (at_line 14 (next_line j)))) (ending.Refused beyond)) ≡ ending.Accepted n →
+        cond a (Err (refusal_in j.condition)) (cond b (cond c (Ok j.read) (Err (at_line 14 (next_line j)))) (Err beyond)) ≡ Ok n →
         Told n j
     go true b c f g h = let z : ◌≡◌ {A = ℕ} 0 1 = cc in absurd (omega arith)
     go false false c f g h = let z : ◌≡◌ {A = ℕ} 0 1 = cc in absurd (omega arith)
@@ -167,7 +165,7 @@ module _ (day kind : ℕ) where
     pub number : counted + length payments ≡ declared_in head
     pub sum : total + amounts payments ≡ promised_in head
     pub each_group : Each (RightGroup day kind) no_group following
-    pub last : typed_of closing ≡ typed.Line Closing
+    pub last : typed_of closing ≡ Ok Closing
     pub limit : m.lines + length ss ≤ 1000000
     pub lines_told : n.lines ≡ m.lines + length ss
     pub groups_told : n.tally.groups ≡ m.tally.groups + length following
@@ -243,7 +241,7 @@ module _ (day kind : ℕ) where
       group_made s w d = goes here s Group refl (group_sound head m counted total (omega arith) b (omega arith) (omega arith)) a w (whole_made d)
 
       -- and a 399, after which the file ends accepted
-      closing_made : (s : List ℕ) → typed_of s ≡ typed.Line Closing → Whole → Ends (counts_of (onward (growth_of Closing s) m)) (s ∷ []) here
+      closing_made : (s : List ℕ) → typed_of s ≡ Ok Closing → Whole → Ends (counts_of (onward (growth_of Closing s) m)) (s ∷ []) here
       unfolding steps stand_verdict is_sound
       closing_made s w d =
           ap ended (goes here s Closing refl (group_sound head m counted total (omega arith) b (omega arith) (omega arith)) a ((closing_exactly day kind s).1 w) (whole_made d)) ∙
@@ -297,7 +295,7 @@ module _ (day kind : ℕ) where
           }
 
       -- a 399 that was taken, and nothing after it
-      rest_closing : typed_of s ≡ typed.Line Closing → Whole → Ends n ss (after here s Closing) → Rest head m counted total (s ∷ ss) n
+      rest_closing : typed_of s ≡ Ok Closing → Whole → Ends n ss (after here s Closing) → Rest head m counted total (s ∷ ss) n
       unfolding group_lines orders_in amounts_in amounts
       rest_closing w v e =
           let none = nothing_after n ss (after here s Closing) refl e in
@@ -354,7 +352,7 @@ module _ (day kind : ℕ) where
 
   -- a whole group, right groups behind it, and the 399 end accepted
   groups_run :
-      (closing : List ℕ) (n : Counts) → typed_of closing ≡ typed.Line Closing → n.lines ≤ 1000000 → (gs : List Payments) (head : List ℕ) (m : Read) →
+      (closing : List ℕ) (n : Counts) → typed_of closing ≡ Ok Closing → n.lines ≤ 1000000 → (gs : List Payments) (head : List ℕ) (m : Read) →
       Each (RightGroup day kind) no_group gs → 0 < declared_in head → Fair m →
       n.lines ≡ m.lines + length (group_lines gs ++ (closing ∷ [])) → n.tally.groups ≡ m.tally.groups + length gs → n.tally.orders ≡ m.tally.orders + orders_in gs →
       n.tally.total ≡ sum_of 1000 (m.tally.cents + amounts_in gs) →
@@ -362,7 +360,7 @@ module _ (day kind : ℕ) where
   unfolding group_lines orders_in amounts_in steps
   groups_run closing n w limit [] head m f some a b c d e =
       closing_made head m (declared_in head) (promised_in head) (omega arith) a closing w (record { some = some; number = refl; sum = refl }) ∙
-      ap ending.Accepted (same_counts (counts_of (onward (growth_of Closing closing) m)) n (omega arith) (omega arith) (omega arith) (sym (e ∙ ap (sum_of 1000) (add-zero m.tally.cents))))
+      ap Ok (same_counts (counts_of (onward (growth_of Closing closing) m)) n (omega arith) (omega arith) (omega arith) (sym (e ∙ ap (sum_of 1000) (add-zero m.tally.cents))))
   groups_run closing n w limit (g ∷ gs) head m f some a b c d e =
       let r : RightGroup day kind g = f 0 (omega arith) in
       let os = g.orders in
@@ -404,7 +402,7 @@ module _ (day kind : ℕ) where
       go w.0.line w.0.typed w.0.stands w.0.fields w.1 (run_rest n ss)
     where
       go :
-          (t : LineType) → typed_of s ≡ typed.Line t → stand_verdict 2 (in_group head m counted total).group t ≡ 0 → places_answer day kind t s ≡ answer.Accepted →
+          (t : LineType) → typed_of s ≡ Ok t → stand_verdict 2 (in_group head m counted total).group t ≡ 0 → places_answer day kind t s ≡ Ok tt →
           Ends n ss (after (in_group head m counted total) s t) →
           ((head : List ℕ) (m : Read) (counted total : ℕ) → Ends n ss (in_group head m counted total) → Rest head m counted total ss n) →
           Rest head m counted total (s ∷ ss) n

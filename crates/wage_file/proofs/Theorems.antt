@@ -2,6 +2,7 @@
 -- of whole lines, the answer of the lines that it is made of, and 14 for an empty one.
 -- Assumes nothing.
 use Rattle.refusal.proofs.Basics.{◌≡◌, ap, ◌∙◌, arith, ℕ, ◌+◌, ◌*◌, ◌%◌, ◌≤◌, ◌<◌, length, length-append, get_or, List, [], ◌∷◌, ◌++◌, true, ◌↔◌}
+use Rattle.std.specs.Prelude.{Ok, Err}
 use Rattle.text.specs.Split.{joined}
 use Rattle.refusal.specs.declared.Refusal.TheVariants.{Unfinished}
 use Rattle.dates.specs.Dates.{is_date}
@@ -11,7 +12,6 @@ use Rattle.wage_line.specs.Pieces.{pieces_of, pieces}
 use Rattle.wage_line.proofs.PieceLaws.{pieces_of_lines}
 use Rattle.tally.specs.Tally.{is_within}
 use Rattle.condition.specs.declared.Counts.{Counts}
-use Rattle.condition.specs.declared.Ending.TheVariants.{Accepted, Refused}
 use Rattle.condition.specs.declared.Judge.{Judge}
 use Rattle.condition.specs.Record.{is_sound, begun, ended}
 use Rattle.judge.specs.Judge.{steps}
@@ -23,7 +23,7 @@ use Rattle.wage_file.specs.Right.{Payments, File, group_lines, orders_in, amount
 use Rattle.wage_file.proofs.Laws.{pieces_append}
 
 -- a whole file is accepted, and these counts told, exactly when its pieces are the lines of a right file with these counts
-pub file_accepted_exactly : (day : ℕ) (s : List ℕ) (n : Counts) → (file_answer day s ≡ Accepted n) ↔ RightLines day (pieces s) n
+pub file_accepted_exactly : (day : ℕ) (s : List ℕ) (n : Counts) → (file_answer day s ≡ Ok n) ↔ RightLines day (pieces s) n
 unfolding file_answer
 file_accepted_exactly day s n = accepted_exactly day (pieces s) n
 
@@ -56,6 +56,6 @@ unfolding file_answer
 of_lines day ls f = ap (λ (ss : List (List ℕ)). ended (steps (begun day) ss)) (pieces_of_lines ls f)
 
 -- an empty file is not finished: 14 at line 1
-pub empty_file : (day : ℕ) → is_date day ≡ true → file_answer day [] ≡ Refused (Unfinished (record { line = 1; field = 0; byte = 0 }))
+pub empty_file : (day : ℕ) → is_date day ≡ true → file_answer day [] ≡ Err (Unfinished (record { line = 1; field = 0; byte = 0 }))
 unfolding file_answer pieces_of begun steps ended is_sound is_within sum_of
 empty_file day e = rw e

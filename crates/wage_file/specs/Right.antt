@@ -1,10 +1,9 @@
 -- Document 01, "The wage file": which lines are a right file, said without a judge. "One 300; then one or more groups, each one 301 and one or
 -- more 309; then one 399 and nothing after", each line's fields right, each group's number and exact sum as declared.
-use Rattle.std.specs.Prelude.{ℕ, ◌+◌, ◌<◌, ◌≤◌, ◌≡◌, true, List, [], ◌∷◌, ◌++◌, length, get_or}
+use Rattle.std.specs.Prelude.{ℕ, ◌+◌, ◌<◌, ◌≤◌, ◌≡◌, true, List, [], ◌∷◌, ◌++◌, length, get_or, Ok}
 use Rattle.dates.specs.Dates.{is_date}
 use Rattle.sums.specs.Sums.{sum_of, number_of, number_in}
 use Rattle.wage_places.specs.declared.LineType.TheVariants.{Label, Group, Order, Closing}
-use Rattle.wage_line.specs.declared.Typed.TheVariants.{Line}
 use Rattle.wage_line.specs.Line.{typed_of}
 use Rattle.wage_places.specs.Places.{part_of}
 use Rattle.wage_fields.specs.Rules.{RightLine}
@@ -72,5 +71,5 @@ pub record RightFile (day : ℕ) (f : File) : Type 0 where
   pub label : RightLine day 0 Label f.label
   pub some : 0 < length f.groups
   pub each : (k : ℕ) → k < length f.groups → RightGroup day (kind_of f.label) (get_or f.groups k (record { head = []; orders = [] }))
-  pub closing : typed_of f.closing ≡ Line Closing
+  pub closing : typed_of f.closing ≡ Ok Closing
   pub limit : length (lines_of f) ≤ 1000000

@@ -9,7 +9,7 @@ ghost use Rattle.wage_line.specs.Pieces.{pieces};
 ghost use Rattle.judge.specs.Judge.{steps};
 ghost use Rattle.wage_file.specs.File.{file_answer};
 
-use condition::{Ending, Judge};
+use condition::Judge;
 
 // The lines of a part of a file, from a record on.
 pub fn lines(from: Judge, s: &[u8]) -> Judge
@@ -32,7 +32,7 @@ pub fn lines(from: Judge, s: &[u8]) -> Judge
 }
 
 // The whole file, for a day of submission.
-pub fn whole(day: u64, s: &[u8]) -> Ending
+pub fn whole(day: u64, s: &[u8]) -> Result<Counts, Refusal>
     ensures { result ≡ file_answer day s.now }
 {
     condition::end(lines(condition::begin(day), s))

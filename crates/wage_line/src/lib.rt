@@ -10,13 +10,6 @@ ghost use Rattle.wage_line.specs.Line.{ends_right, wrong_type, type_from, typed_
 use refusal::{Place, Refusal};
 use wage_places::{LineType, Spot};
 
-// A line's type, or why it has none.
-#[derive(Clone, Copy)]
-pub enum Typed {
-    Line(LineType),
-    Refused(Refusal),
-}
-
 // ---------------------------------------------------------------------------
 // Size, ends, type
 
@@ -34,7 +27,7 @@ fn ends_right(s: &[u8]) -> bool
 }
 
 // No type: 5 at the type's first byte.
-fn wrong_type() -> Typed
+fn wrong_type() -> Result<LineType, Refusal>
     ensures { result ≡ wrong_type }
 {
     let place = Place {
@@ -42,11 +35,11 @@ fn wrong_type() -> Typed
         field: 0,
         byte: 997,
     };
-    Typed::Refused(Refusal::Form(place))
+    Err(Refusal::Form(place))
 }
 
 // The type that three bytes write.
-fn type_from(a: u8, b: u8, c: u8) -> Typed
+fn type_from(a: u8, b: u8, c: u8) -> Result<LineType, Refusal>
     ensures { result ≡ type_from a b c }
 {
     if a != 51 {
@@ -54,9 +47,9 @@ fn type_from(a: u8, b: u8, c: u8) -> Typed
     }
     if b == 48 {
         match c {
-            48 => Typed::Line(LineType::Label),
-            49 => Typed::Line(LineType::Group),
-            57 => Typed::Line(LineType::Order),
+            48 => Ok(LineType::Label),
+            49 => Ok(LineType::Group),
+            57 => Ok(LineType::Order),
             _ => wrong_type(),
         }
     } else {
@@ -66,19 +59,19 @@ fn type_from(a: u8, b: u8, c: u8) -> Typed
         if c != 57 {
             return wrong_type();
         }
-        Typed::Line(LineType::Closing)
+        Ok(LineType::Closing)
     }
 }
 
 // A line's type: 1, 2, then 5.
-pub fn read_type(s: &[u8]) -> Typed
+pub fn read_type(s: &[u8]) -> Result<LineType, Refusal>
     ensures { result ≡ typed_of s.now }
 {
     if s.len() != 1002 {
-        return Typed::Refused(Refusal::Size(refusal::nowhere()));
+        return Err(Refusal::Size(refusal::nowhere()));
     }
     if !ends_right(s) {
-        return Typed::Refused(Refusal::Ends(refusal::nowhere()));
+        return Err(Refusal::Ends(refusal::nowhere()));
     }
     type_from(s[997], s[998], s[999])
 }
@@ -88,8 +81,8 @@ pub fn place(s: &[u8], field: usize) -> &[u8]
     ensures { result.now ≡ place_of s.now field }
 {
     match read_type(s) {
-        Typed::Line(t) => wage_places::part(wage_places::find(t, field), s),
-        Typed::Refused(_) => &s[..0],
+        Ok(t) => wage_places::part(wage_places::find(t, field), s),
+        Err(_) => &s[..0],
     }
 }
 

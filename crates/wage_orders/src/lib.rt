@@ -18,15 +18,15 @@ fn judge_lines(day: u64, kind: u64, s: &[u8]) -> Answer
     let mut at: usize = 0;
     'lines: loop {
         if s.len() <= at {
-            break 'lines Answer::Accepted;
+            break 'lines Ok(());
         }
         match lent_order::judge_order(day, kind, n, wage_line::piece(s, at)) {
-            Answer::Accepted => {
+            Ok(()) => {
                 n += 1;
                 at = wage_line::next_piece(s, at);
             }
-            Answer::Refused(r) => {
-                break 'lines Answer::Refused(r);
+            Err(r) => {
+                break 'lines Err(r);
             }
         }
     }
@@ -37,13 +37,13 @@ pub fn judge(day: u64, kind: u64, s: &[u8]) -> Answer
     ensures { result ≡ group_orders day kind s.now }
 {
     if s.len() % 1002 != 0 {
-        return Answer::Refused(Refusal::Size(refusal::nowhere()));
+        return Err(Refusal::Size(refusal::nowhere()));
     }
     if s.len() == 0 {
-        return Answer::Refused(Refusal::Misplaced(refusal::nowhere()));
+        return Err(Refusal::Misplaced(refusal::nowhere()));
     }
     if 99999 < s.len() / 1002 {
-        return Answer::Refused(Refusal::Orders(refusal::nowhere()));
+        return Err(Refusal::Orders(refusal::nowhere()));
     }
     judge_lines(day, kind, s)
 }

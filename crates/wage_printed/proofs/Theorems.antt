@@ -1,11 +1,12 @@
 -- What is printed of a wage file stands in a room of 108 bytes, and a file read in parts of whole lines gets the whole file's line.
 -- Assumes nothing.
 use Rattle.refusal.proofs.Basics.{◌≡◌, refl, sym, ◌∙◌, arith, ℕ, ◌%◌, ◌≤◌, length, take, drop, List, [], ◌∷◌, ◌++◌, append_assoc}
+use Rattle.std.specs.Prelude.{Result, Ok, Err}
+use Rattle.refusal.specs.declared.Refusal.{Refusal}
+use Rattle.condition.specs.declared.Counts.{Counts}
 use Rattle.text.specs.Split.{joined}
 use Rattle.wage_line.specs.Pieces.{pieces}
 use Rattle.condition.specs.declared.Judge.{Judge}
-use Rattle.condition.specs.declared.Ending.{Ending}
-use Rattle.condition.specs.declared.Ending.TheVariants.{Accepted, Refused}
 use Rattle.condition.specs.Record.{begun, ended}
 use Rattle.judge.specs.Judge.{steps}
 use Rattle.wage_file.specs.File.{file_answer}
@@ -17,16 +18,16 @@ use Rattle.wage_printed.specs.FilePrinted.{day_told, accepted_word, lines_word, 
 -- ---------------------------------------------------------------------------
 -- How long it is
 
-pub ending_at_most : (e : Ending) → length (ending_printed e) ≤ 108
+pub ending_at_most : (e : Result Counts Refusal) → length (ending_printed e) ≤ 108
 unfolding ending_printed
-ending_at_most (Accepted n) =
+ending_at_most (Ok n) =
     both_at_most (counted accepted_word n.lines) _ 29 79 (counted_at_most accepted_word n.lines)
     (both_at_most (counted lines_word n.tally.groups) _ 27 52 (counted_at_most lines_word n.tally.groups)
     (both_at_most (counted groups_word n.tally.orders) orders_word 28 24 (counted_at_most groups_word n.tally.orders) (omega arith)))
-ending_at_most (Refused r) = refused_at_most r
+ending_at_most (Err r) = refused_at_most r
 
 -- in a room of 108 bytes the call leaves all of it at the front
-pub file_printed_whole : (e : Ending) (out : List ℕ) (r : ℕ) (after : List ℕ) → Puts (ending_printed e) 0 out r after → 108 ≤ length out → take r after ≡ ending_printed e
+pub file_printed_whole : (e : Result Counts Refusal) (out : List ℕ) (r : ℕ) (after : List ℕ) → Puts (ending_printed e) 0 out r after → 108 ≤ length out → take r after ≡ ending_printed e
 file_printed_whole e out r after p h = let b = ending_at_most e in printed_whole (ending_printed e) out r after p (omega arith)
 
 -- ---------------------------------------------------------------------------

@@ -3,13 +3,12 @@
 // Document 01, "Wet slips".
 #![tactic(auto)]
 
-ghost use Rattle.std.specs.Prelude.{◌≡◌};
+ghost use Rattle.std.specs.Prelude.{◌≡◌, Ok};
 ghost use Rattle.printed.specs.Printed.{Puts};
-ghost use Rattle.condition.specs.declared.Ending.TheVariants.{Accepted};
 ghost use Rattle.wage_printed.specs.FilePrinted.{day_told, ending_printed};
 
 use classes::Class;
-use condition::{Counts, Ending};
+use condition::Counts;
 
 // The day that the first line tells; 0, which is no date, if it is not eight digits and a line feed.
 pub fn day(s: &[u8]) -> u64
@@ -29,7 +28,7 @@ pub fn day(s: &[u8]) -> u64
 
 // What is printed of an accepted file.
 fn put_counts(c: Counts, out: &mut [u8]) -> usize
-    ensures { Puts (ending_printed (Accepted c)) 0 out.old result out.new }
+    ensures { Puts (ending_printed (Ok c)) 0 out.old result out.new }
 {
     let lines = c.lines;
     let tally = c.tally;
@@ -42,11 +41,11 @@ fn put_counts(c: Counts, out: &mut [u8]) -> usize
 }
 
 // What is printed of a file's answer; the answer is how many bytes it has, as far as there is room.
-pub fn print(e: Ending, out: &mut [u8]) -> usize
+pub fn print(e: Result<Counts, Refusal>, out: &mut [u8]) -> usize
     ensures { Puts (ending_printed e) 0 out.old result out.new }
 {
     match e {
-        Ending::Accepted(c) => put_counts(c, out),
-        Ending::Refused(r) => printed::put_refused(out, 0, r),
+        Ok(c) => put_counts(c, out),
+        Err(r) => printed::put_refused(out, 0, r),
     }
 }

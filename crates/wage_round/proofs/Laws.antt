@@ -1,9 +1,8 @@
 -- Laws of written lines: what an accepted answer says of the day, the kind, the orders and the fields, the numbers that a 301 declares, and
 -- lines one behind the other. Assumes nothing.
 use Rattle.refusal.proofs.Basics.{◌≡◌, refl, ◌∙◌, arith, ℕ, zero, suc, ◌*◌, ◌/◌, ◌^◌, ◌≤◌, ◌<◌, length, length-append, length-map, le-leb, List, [], ◌∷◌, ◌++◌, map, Bool, true, false, cond, ◌||◌, eqb, both_true}
-use Rattle.refusal.specs.Refusal.{none, first_of}
-use Rattle.refusal.specs.declared.Answer.{Answer}
-use Rattle.refusal.specs.declared.Answer.TheVariants.{Accepted, Refused}
+use Rattle.std.specs.Prelude.{Ok, Err}
+use Rattle.refusal.specs.Refusal.{Answer, none, first_of}
 use Rattle.refusal.specs.declared.Refusal.TheVariants.{Form, Date}
 use Rattle.text.specs.Bytes.{all_of}
 use Rattle.text.specs.Split.{joined}
@@ -43,24 +42,24 @@ use Rattle.wage_round.specs.Round.{five_parts, five_sizes, read_five}
 -- What an accepted answer says
 
 -- the day is a date
-day_passed : (day : ℕ) (rest : Answer) → for_day day rest ≡ Accepted → (is_date day ≡ true) × (rest ≡ Accepted)
+day_passed : (day : ℕ) (rest : Answer) → for_day day rest ≡ Ok tt → (is_date day ≡ true) × (rest ≡ Ok tt)
 day_passed day rest e = go (is_date day) refl e
   where
-    go : (b : Bool) → is_date day ≡ b → cond b rest (Refused (Date none)) ≡ Accepted → (is_date day ≡ true) × (rest ≡ Accepted)
+    go : (b : Bool) → is_date day ≡ b → cond b rest (Err (Date none)) ≡ Ok tt → (is_date day ≡ true) × (rest ≡ Ok tt)
     go true f g = (f, g)
     go false f g = let z : ◌≡◌ {A = ℕ} 0 1 = cc in absurd (omega arith)
 
 -- the kind is 4 or 5
-kind_passed : (kind : ℕ) (rest : Answer) → for_kind kind rest ≡ Accepted → ((eqb kind 4 || eqb kind 5) ≡ true) × (rest ≡ Accepted)
+kind_passed : (kind : ℕ) (rest : Answer) → for_kind kind rest ≡ Ok tt → ((eqb kind 4 || eqb kind 5) ≡ true) × (rest ≡ Ok tt)
 kind_passed kind rest e = go (eqb kind 4 || eqb kind 5) refl e
   where
-    go : (b : Bool) → (eqb kind 4 || eqb kind 5) ≡ b → cond b rest (Refused (Form none)) ≡ Accepted → ((eqb kind 4 || eqb kind 5) ≡ true) × (rest ≡ Accepted)
+    go : (b : Bool) → (eqb kind 4 || eqb kind 5) ≡ b → cond b rest (Err (Form none)) ≡ Ok tt → ((eqb kind 4 || eqb kind 5) ≡ true) × (rest ≡ Ok tt)
     go true f g = (f, g)
     go false f g = let z : ◌≡◌ {A = ℕ} 0 1 = cc in absurd (omega arith)
 
 module _ (day room : ℕ) where
   -- of a 300: the day, and an accepted draft
-  pub label_passed : (fs : List (List ℕ)) → label_answer day fs room ≡ Accepted → (is_date day ≡ true) × DraftedRight day 0 Label fs (label_draft day fs).line
+  pub label_passed : (fs : List (List ℕ)) → label_answer day fs room ≡ Ok tt → (is_date day ≡ true) × DraftedRight day 0 Label fs (label_draft day fs).line
   unfolding label_answer
   label_passed fs e =
       let d = day_passed day (first_of (label_draft day fs).answer (for_room room)) e in
@@ -68,13 +67,13 @@ module _ (day room : ℕ) where
       (d.0, drafted_right day 0 Label fs f.0)
 
   -- of a 399: the day
-  pub closing_passed : closing_answer day room ≡ Accepted → is_date day ≡ true
+  pub closing_passed : closing_answer day room ≡ Ok tt → is_date day ≡ true
   unfolding closing_answer
   closing_passed e = (day_passed day (for_room room) e).0
 
   module _ (kind : ℕ) (fs : List (List ℕ)) where
     -- of a 309: an accepted draft
-    pub order_passed : order_answer day kind fs room ≡ Accepted → DraftedRight day kind Order fs (order_draft day kind fs).line
+    pub order_passed : order_answer day kind fs room ≡ Ok tt → DraftedRight day kind Order fs (order_draft day kind fs).line
     unfolding order_answer
     order_passed e =
         let d = day_passed day (for_kind kind (first_of (order_draft day kind fs).answer (for_room room))) e in
@@ -84,8 +83,8 @@ module _ (day room : ℕ) where
 
     -- of a 301: accepted orders, and an accepted draft
     pub group_passed :
-        (orders : List ℕ) → group_answer day kind fs orders room ≡ Accepted
-        → (group_orders day kind orders ≡ Accepted) × DraftedRight day kind Group (group_fields fs (length orders / 1002) (amounts (pieces orders))) (group_draft day kind fs orders).line
+        (orders : List ℕ) → group_answer day kind fs orders room ≡ Ok tt
+        → (group_orders day kind orders ≡ Ok tt) × DraftedRight day kind Group (group_fields fs (length orders / 1002) (amounts (pieces orders))) (group_draft day kind fs orders).line
     unfolding group_answer
     group_passed orders e =
         let a = (group_draft day kind fs orders).answer in
@@ -99,28 +98,28 @@ module _ (day room : ℕ) where
 -- What makes an answer acceptance
 
 -- there is room for a line
-room_passes : (room : ℕ) → 1002 ≤ room → for_room room ≡ Accepted
+room_passes : (room : ℕ) → 1002 ≤ room → for_room room ≡ Ok tt
 room_passes room h = rw (le-leb 1002 room h)
 
 module _ (day room : ℕ) (dated : is_date day ≡ true) (enough : 1002 ≤ room) where
   -- of a 300
-  pub label_passes : (fs : List (List ℕ)) → (label_draft day fs).answer ≡ Accepted → label_answer day fs room ≡ Accepted
+  pub label_passes : (fs : List (List ℕ)) → (label_draft day fs).answer ≡ Ok tt → label_answer day fs room ≡ Ok tt
   unfolding label_answer
   label_passes fs e = rw (dated, e) (room_passes room enough)
 
   -- of a 399
-  pub closing_passes : closing_answer day room ≡ Accepted
+  pub closing_passes : closing_answer day room ≡ Ok tt
   unfolding closing_answer
   closing_passes = rw dated (room_passes room enough)
 
   module _ (kind : ℕ) (known : (eqb kind 4 || eqb kind 5) ≡ true) (fs : List (List ℕ)) where
     -- of a 309
-    pub order_passes : (order_draft day kind fs).answer ≡ Accepted → order_answer day kind fs room ≡ Accepted
+    pub order_passes : (order_draft day kind fs).answer ≡ Ok tt → order_answer day kind fs room ≡ Ok tt
     unfolding order_answer
     order_passes e = rw (dated, known, e) (room_passes room enough)
 
     -- of a 301
-    pub group_passes : (orders : List ℕ) → group_orders day kind orders ≡ Accepted → (group_draft day kind fs orders).answer ≡ Accepted → group_answer day kind fs orders room ≡ Accepted
+    pub group_passes : (orders : List ℕ) → group_orders day kind orders ≡ Ok tt → (group_draft day kind fs orders).answer ≡ Ok tt → group_answer day kind fs orders room ≡ Ok tt
     unfolding group_answer
     group_passes orders o e = rw (dated, known, o, e) (room_passes room enough)
 
@@ -191,7 +190,7 @@ pub declared : (day kind : ℕ) (g : Payments) → RightGroup day kind g → Dec
 unfolding spots spot_in
 declared day kind g w =
     let s = g.head in
-    let f : places_answer day kind Group s ≡ Accepted = w.head.fields in
+    let f : places_answer day kind Group s ≡ (Ok tt) = w.head.fields in
     let whole : length s ≡ 1002 = ((typed_exactly Group s).0 w.head.typed).whole in
     let l5 : length (part_of Group 5 s) ≡ 5 = field_size Group s whole 5 in
     let l6 : length (part_of Group 6 s) ≡ 20 = field_size Group s whole 6 in

@@ -1,14 +1,13 @@
 -- What is promised of writer and judge together: a written line is right and reads back as the fields that it was written from; lines written in
 -- order are an accepted file; a right line, and a right file, read and written again are the same. Assumes nothing.
 use Rattle.refusal.proofs.Basics.{◌≡◌, refl, sym, ap, ◌∙◌, arith, ℕ, zero, suc, ◌/◌, ◌%◌, ◌≤◌, ◌<◌, length, get_or, length-map, List, [], ◌∷◌, map, true, ◌||◌, eqb}
-use Rattle.refusal.specs.declared.Answer.TheVariants.{Accepted}
+use Rattle.std.specs.Prelude.{Ok}
 use Rattle.text.specs.Digits.{digits_text}
 use Rattle.text.specs.Split.{joined}
 use Rattle.dates.specs.Dates.{is_date}
 use Rattle.room.proofs.Digits.{number_back}
 use Rattle.wage_places.specs.declared.LineType.{LineType}
 use Rattle.wage_places.specs.declared.LineType.TheVariants.{Label, Group, Order, Closing}
-use Rattle.wage_line.specs.declared.Typed.TheVariants.{Line}
 use Rattle.wage_places.specs.Places.{spots, spot_in, part_of}
 use Rattle.wage_line.specs.Line.{typed_of, place_of}
 use Rattle.wage_line.specs.Pieces.{pieces}
@@ -16,7 +15,6 @@ use Rattle.wage_line.proofs.PieceLaws.{Each, AllWhole, whole_pieces, pieces_of_l
 use Rattle.wage_places.proofs.Theorems.{place_at, found_spot}
 use Rattle.wage_line.proofs.Theorems.{place_typed, typed_exactly}
 use Rattle.condition.specs.declared.Counts.{Counts}
-use Rattle.condition.specs.declared.Ending.TheVariants as ending
 use Rattle.wage_fields.specs.Rules.{RightLine}
 use Rattle.worked_out.specs.Amounts.{amounts}
 use Rattle.wage_file.specs.Right.{Payments, File, group_lines, lines_of, counts_in, kind_of, RightGroup, RightFile}
@@ -54,7 +52,7 @@ module _ (day kind : ℕ) (t : LineType) (fs : List (List ℕ)) (line : List ℕ
 -- A written line is right
 
 module _ (day room : ℕ) where
-  module _ (fs : List (List ℕ)) (e : label_answer day fs room ≡ Accepted) where
+  module _ (fs : List (List ℕ)) (e : label_answer day fs room ≡ Ok tt) where
     -- a 300 that the writer accepts is one that the judge accepts
     pub written_label_right : RightLine day 0 Label (label_draft day fs).line
     written_label_right = let w = (label_passed day room fs e).1 in record { typed = w.typed; fields = w.right }
@@ -67,7 +65,7 @@ module _ (day room : ℕ) where
     pub written_label_reads_back : (k : ℕ) → k < length (spots Label) → place_of (label_draft day fs).line (place_at Label k).field ≡ get_or fs k []
     written_label_reads_back = drafted_reads_back day 0 Label fs (label_draft day fs).line (label_passed day room fs e).1
 
-  module _ (kind : ℕ) (fs : List (List ℕ)) (e : order_answer day kind fs room ≡ Accepted) where
+  module _ (kind : ℕ) (fs : List (List ℕ)) (e : order_answer day kind fs room ≡ Ok tt) where
     -- so is a 309
     pub written_order_right : RightLine day kind Order (order_draft day kind fs).line
     written_order_right = let w = order_passed day room kind fs e in record { typed = w.typed; fields = w.right }
@@ -80,7 +78,7 @@ module _ (day room : ℕ) where
     pub written_order_reads_back : (k : ℕ) → k < length (spots Order) → place_of (order_draft day kind fs).line (place_at Order k).field ≡ get_or fs k []
     written_order_reads_back = drafted_reads_back day kind Order fs (order_draft day kind fs).line (order_passed day room kind fs e)
 
-  module _ (kind : ℕ) (fs : List (List ℕ)) (orders : List ℕ) (e : group_answer day kind fs orders room ≡ Accepted) where
+  module _ (kind : ℕ) (fs : List (List ℕ)) (orders : List ℕ) (e : group_answer day kind fs orders room ≡ Ok tt) where
     -- a 301 that the writer accepts heads a right group of the lent orders
     pub written_group_right : RightGroup day kind (record { head = (group_draft day kind fs orders).line; orders = pieces orders })
     unfolding spots spot_in
@@ -117,7 +115,7 @@ module _ (day room : ℕ) where
         drafted_reads_back day kind Group (group_fields fs (length orders / 1002) (amounts (pieces orders))) (group_draft day kind fs orders).line (group_passed day room kind fs orders e).1
 
 -- the line that the writer of a 399 writes is one
-pub written_closing_right : typed_of (bare_line Closing) ≡ Line Closing
+pub written_closing_right : typed_of (bare_line Closing) ≡ Ok Closing
 written_closing_right = bare_line_lem Closing
 
 -- and holds nothing else
@@ -129,12 +127,12 @@ written_closing_plain = bare_plain Closing
 
 module _ (day kind : ℕ) (t : LineType) (s : List ℕ) (right : RightLine day kind t s) (plain : PlainElsewhere t s) where
   -- of each type: its own fields are a draft of it
-  pub line_again : drafted day kind t (spots t) (read_fields t s) (bare_line t) ≡ record { answer = Accepted; line = s }
+  pub line_again : drafted day kind t (spots t) (read_fields t s) (bare_line t) ≡ record { answer = Ok tt; line = s }
   line_again = rw (fields_of_parts t s ((typed_exactly t s).0 right.typed).whole) (right_drafted day kind t s right.typed right.fields plain)
 
 module _ (day room : ℕ) (dated : is_date day ≡ true) (enough : 1002 ≤ room) (s : List ℕ) where
   -- a 300
-  pub label_again : RightLine day 0 Label s → PlainElsewhere Label s → (label_answer day (read_fields Label s) room ≡ Accepted) × ((label_draft day (read_fields Label s)).line ≡ s)
+  pub label_again : RightLine day 0 Label s → PlainElsewhere Label s → (label_answer day (read_fields Label s) room ≡ Ok tt) × ((label_draft day (read_fields Label s)).line ≡ s)
   label_again w p =
       let e = line_again day 0 Label s w p in
       (label_passes day room dated enough (read_fields Label s) (ap (λ (d : Draft). d.answer) e), ap (λ (d : Draft). d.line) e)
@@ -142,13 +140,13 @@ module _ (day room : ℕ) (dated : is_date day ≡ true) (enough : 1002 ≤ room
   -- a 309 under kind 4 or 5
   pub order_again :
       (kind : ℕ) → (eqb kind 4 || eqb kind 5) ≡ true → RightLine day kind Order s → PlainElsewhere Order s
-      → (order_answer day kind (read_fields Order s) room ≡ Accepted) × ((order_draft day kind (read_fields Order s)).line ≡ s)
+      → (order_answer day kind (read_fields Order s) room ≡ Ok tt) × ((order_draft day kind (read_fields Order s)).line ≡ s)
   order_again kind known w p =
       let e = line_again day kind Order s w p in
       (order_passes day room dated enough kind known (read_fields Order s) (ap (λ (d : Draft). d.answer) e), ap (λ (d : Draft). d.line) e)
 
   -- a 399, which has no fields
-  pub closing_again : PlainElsewhere Closing s → (closing_answer day room ≡ Accepted) × (bare_line Closing ≡ s)
+  pub closing_again : PlainElsewhere Closing s → (closing_answer day room ≡ Ok tt) × (bare_line Closing ≡ s)
   unfolding spots blanked
   closing_again p = (closing_passes day room dated enough, sym p)
 
@@ -174,12 +172,12 @@ module _ (day : ℕ) where
   file_whole f w (suc k) h =
       whole_append (group_lines f.groups) (f.closing ∷ []) (groups_whole (kind_of f.label) f.groups w.each) (closing_whole f.closing w.closing) k (omega arith)
     where
-      closing_whole : (s : List ℕ) → typed_of s ≡ Line Closing → AllWhole (s ∷ [])
+      closing_whole : (s : List ℕ) → typed_of s ≡ Ok Closing → AllWhole (s ∷ [])
       closing_whole s e zero h = ((typed_exactly Closing s).0 e).whole
       closing_whole s e (suc k) h = absurd (omega arith)
 
   -- the lines of a right file, one behind the other, are accepted, with its counts
-  pub right_file_accepted : (f : File) → RightFile day f → file_answer day (joined (lines_of f)) ≡ ending.Accepted (counts_in f)
+  pub right_file_accepted : (f : File) → RightFile day f → file_answer day (joined (lines_of f)) ≡ Ok (counts_in f)
   right_file_accepted f w =
       of_lines day (lines_of f) (file_whole f w) ∙
       (accepted_exactly day (lines_of f) (counts_in f)).1 (record { file = f; lines = refl; right = w; counts = refl })
@@ -201,7 +199,7 @@ module _ (day : ℕ) where
       where
         written_each :
             (kind : ℕ) (gs : List GivenGroup) (room : ℕ → ℕ)
-            → ((k : ℕ) → k < length gs → group_answer day kind (get_or gs k no_given).fields (get_or gs k no_given).orders (room k) ≡ Accepted)
+            → ((k : ℕ) → k < length gs → group_answer day kind (get_or gs k no_given).fields (get_or gs k no_given).orders (room k) ≡ Ok tt)
             → Each (RightGroup day kind) no_group (map (written_group day kind) gs)
         written_each kind [] room f k h = absurd (omega arith)
         written_each kind (g ∷ gs) room f zero h = written_group_right day (room 0) kind g.fields g.orders (f 0 (omega arith))
@@ -221,7 +219,7 @@ module _ (day : ℕ) where
       where
         plain_each :
             (kind : ℕ) (gs : List GivenGroup) (room : ℕ → ℕ)
-            → ((k : ℕ) → k < length gs → group_answer day kind (get_or gs k no_given).fields (get_or gs k no_given).orders (room k) ≡ Accepted)
+            → ((k : ℕ) → k < length gs → group_answer day kind (get_or gs k no_given).fields (get_or gs k no_given).orders (room k) ≡ Ok tt)
             → ((k j : ℕ) → k < length gs → j < length (pieces (get_or gs k no_given).orders) → PlainElsewhere Order (get_or (pieces (get_or gs k no_given).orders) j []))
             → Each PlainGroup no_group (map (written_group day kind) gs)
         plain_each kind [] room f q k h = absurd (omega arith)
@@ -231,7 +229,7 @@ module _ (day : ℕ) where
             plain_each kind gs (λ n. room (suc n)) (λ n i. f (suc n) (omega arith)) (λ n j i m. q (suc n) j (omega arith) m) k (omega arith)
 
     -- and the judge accepts it, with its counts
-    pub written_file_accepted : file_answer day (joined (lines_of (written_file day w))) ≡ ending.Accepted (counts_in (written_file day w))
+    pub written_file_accepted : file_answer day (joined (lines_of (written_file day w))) ≡ Ok (counts_in (written_file day w))
     written_file_accepted = right_file_accepted (written_file day w) written_file_right
 
 -- ---------------------------------------------------------------------------
@@ -241,7 +239,7 @@ module _ (day kind : ℕ) where
   -- right orders, one behind the other: one or more, at most 99,999
   pub right_orders_taken :
       (ls : List (List ℕ)) → 0 < length ls → length ls ≤ 99999 → ((k : ℕ) → k < length ls → RightLine day kind Order (get_or ls k []))
-      → group_orders day kind (joined ls) ≡ Accepted
+      → group_orders day kind (joined ls) ≡ Ok tt
   right_orders_taken ls some few f =
       let whole : AllWhole ls = λ k h. ((typed_exactly Order (get_or ls k [])).0 (f k h).typed).whole in
       let l = whole_length ls whole in
@@ -250,14 +248,14 @@ module _ (day kind : ℕ) where
   -- such are the 309s that the writer wrote
   pub written_orders_taken :
       (fss : List (List (List ℕ))) (room : ℕ → ℕ) → 0 < length fss → length fss ≤ 99999
-      → ((k : ℕ) → k < length fss → order_answer day kind (get_or fss k []) (room k) ≡ Accepted)
-      → group_orders day kind (joined (written_orders day kind fss)) ≡ Accepted
+      → ((k : ℕ) → k < length fss → order_answer day kind (get_or fss k []) (room k) ≡ Ok tt)
+      → group_orders day kind (joined (written_orders day kind fss)) ≡ Ok tt
   written_orders_taken fss room some few f =
       let l = length-map fss (λ (fs : List (List ℕ)). (order_draft day kind fs).line) in
       right_orders_taken (written_orders day kind fss) (omega arith) (omega arith) (written_each fss room f)
     where
       written_each :
-          (gss : List (List (List ℕ))) (rooms : ℕ → ℕ) → ((k : ℕ) → k < length gss → order_answer day kind (get_or gss k []) (rooms k) ≡ Accepted)
+          (gss : List (List (List ℕ))) (rooms : ℕ → ℕ) → ((k : ℕ) → k < length gss → order_answer day kind (get_or gss k []) (rooms k) ≡ Ok tt)
           → Each (RightLine day kind Order) [] (written_orders day kind gss)
       written_each [] rooms g k h = absurd (omega arith)
       written_each (fs ∷ gss) rooms g zero h = written_order_right day (rooms 0) kind fs (g 0 (omega arith))
@@ -289,7 +287,7 @@ module _ (day room : ℕ) (dated : is_date day ≡ true) (enough : 1002 ≤ room
     -- the 301 of a right group of lent orders, from its five fields
     pub group_again :
         (s orders : List ℕ) → length orders % 1002 ≡ 0 → RightGroup day kind (record { head = s; orders = pieces orders }) → PlainElsewhere Group s
-        → (group_answer day kind (read_five s) orders room ≡ Accepted) × ((group_draft day kind (read_five s) orders).line ≡ s)
+        → (group_answer day kind (read_five s) orders room ≡ Ok tt) × ((group_draft day kind (read_five s) orders).line ≡ s)
     group_again s orders whole w p =
         let n = length orders / 1002 in
         let cents = amounts (pieces orders) in
@@ -300,11 +298,11 @@ module _ (day room : ℕ) (dated : is_date day ≡ true) (enough : 1002 ≤ room
         let some : 0 < length (pieces orders) = w.some in
         let bytes : length s ≡ 1002 = ((typed_exactly Group s).0 w.head.typed).whole in
         let number : digits_text 5 n ≡ part_of Group 5 s = ap (digits_text 5) (sym l) ∙ d.number in
-        let e : group_draft day kind (read_five s) orders ≡ record { answer = Accepted; line = s } =
+        let e : group_draft day kind (read_five s) orders ≡ record { answer = Ok tt; line = s } =
         ap (λ (fs : List (List ℕ)). group_draft day kind fs orders) (five_read s bytes) ∙
         ap (λ (fs : List (List ℕ)). drafted day kind Group (spots Group) fs (bare_line Group)) (seven_parts s bytes n cents number d.sum) ∙
         right_drafted day kind Group s w.head.typed w.head.fields p in
-        let o : group_orders day kind orders ≡ Accepted = (orders_right day kind orders).1 (whole, omega arith, omega arith, w.each) in
+        let o : group_orders day kind orders ≡ (Ok tt) = (orders_right day kind orders).1 (whole, omega arith, omega arith, w.each) in
         (group_passes day room dated enough kind known (read_five s) orders o (ap (λ (d : Draft). d.answer) e), ap (λ (d : Draft). d.line) e)
 
     -- right orders, each from its fields
@@ -319,7 +317,7 @@ module _ (day room : ℕ) (dated : is_date day ≡ true) (enough : 1002 ≤ room
     -- a right group, its 301 and its orders
     pub payments_again :
         (g : Payments) → RightGroup day kind g → PlainGroup g
-        → (group_answer day kind (read_group day kind g).fields (read_group day kind g).orders room ≡ Accepted) × (written_group day kind (read_group day kind g) ≡ g)
+        → (group_answer day kind (read_group day kind g).fields (read_group day kind g).orders room ≡ Ok tt) × (written_group day kind (read_group day kind g) ≡ g)
     payments_again g w p =
         let os = g.orders in
         let e : (read_group day kind g).orders ≡ joined os = ap joined (orders_again os w.each p.each) in
@@ -346,18 +344,18 @@ module _ (day room : ℕ) (dated : is_date day ≡ true) (enough : 1002 ≤ room
     groups_accepted :
         (gs : List Payments) → Each (RightGroup day kind) no_group gs → Each PlainGroup no_group gs
         → (k : ℕ) → k < length (map (read_group day kind) gs)
-        → group_answer day kind (get_or (map (read_group day kind) gs) k no_given).fields (get_or (map (read_group day kind) gs) k no_given).orders room ≡ Accepted
+        → group_answer day kind (get_or (map (read_group day kind) gs) k no_given).fields (get_or (map (read_group day kind) gs) k no_given).orders room ≡ Ok tt
     groups_accepted [] f p k h = absurd (omega arith)
     groups_accepted (g ∷ gs) f p zero h = (payments_again g (f 0 (omega arith)) (p 0 (omega arith))).0
     groups_accepted (g ∷ gs) f p (suc k) h = groups_accepted gs (λ i j. f (suc i) (omega arith)) (λ i j. p (suc i) (omega arith)) k (omega arith)
 
 module _ (day : ℕ) (f : File) (right : RightFile day f) (plain : PlainFile f) where
   -- the 300
-  first_again : (label_answer day (read_fields Label f.label) 1002 ≡ Accepted) × ((label_draft day (read_fields Label f.label)).line ≡ f.label)
+  first_again : (label_answer day (read_fields Label f.label) 1002 ≡ Ok tt) × ((label_draft day (read_fields Label f.label)).line ≡ f.label)
   first_again = label_again day 1002 right.dated (omega arith) f.label right.label plain.label
 
   -- the 399
-  last_again : (closing_answer day 1002 ≡ Accepted) × (bare_line Closing ≡ f.closing)
+  last_again : (closing_answer day 1002 ≡ Ok tt) × (bare_line Closing ≡ f.closing)
   last_again = closing_again day 1002 right.dated (omega arith) f.closing plain.closing
 
   -- the kind that the 300 tells
@@ -398,7 +396,7 @@ module _ (day : ℕ) (f : File) (right : RightFile day f) (plain : PlainFile f) 
   pub bytes_again : joined (lines_of (written_file day (read_file day f))) ≡ joined (lines_of f)
   bytes_again = ap (λ (x : File). joined (lines_of x)) file_again
 
-module _ (day : ℕ) (s : List ℕ) (n : Counts) (e : file_answer day s ≡ ending.Accepted n) where
+module _ (day : ℕ) (s : List ℕ) (n : Counts) (e : file_answer day s ≡ Ok n) where
   -- the right file that an accepted one is
   abbrev pub accepted_file : File
   accepted_file = ((file_accepted_exactly day s n).0 e).file

@@ -1,7 +1,6 @@
 -- Document 01, "The wage file", the writer: what the writer was given for a whole file and which file its lines are; and what it is given when
 -- a line, or a whole file, is read and written again.
-use Rattle.std.specs.Prelude.{ℕ, ◌<◌, ◌≤◌, ◌≡◌, List, [], ◌∷◌, map, length, get_or}
-use Rattle.refusal.specs.declared.Answer.TheVariants.{Accepted}
+use Rattle.std.specs.Prelude.{ℕ, ◌<◌, ◌≤◌, ◌≡◌, List, [], ◌∷◌, map, length, get_or, Ok}
 use Rattle.text.specs.Split.{joined}
 use Rattle.wage_places.specs.declared.LineType.{LineType}
 use Rattle.wage_places.specs.declared.LineType.TheVariants.{Label, Group, Order, Closing}
@@ -54,10 +53,10 @@ pub record AllWritten (day : ℕ) (w : Given) : Type 0 where
   pub label_room : ℕ
   pub group_room : ℕ → ℕ
   pub closing_room : ℕ
-  pub label : label_answer day w.label label_room ≡ Accepted
+  pub label : label_answer day w.label label_room ≡ Ok tt
   pub some : 0 < length w.groups
-  pub each : (k : ℕ) → k < length w.groups → group_answer day (kind_given day w) (get_or w.groups k no_given).fields (get_or w.groups k no_given).orders (group_room k) ≡ Accepted
-  pub closing : closing_answer day closing_room ≡ Accepted
+  pub each : (k : ℕ) → k < length w.groups → group_answer day (kind_given day w) (get_or w.groups k no_given).fields (get_or w.groups k no_given).orders (group_room k) ≡ Ok tt
+  pub closing : closing_answer day closing_room ≡ Ok tt
   pub limit : length (lines_of (written_file day w)) ≤ 1000000
 
 -- 309s written from their fields, one behind the other

@@ -1,9 +1,8 @@
 -- Laws of the writer: the sizes of its fields, a draft, and its line put into the room. Assumes nothing.
 use Rattle.refusal.proofs.Basics.{◌≡◌, refl, sym, ◌∙◌, arith, ℕ, ◌-◌, length, take, drop, List, true, false, take_all}
-use Rattle.refusal.specs.Refusal.{none, first_of}
+use Rattle.std.specs.Prelude.{Ok, Err}
+use Rattle.refusal.specs.Refusal.{Answer, none, first_of}
 use Rattle.refusal.specs.declared.Place.{Place}
-use Rattle.refusal.specs.declared.Answer.{Answer}
-use Rattle.refusal.specs.declared.Answer.TheVariants.{Accepted, Refused}
 use Rattle.refusal.specs.declared.Refusal.{Refusal}
 use Rattle.refusal.specs.declared.Refusal.TheVariants.{Size}
 use Rattle.wage_places.specs.declared.LineType.{LineType}
@@ -18,7 +17,7 @@ use Rattle.line_room.proofs.Laws.{accepted_first, refused_first}
 
 module _ (line out : List ℕ) (fields : ℕ) (sizes text : List ℕ) (rest : Answer) where
   -- the sizes are not the text's
-  pub sizes_wrong : (p : Place) → lent_whole fields sizes text ≡ false → p ≡ none → Writes (for_sizes fields sizes text rest) line out (Refused (Size p)) out
+  pub sizes_wrong : (p : Place) → lent_whole fields sizes text ≡ false → p ≡ none → Writes (for_sizes fields sizes text rest) line out (Err (Size p)) out
   sizes_wrong p e n = rw (e, n) (record { answers = refl; leaves = refl })
 
   -- the sizes are the text's
@@ -27,11 +26,11 @@ module _ (line out : List ℕ) (fields : ℕ) (sizes text : List ℕ) (rest : An
 
 module _ (d : Draft) (r : Answer) (line : List ℕ) (w : DraftsRight d r line) (rest : Answer) (out : List ℕ) where
   -- a refused draft leaves the room as it was
-  pub draft_refused : (q : Refusal) → r ≡ Refused q → Writes (first_of d.answer rest) d.line out (Refused q) out
+  pub draft_refused : (q : Refusal) → r ≡ Err q → Writes (first_of d.answer rest) d.line out (Err q) out
   draft_refused q e = refused_first d.line out d.answer rest q (sym w.answers ∙ e)
 
   -- the line of an accepted draft is written
-  pub draft_written : r ≡ Accepted → (s : Answer) (after : List ℕ) → Writes rest line out s after → Writes (first_of d.answer rest) d.line out s after
+  pub draft_written : r ≡ Ok tt → (s : Answer) (after : List ℕ) → Writes rest line out s after → Writes (first_of d.answer rest) d.line out s after
   draft_written e s after p = accepted_first d.line out d.answer rest s after (sym w.answers ∙ e) (rw (w.leaves e) at p)
 
 -- all places of a type, on a line without fields

@@ -1,7 +1,6 @@
 -- Document 01, "The wage file", the writer: "one line into lent room: a 300, 309 or 399 from its fields".
 use Rattle.std.specs.Prelude.{ℕ, List}
-use Rattle.refusal.specs.Refusal.{first_of}
-use Rattle.refusal.specs.declared.Answer.{Answer}
+use Rattle.refusal.specs.Refusal.{Answer, first_of}
 use Rattle.wage_places.specs.declared.LineType.TheVariants.{Label, Order}
 use Rattle.wage_places.specs.Places.{spots}
 use Rattle.bare_line.specs.Bare.{bare_line}

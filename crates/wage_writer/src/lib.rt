@@ -46,9 +46,7 @@ fn write_line(
     ensures { Writes (first_of (drafted day kind t (spots t) (fields_of sizes.now text.now) (bare_line t)).answer (for_room (length out.old))) (drafted day kind t (spots t) (fields_of sizes.now text.now) (bare_line t)).line out.old result out.new }
 {
     let mut line = [32u8; 1002];
-    if let Answer::Refused(r) = draft_line(day, kind, t, text, sizes, &mut line) {
-        return Answer::Refused(r);
-    }
+    draft_line(day, kind, t, text, sizes, &mut line)?;
     line_room::put_line(&line, out)
 }
 
@@ -57,10 +55,10 @@ pub fn write_label(day: u64, text: &[u8], sizes: &[usize], out: &mut [u8]) -> An
     ensures { Writes (for_sizes 8 sizes.now text.now (label_answer day (fields_of sizes.now text.now) (length out.old))) (label_draft day (fields_of sizes.now text.now)).line out.old result out.new }
 {
     if !lent_fields::is_lent_whole(text, sizes, 8) {
-        return Answer::Refused(Refusal::Size(refusal::nowhere()));
+        return Err(Refusal::Size(refusal::nowhere()));
     }
     if !dates::is_date(day) {
-        return Answer::Refused(Refusal::Date(refusal::nowhere()));
+        return Err(Refusal::Date(refusal::nowhere()));
     }
     write_line(day, 0, LineType::Label, text, sizes, out)
 }
@@ -70,13 +68,13 @@ pub fn write_order(day: u64, kind: u64, text: &[u8], sizes: &[usize], out: &mut 
     ensures { Writes (for_sizes 16 sizes.now text.now (order_answer day kind (fields_of sizes.now text.now) (length out.old))) (order_draft day kind (fields_of sizes.now text.now)).line out.old result out.new }
 {
     if !lent_fields::is_lent_whole(text, sizes, 16) {
-        return Answer::Refused(Refusal::Size(refusal::nowhere()));
+        return Err(Refusal::Size(refusal::nowhere()));
     }
     if !dates::is_date(day) {
-        return Answer::Refused(Refusal::Date(refusal::nowhere()));
+        return Err(Refusal::Date(refusal::nowhere()));
     }
     if !line_room::is_kind(kind) {
-        return Answer::Refused(Refusal::Form(refusal::nowhere()));
+        return Err(Refusal::Form(refusal::nowhere()));
     }
     write_line(day, kind, LineType::Order, text, sizes, out)
 }

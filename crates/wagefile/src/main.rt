@@ -6,7 +6,7 @@
 // (wage_printed/proofs/Theorems.antt) says that this prints the line of the whole file.
 #![tactic(auto)]
 
-use condition::{Ending, Judge};
+use condition::Judge;
 use std::io::Read;
 use text::front;
 
@@ -72,7 +72,7 @@ fn read_lines<R: Read>(input: &mut R, from: Judge, buffer: &mut [u8]) -> Progres
 }
 
 // Writes what is printed of the answer: at most 108 bytes.
-fn respond(rt: &(impl Print + Eprint), e: Ending) {
+fn respond(rt: &(impl Print + Eprint), e: Result<Counts, Refusal>) {
     let mut out = [0u8; 108];
     let n = wage_printed::print(e, &mut out);
     words::publish(rt, front(&out, n));

@@ -2,10 +2,10 @@
 -- its hyphens alone, so that one filling tells of all.
 -- Assumes nothing.
 use Rattle.refusal.proofs.Basics.{◌≡◌, refl, sym, ◌∙◌, arith, ℕ, ◌+◌, ◌/◌, ◌%◌, ◌^◌, ◌≤◌, ◌<◌, length, get_or, get_or-eq_default, eq-eqb, le-leb, List, [], ◌∷◌, Bool, true, false, cond, and-false, eqb, entered}
+use Rattle.std.specs.Prelude.{Option, Some, None, Result}
+use Rattle.refusal.specs.declared.Refusal.{Refusal}
 use Rattle.classes.specs.Classes.{is_digit}
 use Rattle.text.specs.Bytes.{marks}
-use Rattle.text.specs.declared.Found.{Found}
-use Rattle.text.specs.declared.Found.TheVariants.{At, Nothing}
 use Rattle.classes.proofs.Laws.{digit_between}
 use Rattle.account.specs.Answers.{is_iban}
 use Rattle.models.specs.declared.Model.{Model}
@@ -20,7 +20,6 @@ use Rattle.fillings.specs.declared.Aim.{Aim}
 use Rattle.fillings.specs.Mirror.{accepts}
 use Rattle.fillings.specs.Fillings.{fillings}
 use Rattle.fillings.specs.Answers.{left_by_listing}
-use Rattle.fillings.specs.declared.Listed.{Listed}
 use Rattle.fillings.proofs.Laws.{ListedBy, taken_on}
 use Rattle.fillings.proofs.Theorems.{changed_rule}
 use Rattle.wet.specs.Wet.{aim_from, wet_iban, iban_listing, model_listing}
@@ -48,10 +47,10 @@ same_shape (b ∷ s) k j = go (eqb b 63) (same_shape s k j)
     go false e = rw e
 
 -- what a model asks of a text is what is asked by what is found of it
-found_asked : (model : Model) (t : List ℕ) (f : Found) → length t ≤ 22 → parts_found model t ≡ f → obeys model t ≡ accepts (aim_from model f) t
+found_asked : (model : Model) (t : List ℕ) (f : Option ℕ) → length t ≤ 22 → parts_found model t ≡ f → obeys model t ≡ accepts (aim_from model f) t
 unfolding accepts
-found_asked model t (At ends) h e = sym (found_obeys model t ends (sym e) _ (omega arith) refl)
-found_asked model t Nothing h e = rw (found_none model t (sym e))
+found_asked model t (Some ends) h e = sym (found_obeys model t ends (sym e) _ (omega arith) refl)
+found_asked model t None h e = rw (found_none model t (sym e))
 
 -- so one filling tells of all
 pub reference_fillings_lem : (model : Model) (s : List ℕ) → length s ≤ 22 → fillings (obeys model) s ≡ fillings (accepts (aim_from model (parts_found model (fill s 0)))) s
@@ -67,13 +66,13 @@ pub short_is_not_wet : (s : List ℕ) → length s < 2 → false ≡ wet_iban s
 short_is_not_wet s h = rw (get_or-eq_default s 0 {n = 1} (omega arith)) (sym (and-false (eqb (get_or s 0 0) 72)))
 
 -- 16 and 15 are the listing's own
-pub iban_listed : (s out : List ℕ) (aim : Aim) (r : Listed) (o : List ℕ) → aim.mendable ≡ true → aim.iban ≡ true → length s ≡ 21 → wet_iban s ≡ true → ListedBy (accepts aim) s out r o → (r ≡ iban_listing s (length out)) × (o ≡ left_by_listing r (fillings is_iban s) out)
+pub iban_listed : (s out : List ℕ) (aim : Aim) (r : Result ℕ Refusal) (o : List ℕ) → aim.mendable ≡ true → aim.iban ≡ true → length s ≡ 21 → wet_iban s ≡ true → ListedBy (accepts aim) s out r o → (r ≡ iban_listing s (length out)) × (o ≡ left_by_listing r (fillings is_iban s) out)
 iban_listed s out aim r o x i n e h =
     let g : ListedBy is_iban s out r o = rw (iban_fillings s aim x i) h in
     (entered _ _ _ _ (eq-eqb (length s) 21 n) (entered _ _ _ _ e (rw (le-leb (length s) 22 (omega arith)) at g.0)), g.1)
 
 -- 15 is
-pub reference_listed : (model : Model) (s out : List ℕ) (r : Listed) (o : List ℕ) → model.handled ≡ true → length s ≤ 22 → marks s ≤ 4 → ListedBy (accepts (aim_from model (parts_found model (fill s 0)))) s out r o → (r ≡ model_listing model s (length out)) × (o ≡ left_by_listing r (fillings (obeys model) s) out)
+pub reference_listed : (model : Model) (s out : List ℕ) (r : Result ℕ Refusal) (o : List ℕ) → model.handled ≡ true → length s ≤ 22 → marks s ≤ 4 → ListedBy (accepts (aim_from model (parts_found model (fill s 0)))) s out r o → (r ≡ model_listing model s (length out)) × (o ≡ left_by_listing r (fillings (obeys model) s) out)
 reference_listed model s out r o e l m h =
     let g : ListedBy (obeys model) s out r o = rw (reference_fillings_lem model s l) h in
     (entered _ _ _ _ e (g.0 ∙ taken_on s l m (obeys model) (length out)), g.1)

@@ -14,10 +14,9 @@ ghost use Rattle.fillings.specs.Answers.{left_by_listing};
 ghost use Rattle.wet.specs.Wet.{wet_iban, iban_listing, aim_from, model_listing, number_listing, number_fillings, reference_listing, reference_fillings};
 
 use classes::Class;
-use fillings::{Aim, Listed};
+use fillings::Aim;
 use models::Model;
 use refusal::Refusal;
-use text::Found;
 
 // Whether a text is `HR` and then digits or `?`.
 fn is_wet_iban(s: &[u8]) -> bool
@@ -36,14 +35,14 @@ fn is_wet_iban(s: &[u8]) -> bool
 }
 
 // The fillings of an IBAN that the rules accept, ascending, at the front of `out`. Refusals: 1, 3, 16, 15.
-pub fn list_iban(s: &[u8], out: &mut [u16]) -> Listed
+pub fn list_iban(s: &[u8], out: &mut [u16]) -> Result<usize, Refusal>
     ensures { (result ≡ iban_listing s.now (length out.old)) × (out.new ≡ left_by_listing result (fillings is_iban s.now) out.old) }
 {
     if s.len() != 21 {
-        return Listed::Refused(Refusal::Size(refusal::nowhere()));
+        return Err(Refusal::Size(refusal::nowhere()));
     }
     if !is_wet_iban(s) {
-        return Listed::Refused(Refusal::Byte(refusal::nowhere()));
+        return Err(Refusal::Byte(refusal::nowhere()));
     }
     let model = models::rules(0);
     fillings::list_into(
@@ -67,13 +66,13 @@ fn aimed(model: Model, s: &[u8]) -> Aim
     let mut t = [0u8; 22];
     filling::filled(s, 0, &mut t);
     match parts::parts(model, &t[..n]) {
-        Found::At(ends) => Aim {
+        Some(ends) => Aim {
             iban: false,
             mendable: true,
             model,
             ends,
         },
-        Found::Nothing => Aim {
+        None => Aim {
             iban: false,
             mendable: false,
             model,
@@ -83,40 +82,40 @@ fn aimed(model: Model, s: &[u8]) -> Aim
 }
 
 // The listing under a model: 7, then 15.
-fn list_model(model: Model, s: &[u8], out: &mut [u16]) -> Listed
+fn list_model(model: Model, s: &[u8], out: &mut [u16]) -> Result<usize, Refusal>
     requires { (length s.now ≤ 22) × (marks s.now ≤ 4) }
     ensures { (result ≡ model_listing model s.now (length out.old)) × (out.new ≡ left_by_listing result (fillings (obeys model) s.now) out.old) }
 {
     let handled = model.handled;
     if !handled {
-        return Listed::Refused(Refusal::Model(refusal::nowhere()));
+        return Err(Refusal::Model(refusal::nowhere()));
     }
     fillings::list_into(aimed(model, s), s, out)
 }
 
 // The listing under a model's number: 5, then what the model says.
-fn list_numbered(number: Found, s: &[u8], out: &mut [u16]) -> Listed
+fn list_numbered(number: Option<usize>, s: &[u8], out: &mut [u16]) -> Result<usize, Refusal>
     requires { (length s.now ≤ 22) × (marks s.now ≤ 4) }
     ensures { (result ≡ number_listing number s.now (length out.old)) × (out.new ≡ left_by_listing result (number_fillings number s.now) out.old) }
 {
     match number {
-        Found::At(n) => list_model(models::rules(n), s, out),
-        Found::Nothing => Listed::Refused(Refusal::Form(refusal::nowhere())),
+        Some(n) => list_model(models::rules(n), s, out),
+        None => Err(Refusal::Form(refusal::nowhere())),
     }
 }
 
 // The fillings of a reference that its model accepts, ascending, at the front of `out`. Refusals: 1, 3, 16, 5, 7, 15.
-pub fn list_reference(model: &[u8], s: &[u8], out: &mut [u16]) -> Listed
+pub fn list_reference(model: &[u8], s: &[u8], out: &mut [u16]) -> Result<usize, Refusal>
     ensures { (result ≡ reference_listing model.now s.now (length out.old)) × (out.new ≡ left_by_listing result (reference_fillings model.now s.now) out.old) }
 {
     if 22 < s.len() {
-        return Listed::Refused(Refusal::Size(refusal::nowhere()));
+        return Err(Refusal::Size(refusal::nowhere()));
     }
     if !text::all_of(Class::WetReference, s) {
-        return Listed::Refused(Refusal::Byte(refusal::nowhere()));
+        return Err(Refusal::Byte(refusal::nowhere()));
     }
     if 4 < text::count(63, s) {
-        return Listed::Refused(Refusal::Marks(refusal::nowhere()));
+        return Err(Refusal::Marks(refusal::nowhere()));
     }
     list_numbered(model_text::number(model), s, out)
 }

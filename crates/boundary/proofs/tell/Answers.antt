@@ -2,10 +2,10 @@
 use Rattle.boundary.specs.Told.{told_of}
 use Rattle.boundary.proofs.tell.Goals as goal
 
-pub returns-in-Accepted : goal.returns-in-Accepted
+pub returns-in-Ok : goal.returns-in-Ok
 unfolding told_of
-returns-in-Accepted c = rw c.in-Accepted.is c.accept.ensures
+returns-in-Ok c = rw c.in-Ok.is c.accept.ensures
 
-pub returns-in-Refused : goal.returns-in-Refused
+pub returns-in-Err : goal.returns-in-Err
 unfolding told_of
-returns-in-Refused c = rw c.in-Refused.is c.refuse.ensures
+returns-in-Err c = rw c.in-Err.is c.refuse.ensures

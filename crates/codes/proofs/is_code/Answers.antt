@@ -3,10 +3,10 @@ use Rattle.refusal.proofs.Basics.{sym, ◌∙◌}
 use Rattle.codes.specs.Codes.{is_code}
 use Rattle.codes.proofs.is_code.Goals as goal
 
-pub returns-in-At : goal.returns-in-At
+pub returns-in-Some : goal.returns-in-Some
 unfolding is_code
-returns-in-At c = rw (sym c.place.ensures ∙ c.in-At.is)
+returns-in-Some c = rw (sym c.place.ensures ∙ c.in-Some.is)
 
-pub returns-in-Nothing : goal.returns-in-Nothing
+pub returns-in-None : goal.returns-in-None
 unfolding is_code
-returns-in-Nothing c = rw (sym c.place.ensures ∙ c.in-Nothing.is)
+returns-in-None c = rw (sym c.place.ensures ∙ c.in-None.is)

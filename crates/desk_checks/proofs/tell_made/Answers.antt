@@ -2,10 +2,10 @@
 use Rattle.desk_checks.specs.Made.{made_of}
 use Rattle.desk_checks.proofs.tell_made.Goals as goal
 
-pub returns-in-Digit : goal.returns-in-Digit
+pub returns-in-Ok : goal.returns-in-Ok
 unfolding made_of
-returns-in-Digit c = rw c.in-Digit.is c.accept_value.ensures
+returns-in-Ok c = rw c.in-Ok.is c.accept_value.ensures
 
-pub returns-in-Refused : goal.returns-in-Refused
+pub returns-in-Err : goal.returns-in-Err
 unfolding made_of
-returns-in-Refused c = rw c.in-Refused.is c.refuse_value.ensures
+returns-in-Err c = rw c.in-Err.is c.refuse_value.ensures

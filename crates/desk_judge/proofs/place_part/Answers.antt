@@ -3,10 +3,10 @@ use Rattle.refusal.proofs.Basics.{sym, ◌∙◌}
 use Rattle.desk_judge.specs.Wages.{place_part}
 use Rattle.desk_judge.proofs.place_part.Goals as goal
 
-pub returns-in-Line : goal.returns-in-Line
+pub returns-in-Ok : goal.returns-in-Ok
 unfolding place_part
-returns-in-Line c = rw (sym c.read_type.ensures ∙ c.in-Line.is, c.find-p.ensures)
+returns-in-Ok c = rw (sym c.read_type.ensures ∙ c.in-Ok.is, c.find-p.ensures)
 
-pub returns-in-Refused : goal.returns-in-Refused
+pub returns-in-Err : goal.returns-in-Err
 unfolding place_part
-returns-in-Refused c = rw (sym c.read_type.ensures ∙ c.in-Refused.is)
+returns-in-Err c = rw (sym c.read_type.ensures ∙ c.in-Err.is)

@@ -2,10 +2,10 @@
 use Rattle.desk_judge.specs.Wages.{ended_of}
 use Rattle.desk_judge.proofs.tell_ending.Goals as goal
 
-pub returns-in-Accepted : goal.returns-in-Accepted
+pub returns-in-Ok : goal.returns-in-Ok
 unfolding ended_of
-returns-in-Accepted c = rw (c.in-Accepted.is, c.accept.ensures)
+returns-in-Ok c = rw (c.in-Ok.is, c.accept.ensures)
 
-pub returns-in-Refused : goal.returns-in-Refused
+pub returns-in-Err : goal.returns-in-Err
 unfolding ended_of
-returns-in-Refused c = rw (c.in-Refused.is, c.nothing.ensures, c.refuse.ensures)
+returns-in-Err c = rw (c.in-Err.is, c.nothing.ensures, c.refuse.ensures)

@@ -2,10 +2,10 @@
 use Rattle.desk_slips.specs.Slips.{cents_told}
 use Rattle.desk_slips.proofs.tell_amount.Goals as goal
 
-pub returns-in-Cents : goal.returns-in-Cents
+pub returns-in-Ok : goal.returns-in-Ok
 unfolding cents_told
-returns-in-Cents c = rw c.in-Cents.is c.accept_value.ensures
+returns-in-Ok c = rw c.in-Ok.is c.accept_value.ensures
 
-pub returns-in-Refused : goal.returns-in-Refused
+pub returns-in-Err : goal.returns-in-Err
 unfolding cents_told
-returns-in-Refused c = rw c.in-Refused.is c.refuse_value.ensures
+returns-in-Err c = rw c.in-Err.is c.refuse_value.ensures

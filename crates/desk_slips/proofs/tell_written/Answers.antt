@@ -2,10 +2,10 @@
 use Rattle.desk_slips.specs.Slips.{written_of}
 use Rattle.desk_slips.proofs.tell_written.Goals as goal
 
-pub returns-in-Bytes : goal.returns-in-Bytes
+pub returns-in-Ok : goal.returns-in-Ok
 unfolding written_of
-returns-in-Bytes c = rw c.in-Bytes.is c.accept_value.ensures
+returns-in-Ok c = rw c.in-Ok.is c.accept_value.ensures
 
-pub returns-in-Refused : goal.returns-in-Refused
+pub returns-in-Err : goal.returns-in-Err
 unfolding written_of
-returns-in-Refused c = rw c.in-Refused.is c.refuse_value.ensures
+returns-in-Err c = rw c.in-Err.is c.refuse_value.ensures

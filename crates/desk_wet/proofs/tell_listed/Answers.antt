@@ -2,10 +2,10 @@
 use Rattle.desk_wet.specs.Listed.{listed_of}
 use Rattle.desk_wet.proofs.tell_listed.Goals as goal
 
-pub returns-in-Count : goal.returns-in-Count
+pub returns-in-Ok : goal.returns-in-Ok
 unfolding listed_of
-returns-in-Count c = rw c.in-Count.is c.accept_value.ensures
+returns-in-Ok c = rw c.in-Ok.is c.accept_value.ensures
 
-pub returns-in-Refused : goal.returns-in-Refused
+pub returns-in-Err : goal.returns-in-Err
 unfolding listed_of
-returns-in-Refused c = rw c.in-Refused.is c.refuse_value.ensures
+returns-in-Err c = rw c.in-Err.is c.refuse_value.ensures

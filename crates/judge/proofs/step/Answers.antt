@@ -6,13 +6,13 @@ pub returns-then-is_refused : goal.returns-then-is_refused
 unfolding stepped
 returns-then-is_refused c = rw (← c.is_refused.ensures, c.if-is_refused.true)
 
-pub returns-in-Line : goal.returns-in-Line
+pub returns-in-Ok : goal.returns-in-Ok
 unfolding stepped
-returns-in-Line c = rw (← c.is_refused.ensures, c.if-is_refused.false, ← c.is_sound.ensures, c.if-is_sound-lines.true, ← c.read_type.ensures, c.in-Line.is) c.type_step.ensures
+returns-in-Ok c = rw (← c.is_refused.ensures, c.if-is_refused.false, ← c.is_sound.ensures, c.if-is_sound-lines.true, ← c.read_type.ensures, c.in-Ok.is) c.type_step.ensures
 
-pub returns-in-Refused : goal.returns-in-Refused
+pub returns-in-Err : goal.returns-in-Err
 unfolding stepped
-returns-in-Refused c = rw (← c.is_refused.ensures, c.if-is_refused.false, ← c.is_sound.ensures, c.if-is_sound-lines.true, ← c.read_type.ensures, c.in-Refused.is, c.refused.ensures, c.in_line.ensures)
+returns-in-Err c = rw (← c.is_refused.ensures, c.if-is_refused.false, ← c.is_sound.ensures, c.if-is_sound-lines.true, ← c.read_type.ensures, c.in-Err.is, c.refused.ensures, c.in_line.ensures)
 
 pub returns-else-is_sound-lines : goal.returns-else-is_sound-lines
 unfolding stepped

@@ -11,10 +11,10 @@ pub returns-then-verdict-ne0 : goal.returns-then-verdict-ne0
 unfolding type_step
 returns-then-verdict-ne0 c = rw (c.refused.ensures, c.at_line.ensures, ← c.stage.ensures, ← c.judge_standing-verdict.ensures, ne_eqb _ _ c.if-verdict-ne0.true)
 
-pub returns-in-Accepted : goal.returns-in-Accepted
+pub returns-in-Ok : goal.returns-in-Ok
 unfolding type_step
-returns-in-Accepted c = rw (← c.stage.ensures, ← c.judge_standing-verdict.ensures, eq-eqb _ _ c.if-verdict-ne0.false, ← c.judge_places.ensures, c.in-Accepted.is) (rw c.requires at c.after.ensures)
+returns-in-Ok c = rw (← c.stage.ensures, ← c.judge_standing-verdict.ensures, eq-eqb _ _ c.if-verdict-ne0.false, ← c.judge_places.ensures, c.in-Ok.is) (rw c.requires at c.after.ensures)
 
-pub returns-in-Refused : goal.returns-in-Refused
+pub returns-in-Err : goal.returns-in-Err
 unfolding type_step
-returns-in-Refused c = rw (← c.stage.ensures, ← c.judge_standing-verdict.ensures, eq-eqb _ _ c.if-verdict-ne0.false, ← c.judge_places.ensures, c.in-Refused.is, c.refused-in-Refused.ensures, c.in_line.ensures)
+returns-in-Err c = rw (← c.stage.ensures, ← c.judge_standing-verdict.ensures, eq-eqb _ _ c.if-verdict-ne0.false, ← c.judge_places.ensures, c.in-Err.is, c.refused-in-Err.ensures, c.in_line.ensures)

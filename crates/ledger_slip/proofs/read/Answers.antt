@@ -7,11 +7,11 @@ use Rattle.slip_handed.proofs.Amounts.{amount_read}
 use Rattle.ledger_slip.specs.Ledger.{currency_of, amount_in, ledger_of}
 use Rattle.ledger_slip.proofs.read.Goals as goal
 
-pub returns-in-Accepted : goal.returns-in-Accepted
+pub returns-in-Ok : goal.returns-in-Ok
 unfolding ledger_of
-returns-in-Accepted c = let s = c.args.s.now in
+returns-in-Ok c = let s = c.args.s.now in
     let k = c.currency-currency.ensures in
-    let a = sym (c.read_in.ensures ∙ ap (λ (x : Currency). slip_answer_in x s) k) ∙ c.in-Accepted.is in
+    let a = sym (c.read_in.ensures ∙ ap (λ (x : Currency). slip_answer_in x s) k) ∙ c.in-Ok.is in
     let n = c.number.ensures ∙ (ap number_in c.piece_text.ensures ∙ amount_read (currency_of s) s a) in
     rw a (c.amount.ensures ∙ (ap (λ (x : Currency). amount_in x c.number.result) k ∙ ap (amount_in (currency_of s)) n))
 

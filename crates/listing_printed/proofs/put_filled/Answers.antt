@@ -4,7 +4,7 @@ use Rattle.refusal.proofs.Basics.{sym, ◌∙◌}
 use Rattle.listing_printed.proofs.Laws.{line_put}
 use Rattle.listing_printed.proofs.put_filled.Goals as goal
 
-pub returns-in-Accepted : goal.returns-in-Accepted
-returns-in-Accepted c = let a = c.args in
+pub returns-in-Ok : goal.returns-in-Ok
+returns-in-Ok c = let a = c.args in
     let w = c.filled.ensures in
-    line_put a.text.now a.number (sym w.0 ∙ c.in-Accepted.is) (w.1 ∙ rw c.in-Accepted.is) c.put.ensures
+    line_put a.text.now a.number (sym w.0 ∙ c.in-Ok.is) (w.1 ∙ rw c.in-Ok.is) c.put.ensures

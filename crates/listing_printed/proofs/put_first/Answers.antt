@@ -3,12 +3,12 @@ use Rattle.printed.proofs.Laws.{puts_then}
 use Rattle.listing_printed.specs.Listing.{first_line}
 use Rattle.listing_printed.proofs.put_first.Goals as goal
 
-pub returns-in-Count : goal.returns-in-Count
+pub returns-in-Ok : goal.returns-in-Ok
 unfolding first_line
-returns-in-Count c = rw c.in-Count.is
+returns-in-Ok c = rw c.in-Ok.is
     (puts_then c.put_number-next.ensures c.put.ensures)
 
-pub returns-in-Refused : goal.returns-in-Refused
+pub returns-in-Err : goal.returns-in-Err
 unfolding first_line
-returns-in-Refused c = rw (c.in-Refused.is, ← c.number-number.ensures)
-    (puts_then c.put_counted-next.ensures c.put-in-Refused.ensures)
+returns-in-Err c = rw (c.in-Err.is, ← c.number-number.ensures)
+    (puts_then c.put_counted-next.ensures c.put-in-Err.ensures)

@@ -7,10 +7,10 @@ pub returns-then-all_blank : goal.returns-then-all_blank
 unfolding held_in
 returns-then-all_blank c = rw (sym c.all_blank.ensures ∙ c.if-all_blank.true)
 
-pub returns-in-At : goal.returns-in-At
+pub returns-in-Some : goal.returns-in-Some
 unfolding held_in
-returns-in-At c = rw (sym c.all_blank.ensures ∙ c.if-all_blank.false, sym c.number.ensures ∙ c.in-At.is)
+returns-in-Some c = rw (sym c.all_blank.ensures ∙ c.if-all_blank.false, sym c.number.ensures ∙ c.in-Some.is)
 
-pub returns-in-Nothing : goal.returns-in-Nothing
+pub returns-in-None : goal.returns-in-None
 unfolding held_in
-returns-in-Nothing c = rw (sym c.all_blank.ensures ∙ c.if-all_blank.false, sym c.number.ensures ∙ c.in-Nothing.is)
+returns-in-None c = rw (sym c.all_blank.ensures ∙ c.if-all_blank.false, sym c.number.ensures ∙ c.in-None.is)

@@ -3,10 +3,10 @@ use Rattle.refusal.proofs.Basics.{sym, ◌∙◌}
 use Rattle.running_total.specs.RunningTotal.{growth_in}
 use Rattle.running_total.proofs.growth.Goals as goal
 
-pub returns-in-Line : goal.returns-in-Line
+pub returns-in-Ok : goal.returns-in-Ok
 unfolding growth_in
-returns-in-Line c = rw (sym c.read_type.ensures ∙ c.in-Line.is) c.growth.ensures
+returns-in-Ok c = rw (sym c.read_type.ensures ∙ c.in-Ok.is) c.growth.ensures
 
-pub returns-in-Refused : goal.returns-in-Refused
+pub returns-in-Err : goal.returns-in-Err
 unfolding growth_in
-returns-in-Refused c = rw (sym c.read_type.ensures ∙ c.in-Refused.is)
+returns-in-Err c = rw (sym c.read_type.ensures ∙ c.in-Err.is)

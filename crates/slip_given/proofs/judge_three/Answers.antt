@@ -3,12 +3,12 @@ use Rattle.refusal.proofs.Basics.{◌≡◌, arith, ◌+◌, [], ◌∷◌}
 use Rattle.slip_given.proofs.Laws.{refused_first, accepted_next}
 use Rattle.slip_given.proofs.judge_three.Goals as goal
 
-pub returns-in-Refused : goal.returns-in-Refused
-returns-in-Refused c = refused_first c.args.n c.args.before.now (c.args.a.now ∷ []) (c.args.b.now ∷ (c.args.c.now ∷ [])) c.judge_one.ensures _ c.in-Refused.is
+pub returns-in-Err : goal.returns-in-Err
+returns-in-Err c = refused_first c.args.n c.args.before.now (c.args.a.now ∷ []) (c.args.b.now ∷ (c.args.c.now ∷ [])) c.judge_one.ensures _ c.in-Err.is
 
-pub returns-in-Refused-judge_one : goal.returns-in-Refused-judge_one
-returns-in-Refused-judge_one c = accepted_next c.args.n c.args.before.now (c.args.a.now ∷ []) (c.args.b.now ∷ (c.args.c.now ∷ [])) c.judge_one.ensures _ c.in_default.is
-    (refused_first (c.args.n + 1) c.args.a.now (c.args.b.now ∷ []) (c.args.c.now ∷ []) c.judge_one-2.ensures _ c.in-Refused-judge_one.is)
+pub returns-in-Err-judge_one : goal.returns-in-Err-judge_one
+returns-in-Err-judge_one c = accepted_next c.args.n c.args.before.now (c.args.a.now ∷ []) (c.args.b.now ∷ (c.args.c.now ∷ [])) c.judge_one.ensures _ c.in_default.is
+    (refused_first (c.args.n + 1) c.args.a.now (c.args.b.now ∷ []) (c.args.c.now ∷ []) c.judge_one-2.ensures _ c.in-Err-judge_one.is)
 
 pub returns : goal.returns
 returns c = let e : c.args.n + 1 + 1 ≡ c.args.n + 2 = omega arith in

@@ -4,12 +4,12 @@ use Rattle.slip.specs.Slip.{piece_of}
 use Rattle.text.proofs.Pieces.{split_at, split_whole}
 use Rattle.slip_handed.proofs.first_length.Goals as goal
 
-pub returns-in-At : goal.returns-in-At
+pub returns-in-Some : goal.returns-in-Some
 unfolding piece_of
-returns-in-At c = let s = c.args.s.now in
-    let d = split_at s _ (sym c.first_bad.ensures ∙ c.in-At.is) in
+returns-in-Some c = let s = c.args.s.now in
+    let d = split_at s _ (sym c.first_bad.ensures ∙ c.in-Some.is) in
     rw d.1 (sym (length-take-le _ s (omega (arith, d.0))))
 
-pub returns-in-Nothing : goal.returns-in-Nothing
+pub returns-in-None : goal.returns-in-None
 unfolding piece_of
-returns-in-Nothing c = rw (split_whole c.args.s.now (sym c.first_bad.ensures ∙ c.in-Nothing.is))
+returns-in-None c = rw (split_whole c.args.s.now (sym c.first_bad.ensures ∙ c.in-None.is))

@@ -3,10 +3,10 @@ use Rattle.refusal.proofs.Basics.{sym, ◌∙◌}
 use Rattle.slip_printed.specs.SlipPrinted.{slip_printed}
 use Rattle.slip_printed.proofs.print.Goals as goal
 
-pub returns-in-Accepted : goal.returns-in-Accepted
+pub returns-in-Ok : goal.returns-in-Ok
 unfolding slip_printed
-returns-in-Accepted c = rw (sym c.read.ensures ∙ c.in-Accepted.is) c.put_accepted.ensures
+returns-in-Ok c = rw (sym c.read.ensures ∙ c.in-Ok.is) c.put_accepted.ensures
 
-pub returns-in-Refused : goal.returns-in-Refused
+pub returns-in-Err : goal.returns-in-Err
 unfolding slip_printed
-returns-in-Refused c = rw (sym c.read.ensures ∙ c.in-Refused.is) c.put_refused.ensures
+returns-in-Err c = rw (sym c.read.ensures ∙ c.in-Err.is) c.put_refused.ensures

@@ -8,10 +8,10 @@ use Rattle.standing_slip.proofs.write.Goals as goal
 pub returns-then-not-is_lent_whole : goal.returns-then-not-is_lent_whole
 returns-then-not-is_lent_whole c = rw c.nowhere.ensures (unsized _ _ _ _ _ _ (sym c.is_lent_whole.ensures ∙ not-true _ c.if-not-is_lent_whole.true-raw))
 
-pub returns-in-Refused : goal.returns-in-Refused
-returns-in-Refused c =
+pub returns-in-Err : goal.returns-in-Err
+returns-in-Err c =
     let judged : c.judge_sheets-judged.result ≡ both_judged c.args.farm.now c.args.association.now = found_judged _ _ _ (c.judge_sheets-judged.ensures ∙ rw (c.read-f.ensures, c.read-a.ensures)) in
-    sheets_refused _ _ _ _ _ _ (sym c.is_lent_whole.ensures ∙ not-false _ c.if-not-is_lent_whole.false-raw) _ (judged) _ c.in-Refused.is
+    sheets_refused _ _ _ _ _ _ (sym c.is_lent_whole.ensures ∙ not-false _ c.if-not-is_lent_whole.false-raw) _ (judged) _ c.in-Err.is
 
 pub returns : goal.returns
 returns c =

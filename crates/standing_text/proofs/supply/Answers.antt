@@ -3,14 +3,14 @@ use Rattle.refusal.proofs.Basics.{sym, ◌∙◌}
 use Rattle.standing_text.specs.Standing.{supplied_by}
 use Rattle.standing_text.proofs.supply.Goals as goal
 
-pub returns-in-At : goal.returns-in-At
+pub returns-in-Some : goal.returns-in-Some
 unfolding supplied_by
-returns-in-At c = rw (sym c.find.ensures ∙ c.in-At.is) c.supplied.ensures
+returns-in-Some c = rw (sym c.find.ensures ∙ c.in-Some.is) c.supplied.ensures
 
-pub returns-in-At-find : goal.returns-in-At-find
+pub returns-in-Some-find : goal.returns-in-Some-find
 unfolding supplied_by
-returns-in-At-find c = rw (sym c.find.ensures ∙ c.in-Nothing.is, sym c.find-in-Nothing.ensures ∙ c.in-At-find.is) c.supplied-in-At-find.ensures
+returns-in-Some-find c = rw (sym c.find.ensures ∙ c.in-None.is, sym c.find-in-None.ensures ∙ c.in-Some-find.is) c.supplied-in-Some-find.ensures
 
-pub returns-in-Nothing-find : goal.returns-in-Nothing-find
+pub returns-in-None-find : goal.returns-in-None-find
 unfolding supplied_by
-returns-in-Nothing-find c = rw (sym c.find.ensures ∙ c.in-Nothing.is, sym c.find-in-Nothing.ensures ∙ c.in-Nothing-find.is) c.supplied-in-Nothing-find.ensures
+returns-in-None-find c = rw (sym c.find.ensures ∙ c.in-None.is, sym c.find-in-None.ensures ∙ c.in-None-find.is) c.supplied-in-None-find.ensures

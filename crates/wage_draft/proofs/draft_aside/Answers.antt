@@ -3,9 +3,9 @@ use Rattle.refusal.proofs.Basics.{sym, ◌∙◌}
 use Rattle.wage_draft.proofs.Laws.{put_whole, scratch_refused, scratch_accepted}
 use Rattle.wage_draft.proofs.draft_aside.Goals as goal
 
-pub returns-in-Refused : goal.returns-in-Refused
-returns-in-Refused c = let copied = c.put.ensures ∙ put_whole c.args.scratch.now c.args.line.now (c.requires.1 ∙ sym c.requires.0) in
-    scratch_refused _ _ c.requires.1 _ _ (rw copied at c.draft_in.ensures) _ c.in-Refused.is
+pub returns-in-Err : goal.returns-in-Err
+returns-in-Err c = let copied = c.put.ensures ∙ put_whole c.args.scratch.now c.args.line.now (c.requires.1 ∙ sym c.requires.0) in
+    scratch_refused _ _ c.requires.1 _ _ (rw copied at c.draft_in.ensures) _ c.in-Err.is
 
 pub returns : goal.returns
 returns c = let copied = c.put.ensures ∙ put_whole c.args.scratch.now c.args.line.now (c.requires.1 ∙ sym c.requires.0) in

@@ -2,10 +2,10 @@
 use Rattle.wage_line.specs.Line.{place_of}
 use Rattle.wage_line.proofs.place.Goals as goal
 
-pub returns-in-Line : goal.returns-in-Line
+pub returns-in-Ok : goal.returns-in-Ok
 unfolding place_of
-returns-in-Line c = rw (← c.read_type.ensures, c.in-Line.is, ← c.find.ensures) c.part.ensures
+returns-in-Ok c = rw (← c.read_type.ensures, c.in-Ok.is, ← c.find.ensures) c.part.ensures
 
-pub returns-in-Refused : goal.returns-in-Refused
+pub returns-in-Err : goal.returns-in-Err
 unfolding place_of
-returns-in-Refused c = rw (← c.read_type.ensures, c.in-Refused.is)
+returns-in-Err c = rw (← c.read_type.ensures, c.in-Err.is)

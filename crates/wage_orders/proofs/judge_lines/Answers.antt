@@ -10,14 +10,14 @@ lines-preserved c = let g = c.args in
     let s = g.s.now in
     let l = c.lines in
     let a = piece_advances s l.at (omega arith) in
-    rw c.next_piece-at.ensures (l.invariant.0 ∙ orders_on g.day g.kind l.n s l.at (omega arith) (rw c.piece.ensures at (sym c.judge_order.ensures ∙ c.in-Accepted.is)), omega arith)
+    rw c.next_piece-at.ensures (l.invariant.0 ∙ orders_on g.day g.kind l.n s l.at (omega arith) (rw c.piece.ensures at (sym c.judge_order.ensures ∙ c.in-Ok.is)), omega arith)
 
 pub returns-then-s-at : goal.returns-then-s-at
 returns-then-s-at c = let g = c.args in
     let l = c.lines in
     sym (l.invariant.0 ∙ orders_end g.day g.kind l.n g.s.now l.at (omega arith))
 
-pub returns-in-Refused : goal.returns-in-Refused
-returns-in-Refused c = let g = c.args in
+pub returns-in-Err : goal.returns-in-Err
+returns-in-Err c = let g = c.args in
     let l = c.lines in
-    sym (l.invariant.0 ∙ orders_stop g.day g.kind l.n g.s.now l.at c.in-Refused.r (omega arith) (rw c.piece.ensures at (sym c.judge_order.ensures ∙ c.in-Refused.is)))
+    sym (l.invariant.0 ∙ orders_stop g.day g.kind l.n g.s.now l.at c.in-Err.r (omega arith) (rw c.piece.ensures at (sym c.judge_order.ensures ∙ c.in-Err.is)))

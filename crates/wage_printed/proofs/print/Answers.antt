@@ -2,6 +2,6 @@
 use Rattle.wage_printed.specs.FilePrinted.{ending_printed}
 use Rattle.wage_printed.proofs.print.Goals as goal
 
-pub returns-in-Refused : goal.returns-in-Refused
+pub returns-in-Err : goal.returns-in-Err
 unfolding ending_printed
-returns-in-Refused c = rw c.in-Refused.is c.put_refused.ensures
+returns-in-Err c = rw c.in-Err.is c.put_refused.ensures
