@@ -1,6 +1,6 @@
 -- A text's characters, one after another, from a place of the text on.
 -- Assumes nothing.
-use Rattle.refusal.proofs.Basics.{◌≡◌, refl, sym, ap, ◌∙◌, arith, ℕ, suc, ◌+◌, ◌≤◌, ◌<◌, length, drop, get_or, ne_eqb, lt-leb, le-leb, ltb-true, ltb-false, List, [], ◌∷◌, Bool, true, false, cond, ◌&&◌, ◌||◌, ltb, drop-cons, drop-length, zero-add, add-zero, add-one, taken, left, both_true}
+use Rattle.refusal.proofs.Basics.{◌≡◌, refl, sym, ap, ◌∙◌, arith, ℕ, suc, ◌+◌, ◌-◌, ◌≤◌, ◌<◌, length, drop, get_or, ne_eqb, lt-ltb, lt-leb, le-leb, List, [], ◌∷◌, Bool, true, false, false≢true, cond, ◌||◌, zero-add, add-zero, taken, left}
 use Rattle.std.specs.Prelude.{Some, None}
 use Rattle.text.specs.Bytes.{later}
 use Rattle.text.proofs.Laws.{shifted, shifted_zero, shifted_later, Below, below_later}
@@ -51,98 +51,77 @@ module _ (b c : ℕ) (s : List ℕ) (e : is_single b ≡ false) where
       (left (is_pair b c) (later (later (first_wrong s))) (Some 0) (Some 0) p refl))
 
 -- ---------------------------------------------------------------------------
--- The scan, from place i on
+-- The scan, with what is left of the text
 
--- the bytes before i are n permitted characters
-pub record Passed (s : List ℕ) (i n : ℕ) : Type 0 where
-  pub within : i ≤ length s
-  pub fewer : n ≤ i
-  pub wrong : first_wrong s ≡ shifted i (first_wrong (drop i s))
-  pub count : characters s ≡ n + characters (drop i s)
+-- the bytes before what is left are n permitted characters
+pub record Passed (s rest : List ℕ) (n : ℕ) : Type 0 where
+  pub fewer : n + length rest ≤ length s
+  pub wrong : first_wrong s ≡ shifted (length s - length rest) (first_wrong rest)
+  pub count : characters s ≡ n + characters rest
 
 -- at the start
-pub passed_none : (s : List ℕ) → Passed s 0 0
-passed_none s = record { within = omega arith; fewer = omega arith; wrong = shifted_zero (first_wrong s); count = sym (zero-add (characters s)) }
+pub passed_none : (s : List ℕ) → Passed s s 0
+passed_none s = record {
+  fewer = omega arith;
+  wrong = let z : length s - length s ≡ 0 = omega arith in rw z (shifted_zero (first_wrong s));
+  count = sym (zero-add (characters s));
+}
 
-module _ (s : List ℕ) (i n : ℕ) (p : Passed s i n) where
+module _ (s : List ℕ) (n : ℕ) where
   -- a character of one byte stands next
-  pub passed_single : i < length s → is_single (get_or s i 0) ≡ true → Passed s (i + 1) (n + 1)
-  passed_single h e =
-      let d : drop i s ≡ get_or s i 0 ∷ drop (i + 1) s = rw (add-one i) (drop-cons s i 0 h) in
+  pub passed_single : (rest : List ℕ) → Passed s rest n → 0 < length rest → is_single (get_or rest 0 0) ≡ true → Passed s (drop 1 rest) (n + 1)
+  passed_single [] p h e = absurd (omega arith)
+  passed_single (b ∷ r) p h e =
+      let w = p.fewer in
+      let i = length s - suc (length r) in
+      let x : i + 1 ≡ length s - length r = omega arith in
       record {
-        within = omega arith;
         fewer = omega arith;
-        wrong = p.wrong ∙ ap (λ (t : List ℕ). shifted i (first_wrong t)) d ∙ ap (shifted i) (single_passed (get_or s i 0) (drop (i + 1) s) e) ∙ shifted_later i (first_wrong (drop (i + 1) s));
-        count = p.count ∙ ap (λ (t : List ℕ). n + characters t) d ∙ ap (λ (k : ℕ). n + k) (single_counted (get_or s i 0) (drop (i + 1) s) e) ∙ omega arith;
+        wrong = p.wrong ∙ ap (shifted i) (single_passed b r e) ∙ shifted_later i (first_wrong r) ∙ ap (λ (k : ℕ). shifted k (first_wrong r)) x;
+        count = p.count ∙ ap (λ (k : ℕ). n + k) (single_counted b r e) ∙ omega arith;
       }
 
-  -- at the end
-  pub passed_all : length s ≤ i → (first_wrong s ≡ None) × (characters s ≡ n)
-  unfolding first_wrong characters shifted
-  passed_all h =
-      let d : drop i s ≡ [] = let e : i ≡ length s = omega arith in rw (e, drop-length) in
-      (p.wrong ∙ ap (λ (t : List ℕ). shifted i (first_wrong t)) d, p.count ∙ ap (λ (t : List ℕ). n + characters t) d ∙ add-zero n)
+  -- a character of two bytes stands next
+  pub passed_pair :
+      (rest : List ℕ) → Passed s rest n → 0 < length rest → is_single (get_or rest 0 0) ≡ false → is_completed (get_or rest 0 0) (drop 1 rest) 0 ≡ true
+      → Passed s (drop 1 (drop 1 rest)) (n + 1)
+  passed_pair [] p h e q = absurd (omega arith)
+  passed_pair (b ∷ []) p h e q = absurd (false≢true q)
+  passed_pair (b ∷ (c ∷ r)) p h e q =
+      let w = p.fewer in
+      let i = length s - suc (suc (length r)) in
+      let x : i + 1 + 1 ≡ length s - length r = omega arith in
+      record {
+        fewer = omega arith;
+        wrong =
+            p.wrong
+            ∙ ap (shifted i) (pair_passed b c r e (rw (lt-ltb 0 (suc (length r)) (omega arith)) at q))
+            ∙ shifted_later i (later (first_wrong r))
+            ∙ shifted_later (i + 1) (first_wrong r)
+            ∙ ap (λ (k : ℕ). shifted k (first_wrong r)) x;
+        count = p.count ∙ ap (λ (k : ℕ). n + k) (pair_counted b c r e) ∙ omega arith;
+      }
 
-  -- what stands at i is wrong where what is left starts wrong
-  pub stands_wrong : first_wrong (drop i s) ≡ Some 0 → first_wrong s ≡ Some i
+  -- no character stands next
+  pub passed_wrong :
+      (rest : List ℕ) → Passed s rest n → 0 < length rest → is_single (get_or rest 0 0) ≡ false → is_completed (get_or rest 0 0) (drop 1 rest) 0 ≡ false
+      → first_wrong s ≡ Some (length s - length rest)
   unfolding shifted
-  stands_wrong e = p.wrong ∙ ap (shifted i) e ∙ ap Some (add-zero i)
+  passed_wrong rest p h e q = p.wrong ∙ ap (shifted (length s - length rest)) (first rest h e q) ∙ here (length s - length rest)
+    where
+      first : (rest : List ℕ) → 0 < length rest → is_single (get_or rest 0 0) ≡ false → is_completed (get_or rest 0 0) (drop 1 rest) 0 ≡ false → first_wrong rest ≡ Some 0
+      first [] h e q = absurd (omega arith)
+      first (b ∷ []) h e q = lone_wrong b e
+      first (b ∷ (c ∷ r)) h e q = others_wrong b c r e (rw (lt-ltb 0 (suc (length r)) (omega arith)) at q)
 
-  -- two bytes and what is left
-  two_first : i + 1 < length s → drop i s ≡ get_or s i 0 ∷ (get_or s (i + 1) 0 ∷ drop (i + 2) s)
-  two_first h =
-      let x : suc i ≡ i + 1 = omega arith in
-      let y : suc (i + 1) ≡ i + 2 = omega arith in
-      drop-cons s i 0 (omega arith)
-      ∙ ap (λ (k : ℕ). get_or s i 0 ∷ drop k s) x
-      ∙ ap (λ (t : List ℕ). get_or s i 0 ∷ t) (drop-cons s (i + 1) 0 h)
-      ∙ ap (λ (k : ℕ). get_or s i 0 ∷ (get_or s (i + 1) 0 ∷ drop k s)) y
+      here : (i : ℕ) → shifted i (At 0) ≡ At i
+      here i = ap At (add-zero i)
 
-  module _ (e : is_single (get_or s i 0) ≡ false) where
-    -- one byte is left, no character of its own
-    lone_told : i < length s → length s ≤ i + 1 → first_wrong s ≡ Some i
-    lone_told h g =
-        let x : suc i ≡ length s = omega arith in
-        let d : drop i s ≡ get_or s i 0 ∷ [] = drop-cons s i 0 h ∙ ap (λ (t : List ℕ). get_or s i 0 ∷ t) (rw (x, drop-length)) in
-        stands_wrong (ap first_wrong d ∙ lone_wrong (get_or s i 0) e)
-
-    -- two bytes stand next that are no character
-    others_told : i + 1 < length s → is_pair (get_or s i 0) (get_or s (i + 1) 0) ≡ false → first_wrong s ≡ Some i
-    others_told h f = stands_wrong (ap first_wrong (two_first h) ∙ others_wrong (get_or s i 0) (get_or s (i + 1) 0) (drop (i + 2) s) e f)
-
-    -- no character stands next
-    pub passed_wrong : i < length s → is_completed (get_or s i 0) s (i + 1) ≡ false → first_wrong s ≡ Some i
-    passed_wrong h = go (ltb (i + 1) (length s)) refl
-      where
-        go : (t : Bool) → ltb (i + 1) (length s) ≡ t → (t && is_pair (get_or s i 0) (get_or s (i + 1) 0)) ≡ false → first_wrong s ≡ Some i
-        go true x f = others_told (ltb-true (i + 1) (length s) x) f
-        go false x f = lone_told h (ltb-false (i + 1) (length s) x)
-
-    -- a character of two bytes stands next
-    pub passed_pair : is_completed (get_or s i 0) s (i + 1) ≡ true → Passed s (i + 2) (n + 1)
-    passed_pair q =
-        let b = both_true (ltb (i + 1) (length s)) (is_pair (get_or s i 0) (get_or s (i + 1) 0)) q in
-        let h = ltb-true (i + 1) (length s) b.0 in
-        let f = b.1 in
-        let d = two_first h in
-        let r = drop (i + 2) s in
-        let x : i + 1 + 1 ≡ i + 2 = omega arith in
-        record {
-          within = omega arith;
-          fewer = omega arith;
-          wrong =
-              p.wrong
-              ∙ ap (λ (t : List ℕ). shifted i (first_wrong t)) d
-              ∙ ap (shifted i) (pair_passed (get_or s i 0) (get_or s (i + 1) 0) r e f)
-              ∙ shifted_later i (later (first_wrong r))
-              ∙ shifted_later (i + 1) (first_wrong r)
-              ∙ ap (λ (k : ℕ). shifted k (first_wrong r)) x;
-          count =
-              p.count
-              ∙ ap (λ (t : List ℕ). n + characters t) d
-              ∙ ap (λ (k : ℕ). n + k) (pair_counted (get_or s i 0) (get_or s (i + 1) 0) r e)
-              ∙ omega arith;
-        }
+  -- at the end
+  pub passed_all : (rest : List ℕ) → Passed s rest n → length rest ≡ 0 → (first_wrong s ≡ None) × (characters s ≡ n)
+  unfolding first_wrong characters shifted
+  passed_all [] p h = (p.wrong, p.count ∙ add-zero n)
+  passed_all (b ∷ r) p h = absurd (omega arith)
 
 -- ---------------------------------------------------------------------------
 -- Where the scan stops: within the text

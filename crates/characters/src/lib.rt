@@ -123,19 +123,16 @@ pub fn judge(most: usize, s: &[u8]) -> Verdict
     ensures { result ≡ characters_verdict most s.now }
 {
     let mut n: usize = 0;
-    let mut i = 0;
-    while i < s.len() {
-        if is_single(s[i]) {
-            n += 1;
-            i += 1;
+    let mut rest = s;
+    while let [b, behind @ ..] = rest {
+        rest = if is_single(*b) {
+            behind
+        } else if is_completed(*b, behind, 0) {
+            &behind[1..]
         } else {
-            let second = i + 1;
-            if !is_completed(s[i], s, second) {
-                return Err(Fault::Byte(i));
-            }
-            n += 1;
-            i += 2;
-        }
+            return Err(Fault::Byte(s.len() - rest.len()));
+        };
+        n += 1;
     }
     verdict::only_if(n <= most, Fault::Length)
 }

@@ -2,6 +2,8 @@
 -- the parts of a formed text end.
 -- Assumes nothing.
 use Rattle.refusal.proofs.Basics.{◌≡◌, sym, ◌∙◌, arith, ℕ, zero, suc, ◌+◌, ◌*◌, ◌-◌, ◌%◌, ◌^◌, ◌≤◌, ◌<◌, length, take, drop, get_or, drop_of_length-le, eq-eqb, ne_eqb, lt-ltb, le-ltb, List, [], ◌∷◌, Bool, true, false, cond, ◌&&◌, and-true, and-false, eqb, leb, ltb, drop-cons, one-le-pow, add-zero, add-one}
+use Rattle.std.specs.List.{prefix_len}
+use Rattle.std.proofs.lemmas.List.Sums.{prefix_len-le-length, prefix_len_passes}
 use Rattle.classes.specs.Classes.{is_digit}
 use Rattle.text.specs.Bytes.{all_of}
 use Rattle.classes.specs.declared.Class.TheVariants.{Digits}
@@ -55,6 +57,13 @@ module _ (ls : List ℕ) (at n : ℕ) (s : List ℕ) where
 
       pub handed_on : (r ≡ 0 → ⊥) → at + n + 1024 * r ≡ digit_read ls (at + n) (split 45 (drop n s))
       handed_on e = sym (sym handed ∙ rw (ne_eqb r 0 e))
+
+-- the digits that a text begins with are passed
+pub digits_passed : (ls : List ℕ) (at : ℕ) (s : List ℕ) (n : ℕ) → n ≤ prefix_len is_digit s → digit_read ls at (split 45 s) ≡ digit_read ls (at + n) (split 45 (drop n s))
+digits_passed ls at s zero h = rw (add-zero at)
+digits_passed ls at s (suc n) h =
+    let l = prefix_len-le-length is_digit s in
+    digits_passed ls at s n (omega arith) ∙ rw (← (add-one n)) (digits_on ls at n s (omega arith) (prefix_len_passes is_digit s n 0 (omega arith)))
 
 -- ---------------------------------------------------------------------------
 -- The part reader judges the length

@@ -6,6 +6,8 @@
 #![tactic(auto)]
 
 ghost use Rattle.std.specs.Prelude.{◌≡◌, ◌≤◌, ◌<◌, ◌+◌, length};
+ghost use Rattle.std.specs.List.{prefix_len};
+ghost use Rattle.classes.specs.Classes.{is_digit};
 ghost use Rattle.text.specs.Split.{split};
 ghost use Rattle.parts.specs.Mirror.{part_read, digit_read, end_of, count_fits, parts_found};
 
@@ -43,6 +45,14 @@ fn part(s: &[u8], lengths: &[u8], at: usize) -> usize
     ends
 }
 
+// How many digits a text begins with.
+fn digits(s: &[u8]) -> usize
+    ensures count { result ≡ prefix_len is_digit s.now }
+    ensures within { result ≤ length s.now }
+{
+    s.iter().take_while(|b| classes::is_digit(**b)).count()
+}
+
 // Reads the digits of a part, one after the other; a hyphen hands over to the reading of the next part, for which the
 // lengths are. Answers where the parts end, or 0.
 #[cycle(digit_part)]
@@ -50,23 +60,18 @@ fn digit(s: &[u8], lengths: &[u8], at: usize) -> usize
     requires { (at + length s.now < 1024) × (length lengths.now ≤ 6) }
     ensures { result ≡ digit_read lengths.now at (split 45 s.now) }
 {
-    let mut n = 0;
-    while n < s.len() {
-        let b = s[n];
-        if classes::is_digit(b) {
-            n += 1;
-        } else {
-            if b != 45 {
-                return 0;
-            }
-            let rest = part(&s[n + 1..], lengths, at + n + 1);
-            if rest == 0 {
-                return 0;
-            }
-            return at + n + 1024 * rest;
-        }
+    let n = digits(s);
+    if n == s.len() {
+        return at + n;
     }
-    at + n
+    if s[n] != 45 {
+        return 0;
+    }
+    let rest = part(&s[n + 1..], lengths, at + n + 1);
+    if rest == 0 {
+        return 0;
+    }
+    at + n + 1024 * rest
 }
 
 // The end of a part, counted from 0; 0 where there is no such part.

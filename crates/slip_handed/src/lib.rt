@@ -39,14 +39,10 @@ fn first_length(s: &[u8]) -> usize
 fn piece(s: &[u8], k: usize) -> Part
     ensures { result ≡ piece_part k (split 10 s.now) }
 {
-    let mut left = k;
     let mut at: usize = 0;
-    while 0 < left {
+    for _ in 0..k {
         match text::first_bad(Class::Line, &s[at..]) {
-            Some(i) => {
-                left -= 1;
-                at += i + 1;
-            }
+            Some(i) => at += i + 1,
             None => {
                 return Part {
                     start: at,

@@ -26,10 +26,8 @@ fn put_fields(s: &[u8], out: &mut [u8], at: usize) -> usize
     ensures { Puts (field_lines s.now 3 12) at out.old result out.new }
 {
     let mut next = at;
-    let mut n = 3;
-    while n < 15 {
+    for n in 3..15 {
         next = put_field(out, next, n, slip_handed::piece_text(s, n - 1));
-        n += 1;
     }
     next
 }

@@ -1,20 +1,20 @@
 -- Laws of the steps of a file's lines, from a place on, and of the pieces of two files joined. Assumes nothing.
-use Rattle.refusal.proofs.Basics.{◌≡◌, refl, sym, ap, ◌∙◌, arith, ℕ, zero, suc, ◌%◌, ◌≤◌, ◌<◌, length, take, drop, length-append, length-drop, List, [], ◌∷◌, ◌++◌, take-append-le, drop-append-le}
-use Rattle.wage_line.specs.Pieces.{pieces_of, pieces, next_piece}
-use Rattle.wage_line.proofs.PieceLaws.{pieces_first, pieces_more, pieces_end}
+use Rattle.refusal.proofs.Basics.{◌≡◌, refl, sym, ap, ◌∙◌, arith, ℕ, zero, suc, ◌%◌, ◌≤◌, length, take, drop, length-append, length-drop, List, [], ◌∷◌, ◌++◌, take-append-le, drop-append-le}
+use Rattle.wage_line.specs.Pieces.{pieces_of, pieces}
+use Rattle.wage_line.proofs.PieceLaws.{pieces_first}
 use Rattle.condition.specs.declared.Judge.{Judge}
 use Rattle.judge.specs.Judge.{stepped, steps}
 
-module _ (j : Judge) (s : List ℕ) (at : ℕ) where
-  -- the line there, then those from the next place on
-  pub lines_on : at < length s → steps j (pieces (drop at s)) ≡ steps (stepped j (take 1002 (drop at s))) (pieces (drop (next_piece (length s) at) s))
+module _ (j : Judge) (s : List ℕ) where
+  -- the first line, then those behind it
+  pub lines_on : (line rest : List ℕ) → pieces s ≡ line ∷ pieces rest → steps j (pieces s) ≡ steps (stepped j line) (pieces rest)
   unfolding steps
-  lines_on h = rw (pieces_more s at h)
+  lines_on line rest e = rw e
 
   -- at the end there are none
-  pub lines_end : length s ≤ at → steps j (pieces (drop at s)) ≡ j
-  unfolding steps
-  lines_end h = rw (pieces_end s at h)
+  pub lines_end : length s ≡ 0 → steps j (pieces s) ≡ j
+  unfolding steps pieces_of
+  lines_end h = rw h
 
 append_of : (n : ℕ) (a b : List ℕ) → length a ≤ n → length a % 1002 ≡ 0 → pieces (a ++ b) ≡ pieces a ++ pieces b
 unfolding pieces_of

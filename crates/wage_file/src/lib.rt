@@ -16,18 +16,16 @@ pub fn lines(from: Judge, s: &[u8]) -> Judge
     ensures { result ≡ steps from (pieces s.now) }
 {
     let mut j = from;
-    let mut at: usize = 0;
+    let mut pieces = s.chunks(1002);
     'lines: loop {
         let condition = j.condition;
         if condition::is_refused(condition) {
             break 'lines j;
         }
-        let left = s.len() - at;
-        if left == 0 {
-            break 'lines j;
+        match pieces.next() {
+            Some(line) => j = judge::step(j, line),
+            None => break 'lines j,
         }
-        j = judge::step(j, wage_line::piece(s, at));
-        at = wage_line::next_piece(s, at);
     }
 }
 

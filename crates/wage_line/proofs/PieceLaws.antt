@@ -1,5 +1,6 @@
 -- Laws of the pieces of a file: one by one from a place on, joined again, of whole lines, and of what holds of each. Assumes nothing.
-use Rattle.refusal.proofs.Basics.{◌≡◌, refl, sym, ap, ◌∙◌, arith, ℕ, zero, suc, ◌+◌, ◌/◌, ◌%◌, ◌≤◌, ◌<◌, length, take, drop, get_or, length-drop, length-append, take-append-drop, drop_of_length-le, le-leb, lt-leb, leb-true, leb-false, List, [], ◌∷◌, ◌++◌, Bool, true, false, cond, leb, drop-drop, drop-length, length-take-le, take_at, drop_at, taken, left}
+use Rattle.refusal.proofs.Basics.{◌≡◌, refl, sym, ap, ◌∙◌, arith, ℕ, zero, suc, ◌+◌, ◌/◌, ◌%◌, ◌≤◌, ◌<◌, length, take, drop, get_or, length-drop, length-append, take-append-drop, drop_of_length-le, le-leb, lt-leb, leb-true, leb-false, List, [], ◌∷◌, ◌++◌, Bool, true, false, cond, leb, drop-drop, drop-length, length-take-le, take_all, take_at, drop_at, append-nil, taken, left}
+use Rattle.std.specs.Prelude.{min}
 use Rattle.text.specs.Split.{joined}
 use Rattle.wage_line.specs.Pieces.{pieces_of, pieces, next_piece}
 
@@ -57,6 +58,16 @@ pieces_first [] h = absurd (omega arith)
 pieces_first (b ∷ s) h =
     ap (λ (ps : List (List ℕ)). take 1002 (b ∷ s) ∷ ps)
     (pieces_fuel (length s) (length (drop 1002 (b ∷ s))) (drop 1002 (b ∷ s)) (omega (arith, length-drop 1002 (b ∷ s))) (omega arith))
+
+-- a piece cut off the front, as `chunks` does
+pub pieces_cut : (s line rest : List ℕ) → s ≡ line ++ rest → length line ≡ min 1002 (length s) → 0 < length s → pieces s ≡ line ∷ pieces rest
+pieces_cut s line [] e m h =
+    let f : s ≡ line = e ∙ append-nil line in
+    let g : length line ≤ 1002 = omega arith in
+    pieces_first s h ∙ rw (f, take_all 1002 line g, drop_of_length-le line g)
+pieces_cut s line (b ∷ rest) e m h =
+    let l : length line ≡ 1002 = omega (arith, ap length e, length-append line (b ∷ rest)) in
+    pieces_first s h ∙ rw (e, take_at line (b ∷ rest) 1002 l, drop_at line (b ∷ rest) 1002 l)
 
 -- from a place on: the piece there, and those from the next place on
 pub pieces_more :

@@ -37,22 +37,6 @@ pub fn read_once<R: Read>(input: &mut R, chunk: &mut [u8]) -> Got
     }
 }
 
-// Reads once, behind the first bytes of a buffer.
-fn read_behind<R: Read>(input: &mut R, buf: &mut [u8], done: usize) -> Got
-    ensures within { result.size ≤ length buf.new - done }
-    ensures front { take done buf.new ≡ take done buf.old }
-    ensures bytes { Consumes (R.remaining input.old) (R.remaining input.new) (take result.size (drop done buf.new)) }
-    ensures end { result.failed ≡ false → result.size ≡ 0 → done < length buf.new → IsAtEnd (R.remaining input.new) }
-{
-    if buf.len() < done {
-        return Got {
-            size: 0,
-            failed: false,
-        };
-    }
-    read_once(input, &mut buf[done..])
-}
-
 // Reads until the buffer is full, the input ends or a read fails.
 pub fn read_full<R: Read>(input: &mut R, buf: &mut [u8]) -> Got
     ensures within { result.size ≤ length buf.new }
@@ -60,20 +44,18 @@ pub fn read_full<R: Read>(input: &mut R, buf: &mut [u8]) -> Got
     ensures end { result.failed ≡ false → result.size < length buf.new → IsAtEnd (R.remaining input.new) }
 {
     let mut done = 0;
+    let mut failed = false;
     while done < buf.len() {
-        let got = read_behind(input, buf, done);
-        if got.size == 0 {
-            return Got {
-                size: done,
-                failed: got.failed,
-            };
+        match input.read(&mut buf[done..]) {
+            Ok(0) => break,
+            Ok(size) => done += size,
+            Err(_) => {
+                failed = true;
+                break;
+            }
         }
-        done += got.size;
     }
-    Got {
-        size: done,
-        failed: false,
-    }
+    Got { size: done, failed }
 }
 
 // ---------------------------------------------------------------------------

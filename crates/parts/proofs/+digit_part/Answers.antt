@@ -1,38 +1,50 @@
 -- The two readers of references meet their contracts, each over the other. Assumes nothing.
-use Rattle.refusal.proofs.Basics.{refl, sym, ap, ◌∙◌, arith, ℕ, ◌+◌, ◌-◌, length, take, drop, length-drop, lt-ltb, le-ltb, le-leb, lt-leb, add-zero, left, entered, and_first, and_second}
+use Rattle.refusal.proofs.Basics.{refl, sym, ◌∙◌, arith, ◌≡◌, ℕ, ◌+◌, ◌-◌, ◌^◌, ◌≤◌, ◌<◌, false, List, get_or, length, take, drop, length-drop, lt-ltb, le-ltb, le-leb, lt-leb, left, entered, and_first, and_second}
+use Rattle.std.specs.List.{prefix_len}
+use Rattle.std.proofs.lemmas.List.Sums.{prefix_len_stops}
+use Rattle.classes.specs.Classes.{is_digit}
 use Rattle.text.specs.Split.{split}
 use Rattle.text.proofs.Laws.{to_the_end}
-use Rattle.parts.specs.Mirror.{digit_read}
+use Rattle.parts.specs.Mirror.{part_read}
 use Rattle.parts.proofs.Pieces.{short_span}
-use Rattle.parts.proofs.Readers.{digits_end, digits_on, digits_break, handed_none, handed_on, part_judged, read_small, unread}
+use Rattle.parts.proofs.Readers.{digits_passed, digits_end, digits_break, handed_none, handed_on, part_judged, read_small, unread}
 use Rattle.parts.proofs.+digit_part.Goals as goal
 
-pub digit-loop-n-init : goal.digit-loop-n-init
-digit-loop-n-init t c = (omega arith, ap (λ (n : ℕ). digit_read c.args.lengths.now n (split 45 c.args.s.now)) (sym (add-zero c.args.at)))
+-- behind the digits stands no digit
+stops : (s : List ℕ) (n : ℕ) → n ≡ prefix_len is_digit s → n < length s → is_digit (get_or s n 0) ≡ false
+stops s n e h = rw e (prefix_len_stops is_digit s 0 (omega arith))
 
-pub digit-loop-n-preserved : goal.digit-loop-n-preserved
-digit-loop-n-preserved t c = let a = c.args in let l = c.loop-n in (omega arith, l.invariant.1 ∙ digits_on a.lengths.now a.at l.n a.s.now c.loop-n-test.true (sym c.is_digit.ensures ∙ c.if-is_digit.true))
+-- what the next part is read as is a small number
+rest_small :
+    (ls : List ℕ) (at n : ℕ) (s : List ℕ) → n < length s → at + length s < 1024 → length ls ≤ 6 → (r : ℕ) →
+    r ≡ part_read ls (at + n + 1) (split 45 (take (length s - (n + 1)) (drop (n + 1) s))) → r < 1024 ^ 3
+rest_small ls at n s h g f r e =
+    omega (arith, e, read_small 3 ls (at + n + 1) (split 45 (take (length s - (n + 1)) (drop (n + 1) s))) f (short_span _ (at + n + 1) (rw (to_the_end (n + 1) s) (omega (arith, length-drop (n + 1) s)))))
 
-pub digit-returns-then-b-ne45 : goal.digit-returns-then-b-ne45
-digit-returns-then-b-ne45 t c = let a = c.args in let l = c.loop-n in digits_break a.lengths.now a.at l.n a.s.now c.loop-n-test.true c.if-b-ne45.true (sym c.is_digit.ensures ∙ c.if-is_digit.false) ∙ sym l.invariant.1
+pub digit-returns-then-n-s : goal.digit-returns-then-n-s
+digit-returns-then-n-s t c = let a = c.args in let n = c.digits-n.result in
+    digits_end a.lengths.now a.at n a.s.now (omega arith) ∙ sym (digits_passed a.lengths.now a.at a.s.now n (omega arith))
 
-pub digit-part-rest-requires : goal.digit-part-rest-requires
-digit-part-rest-requires t c = let a = c.args in let l = c.loop-n in let e = to_the_end (l.n + 1) a.s.now in let n = length-drop (l.n + 1) a.s.now in (rw e (omega arith), (rw e (omega arith), omega arith))
+pub digit-returns-then-s-n-ne45 : goal.digit-returns-then-s-n-ne45
+digit-returns-then-s-n-ne45 t c = let a = c.args in let n = c.digits-n.result in
+    digits_break a.lengths.now a.at n a.s.now (omega arith) c.if-s-n-ne45.true (stops a.s.now n c.digits-n.ensures.count (omega arith))
+    ∙ sym (digits_passed a.lengths.now a.at a.s.now n (omega arith))
 
 pub digit-returns-then-rest-eq0 : goal.digit-returns-then-rest-eq0
-digit-returns-then-rest-eq0 t c = let a = c.args in let l = c.loop-n in handed_none a.lengths.now a.at l.n a.s.now c.loop-n-test.true c.if-b-ne45.false _ c.part-rest.ensures c.if-rest-eq0.true ∙ sym l.invariant.1
+digit-returns-then-rest-eq0 t c = let a = c.args in let n = c.digits-n.result in
+    handed_none a.lengths.now a.at n a.s.now (omega arith) c.if-s-n-ne45.false _ c.part-rest.ensures c.if-rest-eq0.true
+    ∙ sym (digits_passed a.lengths.now a.at a.s.now n (omega arith))
 
 pub digit-overflow_mul-result : goal.digit-overflow_mul-result
-digit-overflow_mul-result t c = let a = c.args in let l = c.loop-n in let e = to_the_end (l.n + 1) a.s.now in omega (arith, c.part-rest.ensures, read_small 3 a.lengths.now (a.at + l.n + 1) (split 45 (take (length a.s.now - (l.n + 1)) (drop (l.n + 1) a.s.now))) (omega arith) (short_span _ (a.at + l.n + 1) (rw e (omega (arith, length-drop (l.n + 1) a.s.now)))))
+digit-overflow_mul-result t c = let a = c.args in omega (arith, rest_small a.lengths.now a.at c.digits-n.result a.s.now (omega arith) (omega arith) (omega arith) _ c.part-rest.ensures)
 
-pub digit-overflow_add-result-else-is_digit : goal.digit-overflow_add-result-else-is_digit
-digit-overflow_add-result-else-is_digit t c = let a = c.args in let l = c.loop-n in let e = to_the_end (l.n + 1) a.s.now in omega (arith, c.part-rest.ensures, read_small 3 a.lengths.now (a.at + l.n + 1) (split 45 (take (length a.s.now - (l.n + 1)) (drop (l.n + 1) a.s.now))) (omega arith) (short_span _ (a.at + l.n + 1) (rw e (omega (arith, length-drop (l.n + 1) a.s.now)))))
-
-pub digit-returns-else-is_digit : goal.digit-returns-else-is_digit
-digit-returns-else-is_digit t c = let a = c.args in let l = c.loop-n in handed_on a.lengths.now a.at l.n a.s.now c.loop-n-test.true c.if-b-ne45.false _ c.part-rest.ensures c.if-rest-eq0.false ∙ sym l.invariant.1
+pub digit-overflow_add-result-3 : goal.digit-overflow_add-result-3
+digit-overflow_add-result-3 t c = let a = c.args in omega (arith, rest_small a.lengths.now a.at c.digits-n.result a.s.now (omega arith) (omega arith) (omega arith) _ c.part-rest.ensures)
 
 pub digit-returns : goal.digit-returns
-digit-returns t c = let a = c.args in let l = c.loop-n in digits_end a.lengths.now a.at l.n a.s.now c.loop-n-test.false ∙ sym l.invariant.1
+digit-returns t c = let a = c.args in let n = c.digits-n.result in
+    handed_on a.lengths.now a.at n a.s.now (omega arith) c.if-s-n-ne45.false _ c.part-rest.ensures c.if-rest-eq0.false
+    ∙ sym (digits_passed a.lengths.now a.at a.s.now n (omega arith))
 
 pub part-returns-then-lengths-lt2 : goal.part-returns-then-lengths-lt2
 part-returns-then-lengths-lt2 t c = let a = c.args in unread a.lengths.now a.at a.s.now c.if-lengths-lt2.true

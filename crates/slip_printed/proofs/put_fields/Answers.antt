@@ -11,13 +11,11 @@ loop-n-preserved c = let a = c.args in
     let k = puts_length p in (
       k ∙ l.invariant.0,
       rw k (puts_within p),
-      omega arith,
-      omega arith,
-      λ r after q. l.invariant.4 r after
+      λ r after q. l.invariant.2 r after
           (rw (lines_on a.s.now l.n (omega arith), ← c.piece_text.ensures) (puts_then p q)),
     )
 
 pub returns : goal.returns
 returns c = let a = c.args in
     let l = c.loop-n in
-    l.invariant.4 l.next l.out (rw (lines_end a.s.now l.n (omega arith)) (puts_none l.out l.next l.invariant.1))
+    l.invariant.2 l.next l.out (rw (lines_end a.s.now l.n (omega arith)) (puts_none l.out l.next l.invariant.1))

@@ -5,8 +5,5 @@ use Rattle.slip_printed.specs.SlipPrinted.{field_lines}
 use Rattle.slip_printed.proofs.put_fields.Given as goal
 
 abbrev pub invariant-loop-n : goal.invariant-loop-n
-invariant-loop-n l = (length l.out ≡ length l.initial.out) × (l.next ≤ length l.out) × (3 ≤ l.n) × (l.n ≤ 15)
+invariant-loop-n l = (length l.out ≡ length l.initial.out) × (l.next ≤ length l.out)
     × ((r : ℕ) (after : List ℕ) → Puts (field_lines l.s l.n (15 - l.n)) l.next l.out r after → Puts (field_lines l.s 3 12) l.at l.initial.out r after)
-
-abbrev pub decreases-loop-n : goal.decreases-loop-n
-decreases-loop-n l = 15 - l.n

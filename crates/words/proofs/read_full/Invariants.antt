@@ -1,4 +1,4 @@
--- What was read stands at the front of the buffer, and each turn leaves less of it to fill.
+-- What was read stands at the front of the buffer, and each turn leaves less of it to fill. Assumes nothing.
 use Rattle.std.proofs.Common.{length, ◌-◌, ◌≤◌, take}
 use Rattle.std.specs.Io.KnownBytes.{Consumes}
 use Rattle.words.proofs.read_full.Given as goal
