@@ -45,11 +45,7 @@ fn held(s: &[u8]) -> [u8; 22]
     ensures { take (length s.now) result ≡ s.now }
 {
     let mut t = [0; 22];
-    let mut i = 0;
-    while i < s.len() {
-        t[i] = s[i];
-        i += 1;
-    }
+    t[..s.len()].copy_from_slice(s);
     t
 }
 
@@ -93,11 +89,9 @@ fn list(
     // One copy for all ten digits: each is put over the one before it.
     let mut w = *t;
     let mut next = at;
-    let mut d: u32 = 0;
-    while d < 10 {
-        w[i] = 48 + d as u8;
+    for d in 0..10 {
+        w[i] = b'0' + d as u8;
         next = list(aim, &w, n, left - 1, number * 10 + d, out, next);
-        d += 1;
     }
     next
 }
@@ -112,7 +106,7 @@ pub fn list_into(aim: Aim, s: &[u8], out: &mut [u16]) -> Result<usize, Refusal>
     if 22 < n {
         return Err(Refusal::Size(refusal::nowhere()));
     }
-    let left = text::count(63, s);
+    let left = text::count(b'?', s);
     if 4 < left {
         return Err(Refusal::Marks(refusal::nowhere()));
     }

@@ -33,16 +33,7 @@ fn group_at(g: Group, ends: usize, s: &[u8]) -> bool
 pub fn groups_at(model: Model, ends: usize, s: &[u8]) -> bool
     ensures { result ≡ groups_at model.groups ends s.now }
 {
-    let groups = model.groups;
-    let mut i: usize = 0;
-    while i < 4 {
-        let g = groups[i];
-        if !group_at(g, ends, s) {
-            return false;
-        }
-        i += 1;
-    }
-    true
+    model.groups.iter().all(|g| group_at(*g, ends, s))
 }
 
 // Whether a text, whose parts end so, has all that its model asks of a formed one: contents and check digits.

@@ -1,5 +1,6 @@
 -- Laws of the fields that are lent, one behind the other. Assumes nothing.
-use Rattle.refusal.proofs.Basics.{◌≡◌, refl, sym, ◌∙◌, arith, ℕ, zero, suc, ◌+◌, ◌-◌, ◌≤◌, ◌<◌, length, take, drop, get_or, length-drop, drop_of_length-le, length-append, eq-eqb, ne_eqb, eqb-true, eqb-false, le-ltb, ltb-true, ltb-false, List, [], ◌∷◌, map, Bool, true, false, cond, eqb, ltb, drop-cons, drop-drop, drop-length, take_all, take-nil, take-append_seam, drop-append_seam, get_or-drop, add-zero, add-one}
+use Rattle.refusal.proofs.Basics.{◌≡◌, refl, sym, ap, ◌∙◌, arith, ℕ, zero, suc, ◌+◌, ◌-◌, ◌≤◌, ◌<◌, length, take, drop, get_or, length-drop, drop_of_length-le, length-append, eq-eqb, le-ltb, ltb-true, ltb-false, List, [], ◌∷◌, ◌++◌, map, Bool, true, false, cond, ltb, drop-drop, drop-length, take_all, take-append_seam, drop-append_seam, get_or-drop, add-zero}
+use Rattle.std.proofs.lemmas.List.{at_drop_more}
 use Rattle.text.specs.Split.{joined}
 use Rattle.lent_fields.specs.Fields.{fields_of, given_of, behind, field_end, together, lent_whole, FieldEnd}
 
@@ -67,84 +68,18 @@ module _ (sizes : List ℕ) (i : ℕ) (text : List ℕ) where
   fields_on = later_fields (drop i sizes) ∙ rw (size_from, drop-drop)
 
 -- ---------------------------------------------------------------------------
--- The text behind the fields from one on, up to some number of fields
+-- One field more
 
-module _ (sizes : List ℕ) (fields i : ℕ) (text : List ℕ) (at : ℕ) where
-  -- the text behind what is left
-  abbrev pub Behind : List ℕ
-  Behind = behind (take (fields - i) (drop i sizes)) (drop at text)
-
-  -- enough fields were counted
-  pub behind_last : fields ≤ i → drop at text ≡ Behind
-  unfolding behind
-  behind_last h = let e : fields - i ≡ 0 = omega arith in rw e
-
-  -- there are no more fields
-  pub behind_past : length sizes ≤ i → drop at text ≡ Behind
-  unfolding behind
-  behind_past h = rw (drop_of_length-le sizes h, take-nil (fields - i))
-
--- one field further on
-pub behind_on :
-    (sizes : List ℕ) (fields i : ℕ) (text : List ℕ) (at end : ℕ) → FieldEnd text at (get_or sizes i 0) end → i < fields → i < length sizes
-    → Behind sizes fields i text at ≡ Behind sizes fields (i + 1) text end
+-- the text behind some fields and one more
+pub behind_more : (ns : List ℕ) (n : ℕ) (text : List ℕ) → behind (ns ++ (n ∷ [])) text ≡ drop n (behind ns text)
 unfolding behind
-behind_on sizes fields i text at end ended more known =
-    let e : fields - i ≡ suc (fields - (i + 1)) = omega arith in
-    rw (drop-cons sizes i 0 known, e, ended.rest, ← (add-one i))
+behind_more [] n text = refl
+behind_more (m ∷ ns) n text = behind_more ns n (drop m text)
 
--- ---------------------------------------------------------------------------
--- Equal numbers
-
--- whether a number is 0, asked the other way round
-zero_last : (n : ℕ) → eqb n 0 ≡ eqb 0 n
-zero_last zero = refl
-zero_last (suc n) = ne_eqb (suc n) 0 (λ (e : suc n ≡ 0). omega (arith, e)) ∙ sym (ne_eqb 0 (suc n) (λ (e : 0 ≡ suc n). omega (arith, e)))
-
--- the same taken away from both sides
-less_both : (a b n : ℕ) → a ≤ n → eqb (a + b) n ≡ eqb b (n - a)
-less_both a b n h = go (eqb b (n - a)) refl
-  where
-    go : (e : Bool) → eqb b (n - a) ≡ e → eqb (a + b) n ≡ e
-    go true e = let f = eqb-true b (n - a) e in eq-eqb (a + b) n (omega (arith, f))
-    go false e = ne_eqb (a + b) n (λ (f : a + b ≡ n). eqb-false b (n - a) e (omega (arith, f)))
-
--- ---------------------------------------------------------------------------
--- The size of the fields from one on, up to some number of fields, and of what is left of the text
-
-module _ (sizes : List ℕ) (fields i left : ℕ) where
-  -- whether they are the same
-  abbrev pub SizedFrom : Bool
-  SizedFrom = eqb (together (take (fields - i) (drop i sizes))) left
-
-  -- where no field is left
-  none_left : take (fields - i) (drop i sizes) ≡ [] → eqb left 0 ≡ SizedFrom
-  unfolding together
-  none_left e = rw e (zero_last left)
-
-  -- enough fields were counted
-  pub sized_last : fields ≤ i → eqb left 0 ≡ SizedFrom
-  sized_last h = let e : fields - i ≡ 0 = omega arith in none_left (rw e)
-
-  -- there are no more fields
-  pub sized_past : length sizes ≤ i → eqb left 0 ≡ SizedFrom
-  sized_past h = none_left (rw (drop_of_length-le sizes h, take-nil (fields - i)))
-
-  module _ (more : i < fields) (known : i < length sizes) where
-    -- the next field and those behind it
-    next_size : together (take (fields - i) (drop i sizes)) ≡ get_or sizes i 0 + together (take (fields - (i + 1)) (drop (i + 1) sizes))
-    unfolding together
-    next_size =
-        let e : fields - i ≡ suc (fields - (i + 1)) = omega arith in
-        rw (drop-cons sizes i 0 known, e, ← (add-one i))
-
-    -- less is left than the next field
-    pub sized_short : left < get_or sizes i 0 → false ≡ SizedFrom
-    sized_short h = sym (ne_eqb _ left (λ (e : together (take (fields - i) (drop i sizes)) ≡ left). omega (arith, e, next_size)))
-
-    -- one field further on
-    pub sized_on : get_or sizes i 0 ≤ left → SizedFrom ≡ eqb (together (take (fields - (i + 1)) (drop (i + 1) sizes))) (left - get_or sizes i 0)
-    sized_on h = rw next_size (less_both (get_or sizes i 0) (together (take (fields - (i + 1)) (drop (i + 1) sizes))) left h)
+-- the size of the fields from one on, n being its own
+pub together_from : (ns : List ℕ) (i n : ℕ) → (i < length ns) × (n ≡ get_or ns i n) → together (drop i ns) ≡ n + together (drop (i + 1) ns)
+unfolding together
+together_from ns i n h = at_drop_more together ns i n h.0 ∙ ap (λ m. m + together (drop (i + 1) ns)) (sym h.1)
 
 -- ---------------------------------------------------------------------------
 -- All of them

@@ -10,10 +10,7 @@ ghost use Rattle.lent_fields.specs.Fields.{given_of, behind, field_end, lent_who
 pub fn size_at(sizes: &[usize], i: usize) -> usize
     ensures { result ≡ get_or sizes.now i 0 }
 {
-    if i < sizes.len() {
-        return sizes[i];
-    }
-    0
+    sizes.get(i).copied().unwrap_or(0)
 }
 
 // Where a field of a size ends that begins at a place: no later than the text.
@@ -34,13 +31,8 @@ pub fn text_behind<'a>(text: &'a [u8], sizes: &[usize], fields: usize) -> &'a [u
     ensures { result.now ≡ behind (take fields sizes.now) text.now }
 {
     let mut at = 0;
-    let mut i = 0;
-    while i < sizes.len() {
-        if fields <= i {
-            return &text[at..];
-        }
-        at = end_of(text, at, sizes[i]);
-        i += 1;
+    for size in sizes.iter().take(fields) {
+        at = end_of(text, at, *size);
     }
     &text[at..]
 }
@@ -57,17 +49,11 @@ pub fn is_lent_whole(text: &[u8], sizes: &[usize], fields: usize) -> bool
     ensures { result ≡ lent_whole fields sizes.now text.now }
 {
     let mut left = text.len();
-    let mut i = 0;
-    while i < sizes.len() {
-        if fields <= i {
-            return left == 0;
-        }
-        let size = sizes[i];
-        if left < size {
+    for size in sizes.iter().take(fields) {
+        if left < *size {
             return false;
         }
-        left -= size;
-        i += 1;
+        left -= *size;
     }
     left == 0
 }

@@ -35,13 +35,11 @@ pub fn fed(seen: Seen, s: &[u8], head: &mut [u8], tail: &mut [u8]) -> Seen
     ensures tail_after { tail.new ≡ (feed (kept_of seen head.old tail.old) s.now).tail }
 {
     let mut so_far = seen;
-    let mut i = 0;
-    while i < s.len() {
+    for b in s {
         if so_far.ended {
             return so_far;
         }
-        so_far = took_byte(so_far, s[i], head, tail);
-        i += 1;
+        so_far = took_byte(so_far, *b, head, tail);
     }
     so_far
 }
@@ -53,7 +51,7 @@ fn took_byte(seen: Seen, b: u8, head: &mut [u8], tail: &mut [u8]) -> Seen
     if seen.ended {
         return seen;
     }
-    if b == 10 {
+    if b == b'\n' {
         return Seen {
             head: seen.head,
             tail: seen.tail,
@@ -64,7 +62,7 @@ fn took_byte(seen: Seen, b: u8, head: &mut [u8], tail: &mut [u8]) -> Seen
     if seen.spaced {
         return took_tail(seen, b, tail);
     }
-    if b == 32 {
+    if b == b' ' {
         return Seen {
             head: seen.head,
             tail: seen.tail,

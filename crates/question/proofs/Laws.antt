@@ -1,11 +1,15 @@
 -- Laws of the loops that read a question, and of those that lay out its fields.
 -- Assumes nothing.
 use Rattle.refusal.proofs.Basics.{◌≡◌, refl, sym, ap, ◌∙◌, arith, ℕ, zero, suc, ◌+◌, ◌-◌, ◌≤◌, ◌<◌, length, take, drop, get_or, set, length-drop, drop_of_length-le, eq-eqb, ne_eqb, lt-ltb, le-ltb, ltb-true, ltb-false, List, [], ◌∷◌, Bool, true, false, cond, eqb, ltb, sets, drop-cons, drop-drop, take_all, add-zero, add-one, taken, left}
+use Rattle.std.proofs.Common.{Option}
+use Rattle.std.proofs.lemmas.Iterator.{index_from_first}
+use Rattle.std.specs.List.{AllWithin, HoldsAt, fold}
+use Rattle.std.specs.Option.{MatchOption, unwrap_or}
 use Rattle.text.specs.Bytes.{same, count_of}
-use Rattle.text.specs.Digits.{value_from}
+use Rattle.text.specs.Digits.{digits_of, value_from}
 use Rattle.text.specs.Split.{longer, split, joined}
 use Rattle.text.proofs.Laws.{to_the_end}
-use Rattle.text.proofs.Values.{value_keeps}
+use Rattle.text.proofs.Values.{value_keeps, value_on}
 use Rattle.room.proofs.Laws.{sets_past}
 use Rattle.question.specs.Question.{piece_at, field_at, behind_bars, place_among, largest, capped, line_byte, lined, lengths_of}
 
@@ -72,20 +76,25 @@ first_longer : (b : ℕ) (ps : List (List ℕ)) → length (get_or (longer b ps)
 first_longer b [] = refl
 first_longer b (p ∷ ps) = refl
 
-module _ (c : ℕ) (s : List ℕ) (i : ℕ) where
-  pub find_stops : i < length s → get_or s i 0 ≡ c → i ≡ i + length (piece_at c 0 (drop i s))
+-- the place of the first byte c says it
+module _ (c : ℕ) where
+  piece_none : length (piece_at c 0 []) ≡ 0
   unfolding split
-  find_stops h e = rw (drop-cons s i 0 h, eq-eqb (get_or s i 0) c e) (sym (add-zero i))
+  piece_none = refl
 
-  pub find_on : i < length s → (get_or s i 0 ≡ c → ⊥) → i + length (piece_at c 0 (drop i s)) ≡ i + 1 + length (piece_at c 0 (drop (i + 1) s))
+  piece_stops : (b : ℕ) (s : List ℕ) → b ≡ c → length (piece_at c 0 (b ∷ s)) ≡ 0
   unfolding split
-  find_on h e =
-      rw (drop-cons s i 0 h, ne_eqb (get_or s i 0) c e, add-one i, first_longer (get_or s i 0) (split c (drop (suc i) s)))
-      (omega arith)
+  piece_stops b s e = rw (eq-eqb b c e)
 
-  pub find_ends : length s ≤ i → i ≡ i + length (piece_at c 0 (drop i s))
+  piece_on : (b : ℕ) (s : List ℕ) → (b ≡ c → ⊥) → length (piece_at c 0 (b ∷ s)) ≡ length (piece_at c 0 s) + 1
   unfolding split
-  find_ends h = rw (drop_of_length-le s h) (sym (add-zero i))
+  piece_on b s e = rw (ne_eqb b c e, first_longer b (split c s)) (omega arith)
+
+  pub piece_found :
+      (s : List ℕ) (r : Option ℕ)
+      → MatchOption r (AllWithin (λ (b : ℕ). b ≡ c → ⊥) s 0 (length s)) (λ i. (i < length s) × HoldsAt (λ (b : ℕ). b ≡ c) s i × AllWithin (λ (b : ℕ). b ≡ c → ⊥) s 0 i)
+      → unwrap_or r (length s) ≡ length (piece_at c 0 s)
+  piece_found s r h = sym (index_from_first (λ (t : List ℕ). length (piece_at c 0 t)) (λ (b : ℕ). b ≡ c) (λ (b : ℕ). b ≡ c → ⊥) piece_none piece_stops piece_on s r h)
 
 -- ---------------------------------------------------------------------------
 -- What stands behind bars, from place i on
@@ -186,6 +195,25 @@ capped_on v ds = go (ltb largest v) refl
         rw m
         (capped_most (value_from largest ds) (value_keeps largest ds)
         ∙ capped_more (value_from v ds) (omega (arith, value_keeps v ds, ltb-true largest v e)))
+
+capped_within : (n : ℕ) → capped n ≤ largest
+unfolding capped
+capped_within n = go (ltb largest n) refl
+  where
+    go : (t : Bool) → ltb largest n ≡ t → cond t largest n ≤ largest
+    go true e = omega arith
+    go false e = ltb-false largest n e
+
+-- a text read byte by byte, each as one digit more
+abbrev pub one_more : ℕ → ℕ → ℕ
+one_more n b = capped (value_from n (digits_of (b ∷ [])))
+
+pub number_read : (n : ℕ) (s : List ℕ) → n ≤ largest → fold one_more n s ≡ capped (value_from n (digits_of s))
+unfolding value_from digits_of
+number_read n [] h = capped_fits n h
+number_read n (b ∷ s) h =
+    let v = value_from n (digits_of (b ∷ [])) in
+    number_read (capped v) s (capped_within v) ∙ capped_on v (digits_of s) ∙ ap capped (sym (value_on n (b ∷ s) 0 (omega arith)))
 
 -- ---------------------------------------------------------------------------
 -- Written into lent room, as far as it goes: what is left makes up the whole

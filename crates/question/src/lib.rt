@@ -22,14 +22,7 @@ use words::{say, say_number};
 pub fn find(s: &[u8], c: u8) -> usize
     ensures { result ≡ length (piece_at c 0 s.now) }
 {
-    let mut i = 0;
-    while i < s.len() {
-        if s[i] == c {
-            return i;
-        }
-        i += 1;
-    }
-    i
+    s.iter().position(|b| *b == c).unwrap_or(s.len())
 }
 
 // What stands behind so many bars.
@@ -37,16 +30,12 @@ pub fn behind(s: &[u8], bars: usize) -> &[u8]
     ensures { result.now ≡ behind_bars bars s.now }
 {
     let mut left = bars;
-    let mut i = 0;
-    while i < s.len() {
+    for (i, b) in s.iter().enumerate() {
         if left == 0 {
             return &s[i..];
         }
-        if s[i] == 124 {
+        if *b == b'|' {
             left -= 1;
-            i += 1;
-        } else {
-            i += 1;
         }
     }
     &s[..0]
@@ -57,22 +46,20 @@ pub fn field(s: &[u8], k: usize) -> &[u8]
     ensures { result.now ≡ field_at k s.now }
 {
     let t = behind(s, k);
-    front(t, find(t, 124))
+    front(t, find(t, b'|'))
 }
 
 // The place of a verb among those between bars, counted from 0; their number where it is not there.
 pub fn number_of(verb: &[u8], verbs: &[u8]) -> usize
     ensures { result ≡ place_among verb.now (split 124 verbs.now) }
 {
-    let n = text::count(124, verbs) + 1;
-    let mut k = 0;
-    while k < n {
+    let n = text::count(b'|', verbs) + 1;
+    for k in 0..n {
         if verb == field(verbs, k) {
             return k;
         }
-        k += 1;
     }
-    k
+    n
 }
 
 // ---------------------------------------------------------------------------
@@ -85,9 +72,9 @@ fn longer(n: usize, b: u8) -> usize
     if !classes::is_digit(b) {
         return n;
     }
-    let d = (b - 48) as usize;
-    if (18446744073709551615 - d) / 10 < n {
-        return 18446744073709551615;
+    let d = (b - b'0') as usize;
+    if (usize::MAX - d) / 10 < n {
+        return usize::MAX;
     }
     n * 10 + d
 }
@@ -96,13 +83,7 @@ fn longer(n: usize, b: u8) -> usize
 fn number(s: &[u8]) -> usize
     ensures { result ≡ number_asked s.now }
 {
-    let mut n = 0;
-    let mut i = 0;
-    while i < s.len() {
-        n = longer(n, s[i]);
-        i += 1;
-    }
-    n
+    s.iter().fold(0, |n, b| longer(n, *b))
 }
 
 // The number in a field.
@@ -119,20 +100,18 @@ pub fn number_at(s: &[u8], k: usize) -> usize
 fn line_byte(c: u8, b: u8) -> u8
     ensures { result ≡ line_byte c b }
 {
-    if b == c { 10 } else { b }
+    if b == c { b'\n' } else { b }
 }
 
 // A text with its bytes c as line feeds, as far as there is room.
 pub fn put_lines(out: &mut [u8], s: &[u8], c: u8)
     ensures { out.new ≡ sets out.old 0 (lined c s.now) }
 {
-    let mut i = 0;
-    while i < s.len() {
+    for (i, b) in s.iter().enumerate() {
         if out.len() <= i {
             return;
         }
-        out[i] = line_byte(c, s[i]);
-        i += 1;
+        out[i] = line_byte(c, *b);
     }
 }
 
@@ -141,17 +120,13 @@ pub fn put_fields(out: &mut [u8], s: &[u8])
     ensures { out.new ≡ sets out.old 0 (joined (split 124 s.now)) }
 {
     let mut at = 0;
-    let mut i = 0;
-    while i < s.len() {
-        if s[i] == 124 {
-            i += 1;
-        } else {
+    for b in s {
+        if *b != b'|' {
             if out.len() <= at {
                 return;
             }
-            out[at] = s[i];
+            out[at] = *b;
             at += 1;
-            i += 1;
         }
     }
 }
@@ -160,7 +135,7 @@ pub fn put_fields(out: &mut [u8], s: &[u8])
 pub fn size_of(s: &[u8]) -> usize
     ensures { result ≡ length (joined (split 124 s.now)) }
 {
-    s.len() - text::count(124, s)
+    s.len() - text::count(b'|', s)
 }
 
 // The sizes of the fields of a text, as far as there is room.
@@ -168,15 +143,13 @@ pub fn put_sizes(out: &mut [usize], s: &[u8])
     ensures { out.new ≡ sets out.old 0 (lengths_of (split 124 s.now)) }
 {
     let mut at = 0;
-    let mut k = 0;
-    while k < out.len() {
-        let n = find(&s[at..], 124);
-        out[k] = n;
+    for size in out.iter_mut() {
+        let n = find(&s[at..], b'|');
+        *size = n;
         if s.len() - at <= n {
             return;
         }
         at += n + 1;
-        k += 1;
     }
 }
 

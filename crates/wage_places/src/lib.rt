@@ -115,15 +115,11 @@ pub fn count(t: LineType) -> usize
 pub fn find(t: LineType, field: usize) -> Spot
     ensures { result ≡ spot_of t field }
 {
-    let n = count(t);
-    let mut k = 0;
-    while k < n {
+    for k in 0..count(t) {
         let p = spot_at(t, k);
-        let found = p.field;
-        if found == field {
+        if p.field == field {
             return p;
         }
-        k += 1;
     }
     at(0, 0, 0)
 }

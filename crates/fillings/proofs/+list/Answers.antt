@@ -10,7 +10,7 @@ pub returns-in_default : goal.returns-in_default
 returns-in_default t c = absurd (c.if-left-eq0.false (c.requires.1.0 ∙ no_mark _ (sym c.first_bad.ensures ∙ c.in_default.is)))
 
 pub loop-d-init : goal.loop-d-init
-loop-d-init t c = (omega arith, (λ b. refl, digits_none _ _ _ _ _ _))
+loop-d-init t c = (λ b. refl, digits_none _ _ _ _ _ _)
 
 pub bounds-w-i : goal.bounds-w-i
 bounds-w-i t c =
@@ -29,16 +29,16 @@ list-next-requires t c =
     let l = c.loop-d in
     let small : l.d < 10 = omega arith in
     let number = c.args.number in
-    (omega (arith, c.decreases, o.some), (c.requires.0, (rw (l.invariant.1.0 (48 + l.d)) (one_fewer o l.d small), (digits_fit o number l.d small c.requires.1.1.0, digits_place o _ number l.d c.requires.1.1.1 l.invariant.1.1))))
+    (omega (arith, c.decreases, o.some), (c.requires.0, (rw (l.invariant.0 (48 + l.d)) (one_fewer o l.d small), (digits_fit o number l.d small c.requires.1.1.0, digits_place o _ number l.d c.requires.1.1.1 l.invariant.1))))
 
 pub loop-d-preserved : goal.loop-d-preserved
 loop-d-preserved t c =
     let o : Open c.args.t.now c.args.n c.in-At.i c.args.left = record { first = first_mark _ _ (sym c.first_bad.ensures ∙ c.in-At.is); all = c.requires.1.0; some = c.if-left-eq0.false } in
     let l = c.loop-d in
-    (omega arith, (λ b. rw set-set (l.invariant.1.0 b), digits_more o _ c.args.number l.d (omega arith) l.invariant.1.1 (rw (l.invariant.1.0 (48 + l.d)) at c.list-next.ensures)))
+    (λ b. rw set-set (l.invariant.0 b), digits_more o _ c.args.number l.d (omega arith) l.invariant.1 (rw (l.invariant.0 (48 + l.d)) at c.list-next.ensures))
 
 pub returns : goal.returns
 returns t c =
     let o : Open c.args.t.now c.args.n c.in-At.i c.args.left = record { first = first_mark _ _ (sym c.first_bad.ensures ∙ c.in-At.is); all = c.requires.1.0; some = c.if-left-eq0.false } in
     let l = c.loop-d in
-    digits_all o _ c.args.number l.d (omega arith) (omega arith) l.invariant.1.1
+    digits_all o _ c.args.number l.d (omega arith) (omega arith) l.invariant.1

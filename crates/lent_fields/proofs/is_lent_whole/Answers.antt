@@ -1,31 +1,37 @@
--- `lent_fields::is_lent_whole` meets its contract. The loop's invariant: the fields that are left are asked for what is left of the text. Assumes nothing.
-use Rattle.refusal.proofs.Basics.{◌≡◌, sym, ◌∙◌, arith, ◌-◌}
-use Rattle.lent_fields.specs.Fields.{lent_whole}
-use Rattle.lent_fields.proofs.Laws.{sized_last, sized_past, sized_short, sized_on}
+-- `lent_fields::is_lent_whole` meets its contract: the loop goes through the first sizes. Assumes nothing.
+use Rattle.refusal.proofs.Basics.{◌≡◌, arith, ◌+◌, length, take, drop}
+use Rattle.std.proofs.lemmas.List.{at_drop_all, length_push}
+use Rattle.std.proofs.lemmas.Bool.Decides.{nat_tests}
+use Rattle.std.proofs.lemmas.Iterator.{YieldsList-from_slice, YieldsList-from_take}
+use Rattle.std.proofs.lemmas.Iterator.Consumers.{YieldsList-at, YieldsList-turn, YieldsList-end}
+use Rattle.lent_fields.specs.Fields.{lent_whole, together}
+use Rattle.lent_fields.proofs.Laws.{together_from}
 use Rattle.lent_fields.proofs.is_lent_whole.Goals as goal
 
-pub loop-i-init : goal.loop-i-init
-unfolding lent_whole
-loop-i-init c = let n = c.args.fields in
-    let e : n - 0 ≡ n = omega arith in
-    (omega arith, rw e)
-
-pub returns-then-fields-i : goal.returns-then-fields-i
-returns-then-fields-i c = let a = c.args in
-    let l = c.loop-i in
-    sized_last a.sizes.now a.fields l.i l.left (omega arith) ∙ sym l.invariant.1
-
 pub returns-then-left-size : goal.returns-then-left-size
-returns-then-left-size c = let a = c.args in
-    let l = c.loop-i in
-    sized_short a.sizes.now a.fields l.i l.left (omega arith) (omega arith) (omega arith) ∙ sym l.invariant.1
+unfolding lent_whole
+returns-then-left-size c =
+    let l = c.loop-size in
+    let ns = take c.args.fields c.args.sizes.now in
+    let i = length l.yielded in
+    let n = c.in-Some.size.now in
+    let e : together (drop i ns) ≡ n + together (drop (i + 1) ns) = together_from ns i n (YieldsList-turn (YieldsList-at c.into_iter-size-iterator.ensures.into_iter_gives (YieldsList-from_take c.args.fields (YieldsList-from_slice c.args.sizes.now cc) c.take-size-items.ensures.count)) l.yielded _ l.yielded_by _ _ c.in-Some.size c.in-Some.is c.next.ensures.steps) in
+    grind (arith, nat_tests)
 
-pub loop-i-preserved : goal.loop-i-preserved
-loop-i-preserved c = let a = c.args in
-    let l = c.loop-i in
-    (omega arith, l.invariant.1 ∙ sized_on a.sizes.now a.fields l.i l.left (omega arith) (omega arith) (omega arith))
+pub loop-size-preserved : goal.loop-size-preserved
+loop-size-preserved c =
+    let l = c.loop-size in
+    let ns = take c.args.fields c.args.sizes.now in
+    let i = length l.yielded in
+    let n = c.in-Some.size.now in
+    let e : together (drop i ns) ≡ n + together (drop (i + 1) ns) = together_from ns i n (YieldsList-turn (YieldsList-at c.into_iter-size-iterator.ensures.into_iter_gives (YieldsList-from_take c.args.fields (YieldsList-from_slice c.args.sizes.now cc) c.take-size-items.ensures.count)) l.yielded _ l.yielded_by _ _ c.in-Some.size c.in-Some.is c.next.ensures.steps) in
+    rw (length_push l.yielded c.in-Some.size) (omega arith)
 
 pub returns : goal.returns
-returns c = let a = c.args in
-    let l = c.loop-i in
-    sized_past a.sizes.now a.fields l.i l.left (omega arith) ∙ sym l.invariant.1
+unfolding lent_whole together
+returns c =
+    let l = c.loop-size in
+    let ns = take c.args.fields c.args.sizes.now in
+    let i = length l.yielded in
+    let e : together (drop i ns) ≡ 0 = at_drop_all together ns i (omega (arith, (YieldsList-end (YieldsList-at c.into_iter-size-iterator.ensures.into_iter_gives (YieldsList-from_take c.args.fields (YieldsList-from_slice c.args.sizes.now cc) c.take-size-items.ensures.count)) l.yielded _ l.yielded_by _ _ c.in-None.is c.next.ensures.steps).1)) in
+    grind (arith, nat_tests)

@@ -1,21 +1,27 @@
--- `lent_fields::text_behind` meets its contract. The loop's invariant: the text behind what is left of the fields is that behind all. Assumes nothing.
-use Rattle.refusal.proofs.Basics.{sym, ◌∙◌, arith}
+-- `lent_fields::text_behind` meets its contract: what the loop went through is the first sizes. Assumes nothing.
+use Rattle.refusal.proofs.Basics.{refl, ap, ◌∙◌, arith, map, drop}
+use Rattle.std.proofs.lemmas.List.{map_push}
+use Rattle.std.proofs.lemmas.Iterator.{YieldsList-from_slice, YieldsList-from_take}
+use Rattle.std.proofs.lemmas.Iterator.Consumers.{YieldsList-at, YieldsList-end}
 use Rattle.text.proofs.Laws.{to_the_end}
-use Rattle.lent_fields.proofs.Laws.{behind_last, behind_past, behind_on, field_ends}
+use Rattle.lent_fields.specs.Fields.{behind}
+use Rattle.lent_fields.proofs.Laws.{behind_more, field_ends}
 use Rattle.lent_fields.proofs.text_behind.Goals as goal
 
-pub returns-then-fields-i : goal.returns-then-fields-i
-returns-then-fields-i c = let a = c.args in
-    let l = c.loop-i in
-    to_the_end l.at a.text.now ∙ behind_last a.sizes.now a.fields l.i a.text.now l.at (omega arith) ∙ sym l.invariant.1
+pub loop-size-init : goal.loop-size-init
+unfolding behind
+loop-size-init c = (omega arith, refl)
 
-pub loop-i-preserved : goal.loop-i-preserved
-loop-i-preserved c = let a = c.args in
-    let l = c.loop-i in
-    let e = field_ends a.text.now l.at _ c.end_of-at.result (omega arith) c.end_of-at.ensures in
-    (e.within, l.invariant.1 ∙ behind_on a.sizes.now a.fields l.i a.text.now l.at c.end_of-at.result e (omega arith) (omega arith))
+pub loop-size-preserved : goal.loop-size-preserved
+loop-size-preserved c = let text = c.args.text.now in
+    let l = c.loop-size in
+    let n = c.in-Some.size.now in
+    let e = field_ends text l.at n c.end_of-at.result (omega arith) c.end_of-at.ensures in
+    (e.within, e.rest ∙ ap (drop n) l.invariant.1 ∙ rw (map_push (λ n. n.now) l.yielded c.in-Some.size, behind_more (map (λ n. n.now) l.yielded) n text))
 
 pub returns : goal.returns
-returns c = let a = c.args in
-    let l = c.loop-i in
-    to_the_end l.at a.text.now ∙ behind_past a.sizes.now a.fields l.i a.text.now l.at (omega arith) ∙ sym l.invariant.1
+returns c = let text = c.args.text.now in
+    let l = c.loop-size in
+    let first = YieldsList-from_take c.args.fields (YieldsList-from_slice c.args.sizes.now cc) c.take-size-items.ensures.count in
+    let seen = YieldsList-end (YieldsList-at c.into_iter-size-iterator.ensures.into_iter_gives first) l.yielded _ l.yielded_by _ _ c.in-None.is c.next.ensures.steps in
+    to_the_end l.at text ∙ l.invariant.1 ∙ ap (λ ns. behind ns text) seen.0

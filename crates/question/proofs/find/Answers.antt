@@ -1,15 +1,12 @@
--- The search stops at the first byte `c`, passes any other, and ends with the text.
-use Rattle.refusal.proofs.Basics.{sym, ◌∙◌, arith}
-use Rattle.question.proofs.Laws.{find_stops, find_on, find_ends}
+-- The place of the first byte `c` is how long the piece before it is. Assumes nothing.
+use Rattle.refusal.proofs.Basics.{◌≡◌, ◌∙◌, rules}
+use Rattle.std.proofs.Common.{tests}
+use Rattle.std.proofs.lemmas.Iterator.{YieldsList-from_slice, IsFirst-from_position}
+use Rattle.question.proofs.Laws.{piece_found}
 use Rattle.question.proofs.find.Goals as goal
 
-pub returns-then-s-i : goal.returns-then-s-i
-returns-then-s-i c =
-    find_stops c.args.c c.args.s.now c.loop-i.i (omega arith) c.if-s-i.true ∙ sym c.loop-i.invariant.1
-
-pub loop-i-preserved : goal.loop-i-preserved
-loop-i-preserved c =
-    (omega arith, c.loop-i.invariant.1 ∙ find_on c.args.c c.args.s.now c.loop-i.i (omega arith) c.if-s-i.false)
-
 pub returns : goal.returns
-returns c = find_ends c.args.c c.args.s.now c.loop-i.i (omega arith) ∙ sym c.loop-i.invariant.1
+returns c =
+    c.unwrap_or.ensures
+    ∙ piece_found c.args.c c.args.s.now c.position.result
+    (IsFirst-from_position _ _ c.position.result (λ b. b ≡ c.args.c) (λ b. b ≡ c.args.c → ⊥) c.position.ensures.ran (YieldsList-from_slice c.args.s.now cc) (λ x q k. search (rules, tests)) (λ x q k. search (rules, tests)))

@@ -1,20 +1,12 @@
--- A byte more is read, and at the end the number is the whole.
-use Rattle.refusal.proofs.Basics.{sym, ap, ◌∙◌, arith}
-use Rattle.text.proofs.Values.{value_on, value_ends}
-use Rattle.question.proofs.Laws.{capped_fits, capped_on}
-use Rattle.question.specs.Question.{capped}
+-- The text is read byte by byte, each as one digit more. Assumes nothing.
+use Rattle.refusal.proofs.Basics.{◌∙◌, arith, rules}
+use Rattle.std.proofs.Common.{tests}
+use Rattle.std.proofs.lemmas.Iterator.{YieldsList-from_slice}
+use Rattle.std.proofs.lemmas.Iterator.Consumers.{fold_from_yields_List}
+use Rattle.question.proofs.Laws.{one_more, number_read}
 use Rattle.question.proofs.number.Goals as goal
-
-pub loop-i-preserved : goal.loop-i-preserved
-loop-i-preserved c = (
-  omega arith,
-  omega arith,
-  c.loop-i.invariant.2
-      ∙ rw (value_on c.loop-i.n c.args.s.now c.loop-i.i (omega arith), c.longer-n.ensures) (sym (capped_on _ _)),
-)
 
 pub returns : goal.returns
 returns c =
-    capped_fits c.loop-i.n (omega arith)
-    ∙ ap capped (value_ends c.loop-i.n c.args.s.now c.loop-i.i (omega arith) (omega arith))
-    ∙ sym c.loop-i.invariant.2
+    fold_from_yields_List _ one_more 0 c.fold.result c.fold.ensures.ran (YieldsList-from_slice c.args.s.now cc) (λ m x b q k. search (rules, tests))
+    ∙ number_read 0 c.args.s.now (omega arith)

@@ -1,5 +1,5 @@
--- There are as many verbs as bars and one; the search stops at the first that is the same, passes any other, and ends with the last.
-use Rattle.refusal.proofs.Basics.{sym, ◌∙◌, arith}
+-- There are as many verbs as bars and one; the search stops at the first that is the same, passes any other, and ends with the last. Assumes nothing.
+use Rattle.refusal.proofs.Basics.{◌≡◌, sym, ◌∙◌, arith, ◌+◌}
 use Rattle.text.specs.Split.{split}
 use Rattle.text.proofs.Pieces.{pieces_counted}
 use Rattle.question.proofs.Laws.{count_within, place_here, place_on, place_none}
@@ -13,23 +13,19 @@ returns-then-is_same c =
     place_here c.args.verb.now (split 124 c.args.verbs.now) c.loop-k.k
     (omega (arith, c.count-n.ensures, pieces_counted 124 c.args.verbs.now))
     (rw c.field.ensures at (sym c.is_same.ensures ∙ c.if-is_same.true))
-    ∙ sym c.loop-k.invariant.1
-
-pub overflow_add-k : goal.overflow_add-k
-overflow_add-k c = omega (arith, c.count-n.ensures, count_within 124 c.args.verbs.now)
+    ∙ sym c.loop-k.invariant
 
 pub loop-k-preserved : goal.loop-k-preserved
 loop-k-preserved c =
-    let h = pieces_counted 124 c.args.verbs.now in (
-      omega (arith, c.count-n.ensures),
-      c.loop-k.invariant.1
-          ∙ place_on c.args.verb.now (split 124 c.args.verbs.now) c.loop-k.k
-          (omega (arith, c.count-n.ensures))
-          (rw c.field.ensures at (sym c.is_same.ensures ∙ c.if-is_same.false)),
-    )
+    c.loop-k.invariant
+    ∙ place_on c.args.verb.now (split 124 c.args.verbs.now) c.loop-k.k
+    (omega (arith, c.count-n.ensures, pieces_counted 124 c.args.verbs.now))
+    (rw c.field.ensures at (sym c.is_same.ensures ∙ c.if-is_same.false))
 
 pub returns : goal.returns
 returns c =
-    place_none c.args.verb.now (split 124 c.args.verbs.now) c.loop-k.k
+    let e : c.count-n.result + 1 ≡ c.loop-k.k = omega arith in
+    e
+    ∙ place_none c.args.verb.now (split 124 c.args.verbs.now) c.loop-k.k
     (omega (arith, c.count-n.ensures, pieces_counted 124 c.args.verbs.now))
-    ∙ sym c.loop-k.invariant.1
+    ∙ sym c.loop-k.invariant

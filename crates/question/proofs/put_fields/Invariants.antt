@@ -1,12 +1,9 @@
--- The fields of what is left make up the whole.
-use Rattle.refusal.proofs.Basics.{◌≡◌, ◌≤◌, ◌-◌, length, drop, sets}
+-- The fields of what is left make up the whole. Assumes nothing.
+use Rattle.refusal.proofs.Basics.{◌≡◌, ◌≤◌, drop, sets}
 use Rattle.text.specs.Split.{split, joined}
 use Rattle.question.proofs.put_fields.Given as goal
 
-abbrev pub invariant-loop-i : goal.invariant-loop-i
-invariant-loop-i l =
-    (l.i ≤ length l.s) × (l.at ≤ l.i)
-    × (sets l.out l.at (joined (split 124 (drop l.i l.s))) ≡ sets l.initial.out 0 (joined (split 124 l.s)))
-
-abbrev pub decreases-loop-i : goal.decreases-loop-i
-decreases-loop-i l = length l.s - l.i
+abbrev pub invariant-loop-b : goal.invariant-loop-b
+invariant-loop-b l =
+    (l.at ≤ l.b-index)
+    × (sets l.out l.at (joined (split 124 (drop l.b-index l.s))) ≡ sets l.initial.out 0 (joined (split 124 l.s)))

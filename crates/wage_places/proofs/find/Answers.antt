@@ -4,17 +4,17 @@ use Rattle.wage_places.specs.Places.{spots}
 use Rattle.wage_places.proofs.Laws.{find_on, find_stops, find_ends}
 use Rattle.wage_places.proofs.find.Goals as goal
 
-pub returns-then-found-field : goal.returns-then-found-field
-returns-then-found-field c = let a = c.args in
+pub returns-then-p-field : goal.returns-then-p-field
+returns-then-p-field c = let a = c.args in
     let l = c.loop-k in
-    find_stops a.field (spots a.t) l.k c.spot_at-p.result (omega (arith, c.count-n.ensures)) c.spot_at-p.ensures c.if-found-field.true ∙ sym l.invariant.1
+    find_stops a.field (spots a.t) l.k c.spot_at-p.result (omega (arith, c.count-k-end.ensures)) c.spot_at-p.ensures c.if-p-field.true ∙ sym l.invariant
 
 pub loop-k-preserved : goal.loop-k-preserved
 loop-k-preserved c = let a = c.args in
     let l = c.loop-k in
-    (omega arith, l.invariant.1 ∙ find_on a.field (spots a.t) l.k c.spot_at-p.result (omega (arith, c.count-n.ensures)) c.spot_at-p.ensures c.if-found-field.false)
+    l.invariant ∙ find_on a.field (spots a.t) l.k c.spot_at-p.result (omega (arith, c.count-k-end.ensures)) c.spot_at-p.ensures c.if-p-field.false
 
 pub returns : goal.returns
 returns c = let a = c.args in
     let l = c.loop-k in
-    c.at.ensures ∙ find_ends a.field (spots a.t) l.k (omega (arith, c.count-n.ensures)) ∙ sym l.invariant.1
+    c.at.ensures ∙ find_ends a.field (spots a.t) l.k (omega (arith, c.count-k-end.ensures)) ∙ sym l.invariant
