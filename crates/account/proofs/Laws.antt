@@ -1,12 +1,12 @@
 -- What an IBAN's form decides, and its number, taken in runs of digits as the code takes it.
 -- Assumes nothing.
-use Rattle.refusal.proofs.Basics.{◌≡◌, refl, sym, ap, ◌∙◌, arith, ℕ, ◌+◌, ◌-◌, ◌*◌, ◌%◌, ◌≤◌, ◌<◌, length, take, drop, get_or, take-append-drop, length-drop, eqb-true, lt-leb, le-leb, List, [], ◌∷◌, ◌++◌, true, false, ◌&&◌, and-false, eqb, leb, length-take, length-take-le, take_all, drop-drop, mul-one, both_true, or_first}
+use Rattle.refusal.proofs.Basics.{◌≡◌, refl, sym, ap, ◌∙◌, arith, ℕ, ◌+◌, ◌-◌, ◌*◌, ◌%◌, ◌≤◌, ◌<◌, length, take, drop, get_or, take-append-drop, length-drop, eqb-true, List, [], ◌∷◌, ◌++◌, true, false, ◌&&◌, eqb, length-take, length-take-le, take_all, drop-drop, mul-one, both_true, or_first}
 use Rattle.classes.specs.Classes.{is_digit}
 use Rattle.text.specs.Bytes.{all_of, bytes_verdict}
 use Rattle.classes.specs.declared.Class.TheVariants.{Digits, Account}
 use Rattle.text.specs.Digits.{digits_of, value_from, value_of}
 use Rattle.text.proofs.Laws.{digits_append, all_apart, all_wider, all_passes}
-use Rattle.account.specs.Account.{check_digits, rearranged, iban_formed, iban_passes}
+use Rattle.account.specs.Account.{check_digits, in_range, rearranged, iban_formed, iban_passes}
 use Rattle.account.proofs.Runs.{value_after, digits_count, more_over, both_over, joined_over}
 
 -- ---------------------------------------------------------------------------
@@ -68,12 +68,12 @@ module _ (s : List ℕ) (e : iban_formed s ≡ true) where
       ∙ ap (λ (x : ℕ). (both + x) % 97) (mul-one (value_of zs) ∙ last_digits)
 
   -- the check digits in range, the number decides
-  pub number_decides : (k bank account : ℕ) → 2 ≤ k → k ≤ 98 → k ≡ value_of (check_digits s) → bank % 97 ≡ value_of (digits_of (take 7 (drop 4 s))) * 62 % 97 → account % 97 ≡ value_of (digits_of (take 10 (drop 11 s))) * 27 % 97 →
+  pub number_decides : (k bank account : ℕ) → in_range k ≡ true → k ≡ value_of (check_digits s) → bank % 97 ≡ value_of (digits_of (take 7 (drop 4 s))) * 62 % 97 → account % 97 ≡ value_of (digits_of (take 10 (drop 11 s))) * 27 % 97 →
       eqb ((bank + account + 172700 + k) % 97) 1 ≡ iban_passes s
   unfolding iban_passes
-  number_decides k bank account l g ek eb ea =
+  number_decides k bank account r ek eb ea =
       let z : bank + account + 172700 + k ≡ bank + account + (172700 + k) = omega arith in
-      rw (← ek, le-leb 2 k l, le-leb k 98 g, number_over, ← ek)
+      rw (← ek, r, number_over, ← ek)
       (ap (λ (x : ℕ). eqb x 1) (ap (λ (x : ℕ). x % 97) z ∙ more_over 97 (bank + account) _ (172700 + k) (both_over 97 bank _ account _ eb ea)))
 
 -- none of their bytes is bad
@@ -88,13 +88,7 @@ formed_permitted s e = all_passes Account s (go s (formed_length s e) (both_true
         let u = both_true (eqb b 82) (all_of Digits s) t.1 in
         unfold all_of in rw (eqb-true a 72 t.0, eqb-true b 82 u.0) (all_wider Digits Account (λ (d : ℕ) h. sym (or_first (is_digit d) _ h)) s u.1)
 
-module _ (s : List ℕ) (k : ℕ) (e : k ≡ value_of (check_digits s)) where
-  -- check digits below 02
-  pub low_fails : k < 2 → false ≡ iban_passes s
-  unfolding iban_passes
-  low_fails h = rw (← e, lt-leb 2 k h)
-
-  -- above 98
-  pub high_fails : 98 < k → false ≡ iban_passes s
-  unfolding iban_passes
-  high_fails h = rw (← e, lt-leb k 98 h, and-false (leb 2 k))
+-- other check digits fail
+pub range_fails : (s : List ℕ) (k : ℕ) → k ≡ value_of (check_digits s) → in_range k ≡ false → false ≡ iban_passes s
+unfolding iban_passes
+range_fails s k e r = rw (← e, r)

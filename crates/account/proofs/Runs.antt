@@ -1,7 +1,9 @@
 -- Runs of digits: the number of joined runs, and what it leaves over any modulus. `joined_over` is the law by which an IBAN's number is
 -- taken several digits at a time, whatever the runs' lengths.
 -- Assumes nothing.
-use Rattle.refusal.proofs.Basics.{◌≡◌, refl, sym, ap, ◌∙◌, arith, ℕ, suc, ◌+◌, ◌-◌, ◌*◌, ◌/◌, ◌%◌, ◌^◌, ◌≤◌, ◌<◌, length, take, drop, get_or, List, [], ◌∷◌, ◌++◌, true, add_comm, zero-add, zero-mul, one-mul, mod-eq_of_lt, drop-cons, drop-length, length-drop, div-add-mod, add-mul-mod_self_left, add-mul, mul-add, mul_assoc, mul_comm, mul_left_comm, pow-suc, both_true}
+use Rattle.refusal.proofs.Basics.{◌≡◌, refl, sym, ap, ◌∙◌, arith, ℕ, suc, ◌+◌, ◌-◌, ◌*◌, ◌/◌, ◌%◌, ◌^◌, ◌<◌, length, take, drop, get_or, List, [], ◌∷◌, ◌++◌, true, add_comm, zero-add, zero-mul, one-mul, mod-eq_of_lt, drop-cons, drop-length, length-drop, div-add-mod, add-mul-mod_self_left, add-mul, mul-add, mul_assoc, mul_comm, mul_left_comm, pow-suc, both_true, add-one}
+use Rattle.std.specs.Prelude.{reverse}
+use Rattle.std.proofs.lemmas.List.{get_or_read, get_or-reverse, length-reverse}
 use Rattle.classes.specs.Classes.{is_digit}
 use Rattle.classes.specs.declared.Class.TheVariants.{Digits}
 use Rattle.text.specs.Bytes.{all_of}
@@ -71,11 +73,23 @@ digits_count [] e = refl
 digits_count (b ∷ s) e = let t = both_true (is_digit b) (all_of Digits s) e in rw t.0 (ap suc (digits_count s t.1))
 
 -- before its last digit nothing is weighed, and the place is the last digit's
-pub run_starts : (m p : ℕ) (s : List ℕ) → p < m → (p ≡ 10 ^ (length s - length s) * p % m) × (0 % m ≡ value_of (digits_of (drop (length s) s)) * p % m)
+pub run_starts : (m p : ℕ) (s : List ℕ) → p < m → (p ≡ 10 ^ 0 * p % m) × (0 % m ≡ value_of (digits_of (drop (length s - 0) s)) * p % m)
 unfolding digits_of value_from
 run_starts m p s h =
-    let z : length s - length s ≡ 0 = omega arith in
-    (rw z (sym (ap (λ (x : ℕ). x % m) (one-mul p) ∙ mod-eq_of_lt h)), rw (drop-length s) (ap (λ (x : ℕ). x % m) (sym (zero-mul p))))
+    let z : length s - 0 ≡ length s = omega arith in
+    (sym (ap (λ (x : ℕ). x % m) (one-mul p) ∙ mod-eq_of_lt h), rw (z, drop-length s) (ap (λ (x : ℕ). x % m) (sym (zero-mul p))))
+
+-- one place further up leaves ten times as much
+pub place_on : (m p n at : ℕ) → at ≡ 10 ^ n * p % m → at * 10 % m ≡ 10 ^ (n + 1) * p % m
+place_on m p n at f =
+    rw (add-one n, f, pow-suc 10 n)
+    (ap (λ (x : ℕ). x % m) (mul_comm (10 ^ n * p % m) 10) ∙ times_over m 10 (10 ^ n * p) ∙ ap (λ (x : ℕ). x % m) (sym (mul_assoc 10 (10 ^ n) p) ∙ ap (λ (x : ℕ). x * p) (mul_comm 10 (10 ^ n))))
+
+-- the n-th byte from the end
+pub from_end : (s : List ℕ) (n b : ℕ) → (n < length (reverse s)) × (b ≡ get_or (reverse s) n b) → (n < length s) × (b ≡ get_or s (length s - 1 - n) 0)
+from_end s n b t =
+    let h : n < length s = omega (arith, t.0, length-reverse s) in
+    (h, get_or_read (reverse s) n b t.0 t.1 0 ∙ get_or-reverse s n 0 h)
 
 module _ (s : List ℕ) (e : all_of Digits s ≡ true) (i : ℕ) where
   -- a digit at place i, and digits behind it
@@ -86,25 +100,22 @@ module _ (s : List ℕ) (e : all_of Digits s ≡ true) (i : ℕ) where
   pub digit_at : i < length s → is_digit (get_or s i 0) ≡ true
   digit_at h = (parted h).0
 
-  module _ (m p j at : ℕ) (n : i + 1 ≡ j) (h : j ≤ length s) (f : at ≡ 10 ^ (length s - j) * p % m) where
-    -- weighed from the last digit up to place j: the digit before it is one more
-    pub run_on : (sum : ℕ) → sum % m ≡ value_of (digits_of (drop j s)) * p % m → (sum + (get_or s i 0 - 48) * at) % m ≡ value_of (digits_of (drop i s)) * p % m
-    unfolding digits_of value_from
-    run_on sum g =
-        let d = get_or s i 0 - 48 in
-        let ds = digits_of (drop j s) in
-        let k : suc i ≡ j = omega arith in
-        let t = parted (omega arith) in
-        let c : length ds ≡ length s - j = digits_count (drop j s) (ap (λ (n : ℕ). all_of Digits (drop n s)) (sym k) ∙ t.1) ∙ length-drop j s in
-        let z : digits_of (drop i s) ≡ (d ∷ []) ++ ds = rw (drop-cons s i 0 (omega arith), t.0) (ap (λ (n : ℕ). d ∷ digits_of (drop n s)) k) in
-        more_over m sum (value_of ds * p) (d * at) g
-        ∙ ap (λ (x : ℕ). x % m) (add_comm (value_of ds * p) (d * at))
-        ∙ sym (ap (λ (l : List ℕ). value_of l * p % m) z ∙ joined_over m p (length s - j) at (d ∷ []) ds c (sym f) ∙ ap (λ (x : ℕ). (x * at + value_of ds * p) % m) (zero-add d))
-
-    -- and its place leaves ten times as much
-    pub place_on : at * 10 % m ≡ 10 ^ (length s - i) * p % m
-    place_on =
-        let k = length s - j in
-        let z : length s - i ≡ suc k = omega arith in
-        rw (z, f, pow-suc 10 k)
-        (ap (λ (x : ℕ). x % m) (mul_comm (10 ^ k * p % m) 10) ∙ times_over m 10 (10 ^ k * p) ∙ ap (λ (x : ℕ). x % m) (sym (mul_assoc 10 (10 ^ k) p) ∙ ap (λ (x : ℕ). x * p) (mul_comm 10 (10 ^ k))))
+-- n digits weighed from the last one up: the digit before them is one more
+pub run_on :
+    (s : List ℕ) (e : all_of Digits s ≡ true) (m p n at sum : ℕ) → n < length s → at ≡ 10 ^ n * p % m
+    → sum % m ≡ value_of (digits_of (drop (length s - n) s)) * p % m
+    → (sum + (get_or s (length s - 1 - n) 0 - 48) * at) % m ≡ value_of (digits_of (drop (length s - (n + 1)) s)) * p % m
+unfolding digits_of value_from
+run_on s e m p n at sum h f g =
+    let i = length s - 1 - n in
+    let j = length s - n in
+    let d = get_or s i 0 - 48 in
+    let ds = digits_of (drop j s) in
+    let k : suc i ≡ j = omega arith in
+    let y : length s - (n + 1) ≡ i = omega arith in
+    let t = parted s e i (omega arith) in
+    let c : length ds ≡ n = digits_count (drop j s) (ap (λ (n : ℕ). all_of Digits (drop n s)) (sym k) ∙ t.1) ∙ omega (arith, length-drop j s) in
+    let z : digits_of (drop (length s - (n + 1)) s) ≡ (d ∷ []) ++ ds = rw (y, drop-cons s i 0 (omega arith), t.0) (ap (λ (n : ℕ). d ∷ digits_of (drop n s)) k) in
+    more_over m sum (value_of ds * p) (d * at) g
+    ∙ ap (λ (x : ℕ). x % m) (add_comm (value_of ds * p) (d * at))
+    ∙ sym (ap (λ (l : List ℕ). value_of l * p % m) z ∙ joined_over m p n at (d ∷ []) ds c (sym f) ∙ ap (λ (x : ℕ). (x * at + value_of ds * p) % m) (zero-add d))

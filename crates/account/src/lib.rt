@@ -18,16 +18,7 @@ use verdict::{Fault, Verdict};
 pub fn is_iban_formed(s: &[u8]) -> bool
     ensures { result ≡ iban_formed s.now }
 {
-    if s.len() != 21 {
-        return false;
-    }
-    if s[0] != 72 {
-        return false;
-    }
-    if s[1] != 82 {
-        return false;
-    }
-    text::all_of(Class::Digits, &s[2..])
+    s.len() == 21 && s[0] == b'H' && s[1] == b'R' && text::all_of(Class::Digits, &s[2..])
 }
 
 // A run of digits over a modulus: each digit times what its place leaves, `place` for the last one. No digit waits for another: where
@@ -36,12 +27,10 @@ fn run_over(modulus: u32, place: u32, s: &[u8]) -> u32
     requires { (all_of Class.Digits s.now ≡ true) × ((length s.now ≤ 20) × ((place < modulus) × (modulus < 100))) }
     ensures { (result % modulus ≡ value_of (digits_of s.now) * place % modulus) × (result ≤ 20000) }
 {
-    let mut sum: u32 = 0;
+    let mut sum = 0;
     let mut at = place;
-    let mut i = s.len();
-    while 0 < i {
-        i -= 1;
-        sum += (s[i] as u32 - 48) * at;
+    for b in s.iter().rev() {
+        sum += (*b - b'0') as u32 * at;
         at = at * 10 % modulus;
     }
     sum
@@ -56,10 +45,7 @@ pub fn iban_passes(s: &[u8]) -> bool
         return false;
     }
     let k = sums::number(&s[2..4]);
-    if k < 2 {
-        return false;
-    }
-    if 98 < k {
+    if !(2..=98).contains(&k) {
         return false;
     }
     let sum = run_over(97, 62, &s[4..11]) + run_over(97, 27, &s[11..21]);

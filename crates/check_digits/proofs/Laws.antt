@@ -1,6 +1,6 @@
 -- From how the code reads digits (specs/Mirror.antt) to what a check digit is (specs/CheckDigit.antt).
 -- Assumes nothing.
-use Rattle.refusal.proofs.Basics.{◌≡◌, refl, sym, ap, ◌∙◌, arith, ℕ, suc, ◌+◌, ◌-◌, ◌*◌, ◌/◌, ◌%◌, ◌≤◌, ◌<◌, length, drop, get_or, ne_eqb, lt-ltb, le-ltb, List, [], ◌∷◌, Bool, true, false, cond, ltb, lit<, drop-cons, drop-length, mod-lt, mod-eq_of_lt, mod-eq-sub-mod, mul-add, add-mul, suc-mul, mul_left_comm, zero-mul, div-add-mod, add-mul-mod_self_left, add-one, taken, left}
+use Rattle.refusal.proofs.Basics.{◌≡◌, refl, sym, ap, ◌∙◌, arith, ℕ, suc, ◌+◌, ◌-◌, ◌*◌, ◌/◌, ◌%◌, ◌≤◌, ◌<◌, length, ne_eqb, lt-ltb, le-ltb, List, [], ◌∷◌, ◌++◌, Bool, true, false, cond, ltb, lit<, mod-lt, mod-eq_of_lt, mod-eq-sub-mod, mul-add, add-mul, suc-mul, mul_left_comm, zero-mul, div-add-mod, add-mul-mod_self_left, taken, left}
 use Rattle.classes.specs.Classes.{is_digit}
 use Rattle.text.specs.Digits.{digits_of}
 use Rattle.check_digits.specs.declared.Rule.{Rule}
@@ -118,12 +118,8 @@ read_check_digit Mod1110 s =
     ap (λ (r : Run). digit_for Mod1110 r.sum) (run_of_digits Mod1110 (run_start Mod1110) s)
     ∙ ap (digit_for Mod1110) (iso_run (run_start Mod1110) (digits_of s))
 
--- the loop's turn, and its end
-module _ (rule : Rule) (run : Run) (s : List ℕ) (i : ℕ) where
-  pub run_on : i < length s → run_of rule run (drop i s) ≡ run_of rule (read_of rule run (get_or s i 0)) (drop (i + 1) s)
-  unfolding run_of
-  run_on h = rw (drop-cons s i 0 h, add-one)
-
-  pub run_ends : length s ≤ i → i ≤ length s → run ≡ run_of rule run (drop i s)
-  unfolding run_of
-  run_ends h g = let e : i ≡ length s = omega arith in rw (e, drop-length)
+-- one byte more
+pub run_after : (rule : Rule) (run : Run) (s : List ℕ) (b : ℕ) → run_of rule run (s ++ (b ∷ [])) ≡ read_of rule (run_of rule run s) b
+unfolding run_of
+run_after rule run [] b = refl
+run_after rule run (a ∷ s) b = run_after rule (read_of rule run a) s b

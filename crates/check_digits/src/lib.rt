@@ -91,13 +91,10 @@ fn read(rule: Rule, run: Run, b: u8) -> Run
     requires { Small run }
     ensures { result ≡ read_of rule run b }
 {
-    if b < 48 {
+    if !b.is_ascii_digit() {
         return run;
     }
-    if 57 < b {
-        return run;
-    }
-    step(rule, run, (b - 48) as u64)
+    step(rule, run, (b - b'0') as u64)
 }
 
 // INI: the digit for a remainder over 11.
@@ -128,12 +125,7 @@ fn digit_for(rule: Rule, run: Run) -> u8
 pub fn check_digit(rule: Rule, s: &[u8]) -> u8
     ensures { result ≡ check_digit rule (digits_of s.now) }
 {
-    let mut run = started(rule);
-    let mut i = 0;
-    while i < s.len() {
-        run = read(rule, run, s[i]);
-        i += 1;
-    }
+    let run = s.iter().fold(started(rule), |run, b| read(rule, run, *b));
     digit_for(rule, run)
 }
 
@@ -141,24 +133,17 @@ pub fn check_digit(rule: Rule, s: &[u8]) -> u8
 pub fn ends_right(rule: Rule, s: &[u8]) -> bool
     ensures { result ≡ passes rule s.now }
 {
-    let n = s.len();
-    if n == 0 {
+    let Some((last, before)) = s.split_last() else {
         return false;
-    }
-    let last = n - 1;
-    let d = check_digit(rule, &s[..last]);
-    s[last] == 48 + d
+    };
+    *last == b'0' + check_digit(rule, before)
 }
 
 // Whether a text has 1 to `most` bytes.
 fn is_sized(most: usize, s: &[u8]) -> bool
     ensures { result ≡ sized 1 most s.now }
 {
-    let n = s.len();
-    if n == 0 {
-        return false;
-    }
-    n <= most
+    (1..=most).contains(&s.len())
 }
 
 // Checks digits that end in their check digit: 1 for a length that is not 1 to 22, then 3 for a byte that is no

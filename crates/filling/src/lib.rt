@@ -15,11 +15,9 @@ pub fn filled(s: &[u8], number: u16, out: &mut [u8]) -> Answer
         return Err(Refusal::Room(refusal::nowhere(), n));
     }
     let mut k = number;
-    let mut i = n;
-    while i > 0 {
-        i -= 1;
-        if s[i] == 63 {
-            out[i] = 48 + (k % 10) as u8;
+    for i in (0..n).rev() {
+        if s[i] == b'?' {
+            out[i] = b'0' + (k % 10) as u8;
             k /= 10;
         } else {
             out[i] = s[i];

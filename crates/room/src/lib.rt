@@ -12,32 +12,22 @@ ghost use Rattle.text.specs.Digits.{digits_text};
 pub fn put(out: &mut [u8], at: usize, s: &[u8])
     ensures { out.new ≡ sets out.old at s.now }
 {
-    let mut next = at;
-    let mut i = 0;
-    while i < s.len() {
-        if out.len() <= next {
-            return;
-        }
-        out[next] = s[i];
-        next += 1;
-        i += 1;
+    if out.len() <= at {
+        return;
     }
+    let n = s.len().min(out.len() - at);
+    out[at..at + n].copy_from_slice(&s[..n]);
 }
 
 // The last digits of a number, with zeros in front.
 pub fn put_digits(out: &mut [u8], at: usize, digits: usize, n: u64)
     ensures { out.new ≡ sets out.old at (digits_text digits n) }
 {
-    if out.len() < at {
-        return;
-    }
-    let left = out.len() - at;
+    let left = out.len().saturating_sub(at);
     let mut rest = n;
-    let mut i = digits;
-    while 0 < i {
-        i -= 1;
+    for i in (0..digits).rev() {
         if i < left {
-            out[at + i] = (48 + rest % 10) as u8;
+            out[at + i] = b'0' + (rest % 10) as u8;
         }
         rest /= 10;
     }

@@ -100,16 +100,13 @@ fn with_digit(s: Sum, b: u8, most: u64) -> Sum
 {
     let high = s.high;
     let low = s.low;
-    if b < 48 {
-        return add(s, 0, most);
-    }
-    if 57 < b {
+    if !b.is_ascii_digit() {
         return add(s, 0, most);
     }
     if most / 10 < high {
         return Sum { high: most, low: 0 };
     }
-    let units = low % 1000000000000000000 * 10 + (b - 48) as u64;
+    let units = low % 1000000000000000000 * 10 + (b - b'0') as u64;
     let carried = low / 1000000000000000000 * 10 + units / 1000000000000000000;
     kept(high * 10, carried, units % 1000000000000000000, most)
 }
@@ -119,40 +116,31 @@ pub fn written(s: &[u8], most: u64) -> Sum
     ensures { result ≡ sum_of most (number_of s.now) }
 {
     let mut sum = nothing();
-    let mut i = 0;
-    while i < s.len() {
-        sum = with_digit(sum, s[i], most);
-        i += 1;
+    for b in s {
+        sum = with_digit(sum, *b, most);
     }
     sum
 }
 
 // A number with one digit more after it; what is no digit is passed over.
+#[tactic(auto, unfolding(text::specs::Digits::digits_of, text::specs::Digits::value_from))]
 fn longer(v: u64, b: u8) -> u64
     requires { v < limb }
     ensures { result ≡ value_from v (digits_of (b ∷ [])) }
 {
-    if b < 48 {
+    if !b.is_ascii_digit() {
         return v;
     }
-    if 57 < b {
-        return v;
-    }
-    v * 10 + (b - 48) as u64
+    v * 10 + (b - b'0') as u64
 }
 
 // The number that the digits among the first eighteen bytes of a text write.
 pub fn number(s: &[u8]) -> u64
     ensures { result ≡ number_in s.now }
 {
-    let mut v: u64 = 0;
-    let mut i = 0;
-    while i < s.len() {
-        if 18 <= i {
-            return v;
-        }
-        v = longer(v, s[i]);
-        i += 1;
+    let mut v = 0;
+    for b in s.iter().take(18) {
+        v = longer(v, *b);
     }
     v
 }

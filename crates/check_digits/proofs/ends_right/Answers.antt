@@ -1,20 +1,28 @@
 -- `check_digits::ends_right` meets its contract: the part before the last byte is what its check digit is made of. Assumes nothing.
-use Rattle.refusal.proofs.Basics.{ap, arith, ℕ, ◌+◌, ◌-◌, length, take, get_or, lt-ltb, le-ltb, eqb, and_first, and_second}
+use Rattle.refusal.proofs.Basics.{◌≡◌, refl, sym, ap, ◌∙◌, arith, ℕ, ◌+◌, ◌-◌, length, lt-ltb, le-ltb, List, [], ◌∷◌, ◌++◌, length-append, take-append_seam, get_or-append_seam, eqb, and_first}
 use Rattle.text.specs.Digits.{digits_of}
-use Rattle.check_digits.specs.CheckDigit.{passes}
+use Rattle.check_digits.specs.declared.Rule.{Rule}
+use Rattle.check_digits.specs.CheckDigit.{check_digit, passes}
 use Rattle.check_digits.proofs.Theorems.{check_digit_small}
 use Rattle.check_digits.proofs.ends_right.Goals as goal
 
-pub returns-then-n-eq0 : goal.returns-then-n-eq0
+-- a last byte, and those before it
+passes_at : (rule : Rule) (s : List ℕ) (b : ℕ) → eqb b (48 + check_digit rule (digits_of s)) ≡ passes rule (s ++ (b ∷ []))
 unfolding passes
-returns-then-n-eq0 c = and_first _ _ (le-ltb 0 (length c.args.s.now) (omega arith))
+passes_at rule s b =
+    let n = length-append s (b ∷ []) in
+    let e : length (s ++ (b ∷ [])) - 1 ≡ length s = omega arith in
+    rw (lt-ltb 0 (length (s ++ (b ∷ []))) (omega arith), e, get_or-append_seam s b [] 0, take-append_seam s (b ∷ [])) refl
+
+pub returns-in_default : goal.returns-in_default
+unfolding passes
+returns-in_default c = and_first _ _ (le-ltb 0 (length c.args.s.now) (omega (arith, c.in_default.ensures.cases)))
 
 pub overflow_add-result : goal.overflow_add-result
-overflow_add-result c = let a = c.args in
-    let e = c.check_digit-d.ensures in
-    omega (arith, e, check_digit_small a.rule (digits_of (take (length a.s.now - 1) a.s.now)))
+overflow_add-result c = omega (arith, c.check_digit.ensures, check_digit_small c.args.rule (digits_of c.in-Some.before.now))
 
 pub returns : goal.returns
-unfolding passes
-returns c = let s = c.args.s.now in
-    and_second _ _ _ (lt-ltb 0 (length s) (omega arith)) (ap (λ (d : ℕ). eqb (get_or s (length s - 1) 0) (48 + d)) c.check_digit-d.ensures)
+returns c =
+    ap (λ (d : ℕ). eqb c.in-Some.last.now (48 + d)) c.check_digit.ensures
+    ∙ passes_at c.args.rule c.in-Some.before.now c.in-Some.last.now
+    ∙ ap (passes c.args.rule) (sym c.in-Some.ensures.cases.0)

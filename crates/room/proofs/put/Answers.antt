@@ -1,9 +1,13 @@
--- `room::put` meets its contract. The loop's invariant: what is left of the text makes up the whole. Assumes nothing.
-use Rattle.refusal.proofs.Basics.{arith, sets}
-use Rattle.room.proofs.Laws.{copied_full}
+-- `room::put` meets its contract: the part that fits is written. Assumes nothing.
+use Rattle.refusal.proofs.Basics.{◌≡◌, sym, arith, ◌+◌, ◌-◌}
+use Rattle.room.proofs.Laws.{sets_past, copied_part}
 use Rattle.room.proofs.put.Goals as goal
 
-pub returns-then-out-next : goal.returns-then-out-next
-returns-then-out-next c = let l = c.loop-i in
-    let a = c.args in
-    copied_full a.s.now l.out (sets a.out.now a.at a.s.now) l.next l.i (omega arith) l.invariant.1.1
+pub returns-then-out-at : goal.returns-then-out-at
+returns-then-out-at c = sym (sets_past c.args.out.now c.args.at c.args.s.now (omega arith))
+
+pub returns : goal.returns
+returns c = let a = c.args in
+    let n = c.min-n.result in
+    let k : a.at + n - a.at ≡ n = omega arith in
+    rw (k, c.copy_from_slice.ensures.after) (copied_part a.s.now a.out.now a.at n (omega arith) (omega arith) (λ h. omega arith))

@@ -1,12 +1,9 @@
 -- `room::put_digits` meets its contract. The loop's invariant: the digits left make up the whole. Assumes nothing.
 use Rattle.refusal.proofs.Basics.{◌≡◌, sym, ap, ◌∙◌, arith, ◌+◌, ◌-◌, ◌%◌, length, set, length-set, sets, set_out}
 use Rattle.text.specs.Digits.{digits_text}
-use Rattle.room.proofs.Laws.{sets_past, digit_more, digits_all}
+use Rattle.room.proofs.Laws.{digit_more, digits_all}
 use Rattle.room.proofs.put_digits.Goals as goal
 use Rattle.room.proofs.put_digits.Goals.{then-i-left, else-i-left}
-
-pub returns-then-out-at : goal.returns-then-out-at
-returns-then-out-at c = let a = c.args in sym (sets_past a.out.now a.at (digits_text a.digits a.n) (omega arith))
 
 pub loop-i-preserved : goal.loop-i-preserved
 loop-i-preserved c = let l = c.loop-i in

@@ -5,6 +5,3 @@ use Rattle.room.proofs.put_digits.Given as goal
 
 abbrev pub invariant-loop-i : goal.invariant-loop-i
 invariant-loop-i l = (length l.out ≡ length l.initial.out) × (sets l.out l.at (digits_text l.i l.rest) ≡ sets l.initial.out l.at (digits_text l.digits l.n))
-
-abbrev pub decreases-loop-i : goal.decreases-loop-i
-decreases-loop-i l = l.i
