@@ -1,11 +1,11 @@
 -- A text's characters, one after another, from a place of the text on.
 -- Assumes nothing.
-use Rattle.refusal.proofs.Basics.{◌≡◌, refl, sym, ap, ◌∙◌, arith, ℕ, suc, ◌+◌, ◌-◌, ◌≤◌, ◌<◌, length, drop, get_or, ne_eqb, lt-ltb, lt-leb, le-leb, List, [], ◌∷◌, Bool, true, false, false≢true, cond, ◌||◌, zero-add, add-zero, taken, left}
-use Rattle.std.specs.Prelude.{Some, None}
+use Rattle.refusal.proofs.Basics.{◌≡◌, refl, sym, ap, ◌∙◌, arith, ℕ, suc, ◌+◌, ◌-◌, ◌≤◌, ◌<◌, length, drop, get_or, ne_eqb, lt-ltb, List, [], ◌∷◌, Bool, true, false, false≢true, cond, ◌||◌, zero-add, add-zero, taken, left}
+use Rattle.std.specs.Prelude.{Some, None, leb}
 use Rattle.text.specs.Bytes.{later}
 use Rattle.text.proofs.Laws.{shifted, shifted_zero, shifted_later, Below, below_later}
-use Rattle.verdict.specs.Verdict.{wrong_at}
-use Rattle.verdict.proofs.Verdicts.{refused}
+use Rattle.verdict.specs.Verdict.{wrong_at, only_if}
+use Rattle.verdict.specs.declared.Fault.{Fault}
 use Rattle.characters.specs.Answers.{characters_verdict}
 use Rattle.characters.specs.Characters.{is_single, after_c4, after_c5, is_pair, is_completed, first_wrong, characters}
 
@@ -114,8 +114,8 @@ module _ (s : List ℕ) (n : ℕ) where
       first (b ∷ []) h e q = lone_wrong b e
       first (b ∷ (c ∷ r)) h e q = others_wrong b c r e (rw (lt-ltb 0 (suc (length r)) (omega arith)) at q)
 
-      here : (i : ℕ) → shifted i (At 0) ≡ At i
-      here i = ap At (add-zero i)
+      here : (i : ℕ) → shifted i (Some 0) ≡ Some i
+      here i = ap Some (add-zero i)
 
   -- at the end
   pub passed_all : (rest : List ℕ) → Passed s rest n → length rest ≡ 0 → (first_wrong s ≡ None) × (characters s ≡ n)
@@ -148,16 +148,11 @@ wrong_below (b ∷ (c ∷ s)) = go (is_single b) (is_pair b c) (wrong_below (c �
 
 -- 3, told of the byte
 pub wrong_told : (most : ℕ) (s : List ℕ) (i : ℕ) → first_wrong s ≡ Some i → wrong_at i ≡ characters_verdict most s
-wrong_told most s i e = rw e (refused (wrong_at i) _ (wrong_at i) (λ z. omega arith) refl)
+wrong_told most s i e = rw e
 
-module _ (most n : ℕ) (s : List ℕ) (e : (first_wrong s ≡ None) × (characters s ≡ n)) where
-  -- 4
-  pub long_told : most < n → 4 ≡ characters_verdict most s
-  long_told h = rw (e.0, e.1, lt-leb n most h)
-
-  -- not too many characters
-  pub short_accepted : n ≤ most → 0 ≡ characters_verdict most s
-  short_accepted h = rw (e.0, e.1, le-leb n most h)
+-- 4, where the characters are too many
+pub counted_told : (most n : ℕ) (s : List ℕ) → (first_wrong s ≡ None) × (characters s ≡ n) → only_if (leb n most) Fault.Length ≡ characters_verdict most s
+counted_told most n s e = rw (e.0, e.1)
 
 -- ---------------------------------------------------------------------------
 -- The letters of two bytes, by their first

@@ -1,8 +1,10 @@
 -- What is promised of text fields: which texts are permitted, accepted exactly when, characters against bytes.
 -- Assumes nothing.
 use Rattle.refusal.proofs.Basics.{◌≡◌, refl, ap, ◌∙◌, arith, ℕ, zero, suc, ◌*◌, ◌≤◌, ◌<◌, length, get_or, leb-true, le-leb, eqb-true, List, [], ◌∷◌, Bool, true, false, cond, ◌&&◌, ◌||◌, and-false, eqb, ◌↔◌}
-use Rattle.std.specs.Prelude.{Option, Some, None}
+use Rattle.std.specs.Prelude.{Option, Some, None, Err}
 use Rattle.verdict.proofs.Verdicts.{both_pass, test_holds}
+use Rattle.verdict.specs.Verdict.{passed}
+use Rattle.verdict.specs.declared.Fault.{Fault}
 use Rattle.text.specs.Bytes.{later, found}
 use Rattle.text.proofs.Laws.{nothing_found}
 use Rattle.characters.specs.Characters.{is_single, after_c4, after_c5, is_pair, first_wrong, characters}
@@ -39,7 +41,7 @@ first_permitted b c s false true p q f g e = pair q (g (nothing_later (first_wro
 first_permitted b c s false false p q f g e = let z : ◌≡◌ {A = ℕ} 0 1 = cc in absurd (omega arith)
 
 -- a text of one byte in which nothing is wrong
-last_permitted : (b : ℕ) (t : Bool) → is_single b ≡ t → cond t None (Some 0) ≡ None → Permitted (b ∷ [])
+last_permitted : (b : ℕ) (t : Bool) → is_single b ≡ t → cond {A = Option ℕ} t None (Some 0) ≡ None → Permitted (b ∷ [])
 last_permitted b true p e = single p empty
 last_permitted b false p e = let z : ◌≡◌ {A = ℕ} 0 1 = cc in absurd (omega arith)
 
@@ -65,9 +67,9 @@ permitted_exactly s = (is_permitted s, nothing_wrong)
 -- Accepted exactly when
 
 -- a text is accepted exactly when nothing in it is wrong and its characters are not too many
-pub accepted_exactly : (most : ℕ) (s : List ℕ) → (characters_verdict most s ≡ 0) ↔ ((first_wrong s ≡ None) × (characters s ≤ most))
+pub accepted_exactly : (most : ℕ) (s : List ℕ) → (characters_verdict most s ≡ passed) ↔ ((first_wrong s ≡ None) × (characters s ≤ most))
 accepted_exactly most s = (
-  λ e. let h = both_pass (found (first_wrong s)) _ e in (nothing_found (first_wrong s) h.0, leb-true (characters s) most (test_holds _ 4 refl h.1)),
+  λ e. let h = both_pass (found (first_wrong s)) _ e in (nothing_found (first_wrong s) h.0, leb-true (characters s) most (test_holds _ _ h.1)),
   λ h. rw (h.0, le-leb (characters s) most h.1),
 )
 
@@ -139,11 +141,11 @@ manyŽ zero = []
 manyŽ (suc n) = 197 ∷ (189 ∷ manyŽ n)
 
 -- thirty are accepted
-pub thirty_accepted : characters_verdict 30 (manyŽ 30) ≡ 0
+pub thirty_accepted : characters_verdict 30 (manyŽ 30) ≡ passed
 unfolding manyŽ first_wrong characters
 thirty_accepted = refl
 
 -- thirty-one are 4
-pub thirty_one_refused : characters_verdict 30 (manyŽ 31) ≡ 4
+pub thirty_one_refused : characters_verdict 30 (manyŽ 31) ≡ Err Fault.Length
 unfolding manyŽ first_wrong characters
 thirty_one_refused = refl

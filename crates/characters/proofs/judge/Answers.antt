@@ -1,7 +1,7 @@
 -- `characters::judge` meets its contract: each turn passes a character, or tells the byte where none stands. Assumes nothing.
 use Rattle.refusal.proofs.Basics.{sym, ◌∙◌, arith, ◌<◌, length}
 use Rattle.text.proofs.Laws.{to_the_end}
-use Rattle.characters.proofs.Laws.{passed_none, passed_single, passed_pair, passed_wrong, passed_all, wrong_told, long_told, short_accepted}
+use Rattle.characters.proofs.Laws.{passed_none, passed_single, passed_pair, passed_wrong, passed_all, wrong_told, counted_told}
 use Rattle.characters.proofs.judge.Goals as goal
 use Rattle.characters.proofs.judge.Goals.{then-is_single, else-is_single+then-is_completed}
 
@@ -25,12 +25,7 @@ returns-else-is_completed c = let a = c.args in
     wrong_told a.most a.s.now _
     (passed_wrong a.s.now l.n l.rest.now l.invariant h (sym c.is_single.ensures ∙ c.if-is_single.false) (rw to_the_end at (sym c.is_completed.ensures ∙ c.if-is_completed.false)))
 
-pub returns-then-n-most : goal.returns-then-n-most
-returns-then-n-most c = let a = c.args in
-    let l = c.loop-rest in
-    long_told a.most l.n a.s.now (passed_all a.s.now l.n l.rest.now l.invariant (omega arith)) c.if-n-most.true
-
 pub returns : goal.returns
 returns c = let a = c.args in
     let l = c.loop-rest in
-    short_accepted a.most l.n a.s.now (passed_all a.s.now l.n l.rest.now l.invariant (omega arith)) c.if-n-most.false
+    c.only_if.ensures ∙ counted_told a.most l.n a.s.now (passed_all a.s.now l.n l.rest.now l.invariant (omega arith))

@@ -14,7 +14,7 @@ loop-d-init t c = (λ b. refl, digits_none _ _ _ _ _ _)
 
 pub bounds-w-i : goal.bounds-w-i
 bounds-w-i t c =
-    let o : Open c.args.t.now c.args.n c.in-At.i c.args.left = record { first = first_mark _ _ (sym c.first_bad.ensures ∙ c.in-At.is); all = c.requires.1.0; some = c.if-left-eq0.false } in
+    let o : Open c.args.t.now c.args.n c.in-Some.i c.args.left = record { first = first_mark _ _ (sym c.first_bad.ensures ∙ c.in-Some.is); all = c.requires.1.0; some = c.if-left-eq0.false } in
     omega (arith, c.requires.0, first_before o)
 
 pub overflow_mul-number : goal.overflow_mul-number
@@ -25,7 +25,7 @@ overflow_add-number t c = omega (arith, number_small c.args.number c.args.left c
 
 pub list-next-requires : goal.list-next-requires
 list-next-requires t c =
-    let o : Open c.args.t.now c.args.n c.in-At.i c.args.left = record { first = first_mark _ _ (sym c.first_bad.ensures ∙ c.in-At.is); all = c.requires.1.0; some = c.if-left-eq0.false } in
+    let o : Open c.args.t.now c.args.n c.in-Some.i c.args.left = record { first = first_mark _ _ (sym c.first_bad.ensures ∙ c.in-Some.is); all = c.requires.1.0; some = c.if-left-eq0.false } in
     let l = c.loop-d in
     let small : l.d < 10 = omega arith in
     let number = c.args.number in
@@ -33,12 +33,12 @@ list-next-requires t c =
 
 pub loop-d-preserved : goal.loop-d-preserved
 loop-d-preserved t c =
-    let o : Open c.args.t.now c.args.n c.in-At.i c.args.left = record { first = first_mark _ _ (sym c.first_bad.ensures ∙ c.in-At.is); all = c.requires.1.0; some = c.if-left-eq0.false } in
+    let o : Open c.args.t.now c.args.n c.in-Some.i c.args.left = record { first = first_mark _ _ (sym c.first_bad.ensures ∙ c.in-Some.is); all = c.requires.1.0; some = c.if-left-eq0.false } in
     let l = c.loop-d in
     (λ b. rw set-set (l.invariant.0 b), digits_more o _ c.args.number l.d (omega arith) l.invariant.1 (rw (l.invariant.0 (48 + l.d)) at c.list-next.ensures))
 
 pub returns : goal.returns
 returns t c =
-    let o : Open c.args.t.now c.args.n c.in-At.i c.args.left = record { first = first_mark _ _ (sym c.first_bad.ensures ∙ c.in-At.is); all = c.requires.1.0; some = c.if-left-eq0.false } in
+    let o : Open c.args.t.now c.args.n c.in-Some.i c.args.left = record { first = first_mark _ _ (sym c.first_bad.ensures ∙ c.in-Some.is); all = c.requires.1.0; some = c.if-left-eq0.false } in
     let l = c.loop-d in
     digits_all o _ c.args.number l.d (omega arith) (omega arith) l.invariant.1
