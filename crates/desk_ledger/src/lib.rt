@@ -10,7 +10,8 @@ ghost use Rattle.units.specs.Units.{lipa_in_cents};
 ghost use Rattle.desk_ledger.specs.Ledgers.{ledger_told};
 
 use boundary::Told;
-use ledger_slip::LedgerSlip;
+use ledger_slip::Amount;
+use refusal::Refusal;
 use text::Part;
 use units::Lipa;
 
@@ -35,11 +36,11 @@ fn converted(lipa: u64) -> u64
 }
 
 // A slip of either currency.
-fn tell(slip: LedgerSlip) -> Ledger
+fn tell(slip: Result<Amount, Refusal>) -> Ledger
     ensures { result ≡ ledger_told slip }
 {
     match slip {
-        LedgerSlip::Euro(c) => {
+        Ok(Amount::Euro(c)) => {
             let cents = c.number;
             Ledger {
                 told: boundary::accept(),
@@ -49,7 +50,7 @@ fn tell(slip: LedgerSlip) -> Ledger
                 converted: 0,
             }
         }
-        LedgerSlip::Kuna(l) => {
+        Ok(Amount::Kuna(l)) => {
             let lipa = l.number;
             Ledger {
                 told: boundary::accept(),
@@ -59,7 +60,7 @@ fn tell(slip: LedgerSlip) -> Ledger
                 converted: converted(lipa),
             }
         }
-        LedgerSlip::Refused(r) => Ledger {
+        Err(r) => Ledger {
             told: boundary::refuse(r),
             currency: 0,
             cents: 0,

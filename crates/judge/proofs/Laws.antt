@@ -3,19 +3,20 @@
 use Rattle.refusal.proofs.Basics.{◌≡◌, refl, sym, ◌∙◌, ℕ, ◌<◌, List, Bool, true, false, cond, ◌&&◌, eqb, ltb, lt-ltb, ltb-true, eqb-true, both_true, false≢true}
 use Rattle.std.specs.Prelude.{Err, Ok, Result}
 use Rattle.refusal.specs.Refusal.{Answer}
+use Rattle.verdict.specs.Verdict.{Verdict, passed}
 use Rattle.refusal.specs.declared.Refusal.{Refusal}
 use Rattle.wage_places.specs.declared.LineType.{LineType}
 use Rattle.wage_line.specs.Line.{typed_of}
 use Rattle.wage_fields.specs.Rules.{places_answer, RightLine}
 use Rattle.condition.specs.declared.Judge.{Judge}
-use Rattle.condition.specs.Record.{stage_of, is_refused, refused_with, at_line, next_line, beyond, is_sound}
+use Rattle.condition.specs.Record.{is_refused, refused_with, beyond, is_sound}
 use Rattle.standing.specs.Standing.{after, stand_verdict}
-use Rattle.judge.specs.Judge.{after_places, type_step, typed_step, stepped}
+use Rattle.judge.specs.Judge.{after_places, after_verdict, type_step, typed_step, stepped}
 
 -- a sound record that is not refused takes a right line where it may come
 pub goes :
     (j : Judge) (s : List ℕ) (t : LineType) → is_refused j.condition ≡ false → is_sound j ≡ true → j.read.lines < 1000000 → RightLine j.day j.kind t s →
-    stand_verdict (stage_of j.condition) j.group t ≡ 0 → stepped j s ≡ after j s t
+    stand_verdict j.condition j.group t ≡ passed → stepped j s ≡ after j s t
 unfolding stepped type_step
 goes j s t a b c w e = rw (a, b, lt-ltb _ _ c, w.typed, e, w.fields)
 
@@ -25,7 +26,7 @@ pub record Taken (j : Judge) (s : List ℕ) : Type 0 where
   pub typed : typed_of s ≡ Ok line
   pub sound : is_sound j ≡ true
   pub limit : j.read.lines < 1000000
-  pub stands : stand_verdict (stage_of j.condition) j.group line ≡ 0
+  pub stands : stand_verdict j.condition j.group line ≡ passed
   pub fields : places_answer j.day j.kind line s ≡ Ok tt
   pub goes : stepped j s ≡ after j s line
 
@@ -37,7 +38,7 @@ module _ (j : Judge) (s : List ℕ) where
   taken_typed unrefused sound limit e = typed_as (typed_of s) refl e
     where
       placed :
-          (t : LineType) (a : Answer) → typed_of s ≡ Ok t → stand_verdict (stage_of j.condition) j.group t ≡ 0 → places_answer j.day j.kind t s ≡ a →
+          (t : LineType) (a : Answer) → typed_of s ≡ Ok t → stand_verdict j.condition j.group t ≡ passed → places_answer j.day j.kind t s ≡ a →
           is_refused (after_places j s t a).condition ≡ false → Taken j s
       placed t (Ok tt) f v p h = record {
         line = t;
@@ -50,14 +51,12 @@ module _ (j : Judge) (s : List ℕ) where
       }
       placed t (Err r) f v p h = absurd (false≢true (sym h))
 
-      stood :
-          (t : LineType) (b : Bool) → typed_of s ≡ Ok t → let v = stand_verdict (stage_of j.condition) j.group t in eqb v 0 ≡ b →
-          is_refused (cond b (after_places j s t (places_answer j.day j.kind t s)) (refused_with (at_line v (next_line j)) j)).condition ≡ false → Taken j s
-      stood t true f v h = placed t (places_answer j.day j.kind t s) f (eqb-true _ _ v) refl h
-      stood t false f v h = absurd (false≢true (sym h))
+      stood : (t : LineType) (v : Verdict) → typed_of s ≡ Ok t → stand_verdict j.condition j.group t ≡ v → is_refused (after_verdict j s t v).condition ≡ false → Taken j s
+      stood t (Ok tt) f v h = placed t (places_answer j.day j.kind t s) f v refl h
+      stood t (Err r) f v h = absurd (false≢true (sym h))
 
       typed_as : (t : Result LineType Refusal) → typed_of s ≡ t → is_refused (typed_step j s t).condition ≡ false → Taken j s
-      typed_as (Ok t) f h = stood t (eqb (stand_verdict (stage_of j.condition) j.group t) 0) f refl h
+      typed_as (Ok t) f h = stood t (stand_verdict j.condition j.group t) f refl h
       typed_as (Err r) f h = absurd (false≢true (sym h))
 
   pub taken : is_refused (stepped j s).condition ≡ false → Taken j s

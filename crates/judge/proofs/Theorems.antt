@@ -5,6 +5,8 @@ use Rattle.std.specs.Prelude.{Err, Ok, Result}
 use Rattle.refusal.specs.Refusal.{Answer, none, refusal_number, in_line}
 use Rattle.refusal.specs.declared.Refusal.{Refusal}
 use Rattle.refusal.specs.declared.Refusal.TheVariants.{Date, Beyond}
+use Rattle.verdict.specs.Verdict.{Verdict, refusal_at}
+use Rattle.verdict.proofs.Verdicts.{never_29}
 use Rattle.dates.specs.Dates.{is_date}
 use Rattle.wage_places.specs.declared.LineType.{LineType}
 use Rattle.wage_places.specs.declared.LineType.TheVariants.{Label, Group, Order, Closing}
@@ -14,11 +16,11 @@ use Rattle.wage_fields.specs.Rules.{places_answer}
 use Rattle.wage_fields.proofs.Theorems.{places_never_29}
 use Rattle.condition.specs.declared.Condition.TheVariants.{Refused}
 use Rattle.condition.specs.declared.Judge.{Judge}
-use Rattle.condition.specs.Record.{stage_of, is_refused, refused_with, at_line, next_line, beyond, is_sound, fresh, begun, ended}
+use Rattle.condition.specs.Record.{line_place, is_refused, refused_with, at_line, next_line, beyond, is_sound, fresh, begun, ended}
 use Rattle.condition.proofs.Theorems.{refusal_ends}
 use Rattle.standing.specs.Standing.{after, stand_verdict}
-use Rattle.standing.proofs.Laws.{in_line_29, stand_never_29}
-use Rattle.judge.specs.Judge.{after_places, type_step, typed_step, stepped, steps}
+use Rattle.standing.proofs.Laws.{in_line_29}
+use Rattle.judge.specs.Judge.{after_places, after_verdict, type_step, typed_step, stepped, steps}
 
 -- ---------------------------------------------------------------------------
 -- "After a refusal each step and the end give that refusal again"
@@ -97,15 +99,15 @@ module _ (j : Judge) (s : List ℕ) where
   -- after a line of a type: 10, 12, 13 or what its places say
   type_clear : (t : LineType) → Clear (type_step j s t)
   unfolding type_step
-  type_clear t =
-      let v = stand_verdict (stage_of j.condition) j.group t in
-      either_clear (eqb v 0) (after_places j s t (places_answer j.day j.kind t s)) (refused_with (at_line v (next_line j)) j)
-      (placed (places_answer j.day j.kind t s) refl)
-      (other_clear (at_line v (next_line j)) j (stand_never_29 (stage_of j.condition) j.group t (next_line j)))
+  type_clear t = judged (stand_verdict j.condition j.group t)
     where
       placed : (a : Answer) → places_answer j.day j.kind t s ≡ a → Clear (after_places j s t a)
       placed (Ok tt) e = after_clear t
       placed (Err r) e = other_clear (in_line (next_line j) r) j (λ h. places_never_29 j.day j.kind t s r e (in_line_29 (next_line j) r h))
+
+      judged : (v : Verdict) → Clear (after_verdict j s t v)
+      judged (Ok tt) = placed (places_answer j.day j.kind t s) refl
+      judged (Err f) = other_clear (refusal_at f (line_place (next_line j))) j (never_29 f _)
 
   -- after any line
   typed_clear : (t : Result LineType Refusal) → NotOverfull t → Clear (typed_step j s t)

@@ -15,8 +15,8 @@ use Rattle.slip_fields.proofs.Theorems.{hrvhub30_accepted, other_currency_refuse
 use Rattle.slip.specs.Slip.{fields_answer, slip_answer_in, slip_answer, piece_of}
 use Rattle.slip.proofs.Plain.{PlainSlip, accepted_plainly}
 use Rattle.slip_handed.specs.Handed.{amount_of, field_of, field_part}
-use Rattle.ledger_slip.specs.declared.LedgerSlip.{LedgerSlip}
-use Rattle.ledger_slip.specs.declared.LedgerSlip.TheVariants.{Euro, Kuna, Refused}
+use Rattle.ledger_slip.specs.declared.Amount.{Amount}
+use Rattle.ledger_slip.specs.declared.Amount.TheVariants.{Euro, Kuna}
 use Rattle.ledger_slip.specs.Ledger.{currency_of, amount_in, ledger_from, ledger_of, ledger_field, ledger_part}
 
 -- ---------------------------------------------------------------------------
@@ -39,10 +39,9 @@ never_both s e k =
 -- Accepted exactly when, for both
 
 -- the number of an amount, whatever its unit
-abbrev number_in : LedgerSlip → ℕ
+abbrev number_in : Amount → ℕ
 number_in (Euro cents) = cents.number
 number_in (Kuna lipa) = lipa.number
-number_in (Refused r) = 0
 
 -- an amount in a unit is of one currency and one number
 amount_one : (c d : Currency) (m n : ℕ) → amount_in c m ≡ amount_in d n → (c ≡ d) × (m ≡ n)
@@ -52,22 +51,16 @@ amount_one currency.Kuna currency.Kuna m n e = (refl, ap number_in e)
 amount_one currency.Euro currency.Kuna m n e = let z : ◌≡◌ {A = ℕ} 0 1 = cc in absurd (omega arith)
 amount_one currency.Kuna currency.Euro m n e = let z : ◌≡◌ {A = ℕ} 0 1 = cc in absurd (omega arith)
 
--- and no refusal
-not_refused : (c : Currency) (n : ℕ) (r : Refusal) → Refused r ≡ amount_in c n → ⊥
-unfolding amount_in
-not_refused currency.Euro n r e = let z : ◌≡◌ {A = ℕ} 0 1 = cc in omega arith
-not_refused currency.Kuna n r e = let z : ◌≡◌ {A = ℕ} 0 1 = cc in omega arith
-
 -- an accepted slip is of its currency, with the amount of its field 3, exactly when it is as the documents ask
-pub ledger_exactly : (c : Currency) (s : List ℕ) (n : ℕ) → (ledger_of s ≡ amount_in c n) ↔ (PlainSlip c s × (n ≡ amount_of s))
+pub ledger_exactly : (c : Currency) (s : List ℕ) (n : ℕ) → (ledger_of s ≡ Ok (amount_in c n)) ↔ (PlainSlip c s × (n ≡ amount_of s))
 unfolding ledger_of
 ledger_exactly c s n = (λ e. go (slip_answer_in (currency_of s) s) refl e, λ w. back w)
   where
-    go : (a : Answer) → slip_answer_in (currency_of s) s ≡ a → ledger_from (currency_of s) (amount_of s) a ≡ amount_in c n → PlainSlip c s × (n ≡ amount_of s)
-    go (Ok tt) g e = let h = amount_one (currency_of s) c (amount_of s) n e in ((accepted_plainly c s).0 (rw h.0 at g), sym h.1)
-    go (Err r) g e = absurd (not_refused c n r e)
+    go : (a : Answer) → slip_answer_in (currency_of s) s ≡ a → ledger_from (currency_of s) (amount_of s) a ≡ Ok (amount_in c n) → PlainSlip c s × (n ≡ amount_of s)
+    go (Ok tt) g e = let h = amount_one (currency_of s) c (amount_of s) n cc in ((accepted_plainly c s).0 (rw h.0 at g), sym h.1)
+    go (Err r) g e = let z : ◌≡◌ {A = ℕ} 0 1 = cc in absurd (omega arith)
 
-    back : PlainSlip c s × (n ≡ amount_of s) → ledger_from (currency_of s) (amount_of s) (slip_answer_in (currency_of s) s) ≡ amount_in c n
+    back : PlainSlip c s × (n ≡ amount_of s) → ledger_from (currency_of s) (amount_of s) (slip_answer_in (currency_of s) s) ≡ Ok (amount_in c n)
     back (w, e) = rw (plain_currency c s w, (accepted_plainly c s).1 w, e)
 
 -- ---------------------------------------------------------------------------

@@ -6,17 +6,16 @@
 ghost use Rattle.std.specs.Prelude.{◌≡◌};
 ghost use Rattle.ledger_slip.specs.Ledger.{currency_of, amount_in, ledger_of, ledger_part, ledger_field};
 
-use refusal::{Answer, Refusal};
+use refusal::Refusal;
 use slip_fields::Currency;
 use text::Part;
 use units::{Cents, Lipa};
 
-// A slip that is accepted, with its amount, or its refusal.
+// The amount of an accepted slip, in the unit of its currency.
 #[derive(Clone, Copy)]
-pub enum LedgerSlip {
+pub enum Amount {
     Euro(Cents),
     Kuna(Lipa),
-    Refused(Refusal),
 }
 
 // The currency in which a slip is judged: kuna where field 2 says so.
@@ -30,24 +29,22 @@ pub fn currency(s: &[u8]) -> Currency
 }
 
 // An accepted slip's amount, in the unit of its currency.
-fn amount(currency: Currency, number: u64) -> LedgerSlip
+fn amount(currency: Currency, number: u64) -> Amount
     ensures { result ≡ amount_in currency number }
 {
     match currency {
-        Currency::Euro => LedgerSlip::Euro(Cents { number }),
-        Currency::Kuna => LedgerSlip::Kuna(Lipa { number }),
+        Currency::Euro => Amount::Euro(Cents { number }),
+        Currency::Kuna => Amount::Kuna(Lipa { number }),
     }
 }
 
 // A slip of either currency: as `slip::read_in` in the currency that its field 2 names.
-pub fn read(s: &[u8]) -> LedgerSlip
+pub fn read(s: &[u8]) -> Result<Amount, Refusal>
     ensures { result ≡ ledger_of s.now }
 {
     let currency = currency(s);
-    match slip::read_in(currency, s) {
-        Ok(()) => amount(currency, sums::number(slip_handed::piece_text(s, 2))),
-        Err(r) => LedgerSlip::Refused(r),
-    }
+    slip::read_in(currency, s)?;
+    Ok(amount(currency, sums::number(slip_handed::piece_text(s, 2))))
 }
 
 // Where a field of an accepted slip stands, 4 to 14; else no part.

@@ -4,7 +4,8 @@ use Rattle.refusal.proofs.Basics.{◌≡◌, refl, arith, ℕ}
 use Rattle.refusal.specs.declared.Refusal.{Refusal}
 use Rattle.refusal.specs.declared.Refusal.TheVariants.{Size, Ends, Byte, Length, Form, Check, Model, Parts, Digit, Misplaced, Date, Orders, Sum, Unfinished, Room, Marks, Beyond, Sheet, Field, Overfull}
 use Rattle.std.specs.Prelude.{Ok, Err}
-use Rattle.refusal.specs.Refusal.{Answer, refusal_number, refusal_place, needed_of, refusal_of}
+use Rattle.refusal.specs.declared.Place.{Place}
+use Rattle.refusal.specs.Refusal.{Answer, refusal_number, refusal_place, needed_of, refusal_of, moved}
 
 -- ---------------------------------------------------------------------------
 -- The paper's number, the place and the needed number say all that a refusal holds
@@ -33,3 +34,28 @@ numbers_tell_all (Overfull p) = refl
 
 pub refused_not_accepted : (r : Refusal) → ◌≡◌ {A = Answer} (Err r) (Ok tt) → ⊥
 refused_not_accepted r e = let z : ◌≡◌ {A = ℕ} 0 1 = cc in omega arith
+
+-- ---------------------------------------------------------------------------
+-- Told of another place, a refusal keeps its number
+
+pub moved_number : (q : Place) (r : Refusal) → refusal_number (moved q r) ≡ refusal_number r
+moved_number q (Size p) = refl
+moved_number q (Ends p) = refl
+moved_number q (Byte p) = refl
+moved_number q (Length p) = refl
+moved_number q (Form p) = refl
+moved_number q (Check p) = refl
+moved_number q (Model p) = refl
+moved_number q (Parts p) = refl
+moved_number q (Digit p) = refl
+moved_number q (Misplaced p) = refl
+moved_number q (Date p) = refl
+moved_number q (Orders p) = refl
+moved_number q (Sum p) = refl
+moved_number q (Unfinished p) = refl
+moved_number q (Room p n) = refl
+moved_number q (Marks p) = refl
+moved_number q (Beyond p) = refl
+moved_number q (Sheet p) = refl
+moved_number q (Field p) = refl
+moved_number q (Overfull p) = refl

@@ -1,12 +1,13 @@
 -- What the programs `slipfile` and `ledger` print of a slip: `accepted` and its fields 3 to 14, a line each, or its refusal with its place.
-use Rattle.std.specs.Prelude.{ℕ, zero, suc, ◌-◌, List, [], ◌∷◌, ◌++◌, Ok, Err}
+use Rattle.std.specs.Prelude.{ℕ, zero, suc, ◌-◌, List, [], ◌∷◌, ◌++◌, Result, Ok, Err}
 use Rattle.refusal.specs.Refusal.{Answer}
 use Rattle.refusal.specs.Basics.{spelt}
 use Rattle.text.specs.Split.{split}
 use Rattle.slip.specs.Slip.{slip_answer, piece_of}
 use Rattle.units.specs.Units.{lipa_in_cents}
-use Rattle.ledger_slip.specs.declared.LedgerSlip.{LedgerSlip}
-use Rattle.ledger_slip.specs.declared.LedgerSlip.TheVariants as ledger
+use Rattle.refusal.specs.declared.Refusal.{Refusal}
+use Rattle.ledger_slip.specs.declared.Amount.{Amount}
+use Rattle.ledger_slip.specs.declared.Amount.TheVariants.{Euro, Kuna}
 use Rattle.ledger_slip.specs.Ledger.{ledger_of}
 use Rattle.printed.specs.Printed.{decimal, refused_text}
 
@@ -42,10 +43,10 @@ unfoldable pub slip_printed : List ℕ → List ℕ
 slip_printed s = printed_for (slip_answer s) s
 
 -- a slip of either currency
-abbrev pub ledger_lines : LedgerSlip → List ℕ → List ℕ
-ledger_lines (ledger.Euro cents) s = euro_line ++ field_lines s 3 12
-ledger_lines (ledger.Kuna lipa) s = (kuna_line ++ field_lines s 3 12) ++ cents_line lipa.number
-ledger_lines (ledger.Refused r) s = refused_text r
+abbrev pub ledger_lines : Result Amount Refusal → List ℕ → List ℕ
+ledger_lines (Ok (Euro cents)) s = euro_line ++ field_lines s 3 12
+ledger_lines (Ok (Kuna lipa)) s = (kuna_line ++ field_lines s 3 12) ++ cents_line lipa.number
+ledger_lines (Err r) s = refused_text r
 
 unfoldable pub ledger_printed : List ℕ → List ℕ
 ledger_printed s = ledger_lines (ledger_of s) s

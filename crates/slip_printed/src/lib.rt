@@ -6,7 +6,7 @@ ghost use Rattle.std.specs.Prelude.{◌++◌, ◌≤◌, length};
 ghost use Rattle.printed.specs.Printed.{Puts};
 ghost use Rattle.slip_printed.specs.SlipPrinted.{cents_line, field_line, field_lines, slip_printed, ledger_printed};
 
-use ledger_slip::LedgerSlip;
+use ledger_slip::Amount;
 use refusal::Answer;
 use units::Lipa;
 
@@ -66,11 +66,11 @@ pub fn print_ledger(s: &[u8], out: &mut [u8]) -> usize
     ensures { Puts (ledger_printed s.now) 0 out.old result out.new }
 {
     match ledger_slip::read(s) {
-        LedgerSlip::Euro(cents) => put_accepted(b"accepted euro\n", s, out),
-        LedgerSlip::Kuna(lipa) => {
+        Ok(Amount::Euro(_)) => put_accepted(b"accepted euro\n", s, out),
+        Ok(Amount::Kuna(lipa)) => {
             let next = put_accepted(b"accepted kuna\n", s, out);
             put_cents(out, next, lipa)
         }
-        LedgerSlip::Refused(r) => printed::put_refused(out, 0, r),
+        Err(r) => printed::put_refused(out, 0, r),
     }
 }

@@ -1,10 +1,8 @@
--- Laws of what was read, kept as plain numbers: a line more, and the limits that lines alone keep; and what 10, 12 and 13 are not. Assumes nothing.
-use Rattle.refusal.proofs.Basics.{◌≡◌, ap, arith, ℕ, ◌+◌, ◌*◌, ◌≤◌, List, true, ◌&&◌, eqb, ltb}
+-- Laws of what was read, kept as plain numbers: a line more, and the limits that lines alone keep. Assumes nothing.
+use Rattle.refusal.proofs.Basics.{◌≡◌, sym, ap, ◌∙◌, arith, ℕ, ◌+◌, ◌*◌, ◌≤◌, List, true}
 use Rattle.refusal.specs.Refusal.{refusal_number, in_line}
 use Rattle.refusal.specs.declared.Refusal.{Refusal}
-use Rattle.verdict.specs.Verdict.{verdict_number, Within}
-use Rattle.verdict.proofs.Verdicts.{plain_within, choice_within, then_within, only_within, overfull_alone, never_29}
-use Rattle.sums.specs.Sums.{same_sum}
+use Rattle.refusal.proofs.Theorems.{moved_number}
 use Rattle.sums.proofs.Theorems.{sum_fits}
 use Rattle.tally.specs.declared.Tally.{Tally}
 use Rattle.tally.specs.declared.Growth.{Growth}
@@ -14,9 +12,7 @@ use Rattle.wage_places.specs.declared.LineType.{LineType}
 use Rattle.wage_places.specs.declared.LineType.TheVariants.{Label, Group, Order, Closing}
 use Rattle.worked_out.proofs.Theorems.{amount_small}
 use Rattle.condition.specs.declared.Counts.{Counts}
-use Rattle.condition.specs.declared.Open.{Open}
-use Rattle.condition.specs.Record.{at_line}
-use Rattle.standing.specs.Standing.{growth_of, one_more, whole_verdict, stand_verdict}
+use Rattle.standing.specs.Standing.{growth_of, one_more}
 
 -- lines, and a tally in plain numbers
 pub record Read : Type 0 where
@@ -55,30 +51,8 @@ fair_within m f h =
     (record { groups = omega (arith, f.groups); orders = omega (arith, f.orders); total = sum_fits 1000 m.tally.cents (omega (arith, f.cents, f.orders)) })
 
 -- ---------------------------------------------------------------------------
--- 29 is none of the judge's own
+-- A refusal told of a line
 
 -- a line's refusal is a 29 where it was one before its line was told
 pub in_line_29 : (line : ℕ) (r : Refusal) → refusal_number (in_line line r) ≡ 29 → refusal_number r ≡ 29
-in_line_29 line r e = overfull_alone (refusal_number r) _ _ e
-
--- 10, 12 and 13 are numbers of document 01's table
-stand_within : (at : ℕ) (g : Open) (t : LineType) → Within 0 (stand_verdict at g t)
-unfolding stand_verdict
-stand_within at g t = go t
-  where
-    whole : Within 0 (whole_verdict at g)
-    whole =
-        then_within 0 _ _ (only_within 0 (eqb at 2 && ltb 0 g.counted) 10 (omega arith))
-        (then_within 0 _ _ (only_within 0 (eqb g.counted g.declared) 12 (omega arith)) (only_within 0 (same_sum g.total g.promised) 13 (omega arith)))
-
-    go : (u : LineType) → Within 0 (stand_verdict at g u)
-    go Label = only_within 0 (eqb at 0) 10 (omega arith)
-    go Group = choice_within 0 (eqb at 1) 0 (whole_verdict at g) (plain_within 0 0 (omega arith)) whole
-    go Order = then_within 0 _ _ (only_within 0 (eqb at 2) 10 (omega arith)) (only_within 0 (ltb g.counted g.declared) 12 (omega arith))
-    go Closing = whole
-
--- so what they say of a line is no 29
-pub stand_never_29 : (at : ℕ) (g : Open) (t : LineType) (line : ℕ) → refusal_number (at_line (stand_verdict at g t) line) ≡ 29 → ⊥
-stand_never_29 at g t line e =
-    let v = stand_verdict at g t in
-    never_29 0 v (stand_within at g t) (ap (λ (n : ℕ). verdict_number n) (overfull_alone v _ _ e))
+in_line_29 line r e = sym (moved_number _ r) ∙ e

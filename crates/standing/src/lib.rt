@@ -35,6 +35,7 @@ fn judge_whole(c: Condition, g: Open) -> Verdict
 }
 
 // A line of a type, where the judge stands: 10, 12, 13.
+#[tactic(auto, unfolding(crate::specs::Standing::stand_verdict))]
 pub fn judge_standing(c: Condition, g: Open, t: LineType) -> Verdict
     ensures { result ≡ stand_verdict c g t }
 {

@@ -7,14 +7,10 @@ use Rattle.judge.proofs.type_step.Goals as goal
 pub overflow_add-next : goal.overflow_add-next
 overflow_add-next c = omega (arith, (sound_within c.args.j c.requires).lines)
 
-pub returns-then-verdict-ne0 : goal.returns-then-verdict-ne0
+pub returns-in-Err : goal.returns-in-Err
 unfolding type_step
-returns-then-verdict-ne0 c = rw (c.refused.ensures, c.at_line.ensures, ← c.stage.ensures, ← c.judge_standing-verdict.ensures, ne_eqb _ _ c.if-verdict-ne0.true)
+returns-in-Err c = rw (c.refused.ensures, c.told.ensures, c.at_line.ensures, ← c.judge_standing.ensures, c.in-Err.is)
 
 pub returns-in-Ok : goal.returns-in-Ok
 unfolding type_step
-returns-in-Ok c = rw (← c.stage.ensures, ← c.judge_standing-verdict.ensures, eq-eqb _ _ c.if-verdict-ne0.false, ← c.judge_places.ensures, c.in-Ok.is) (rw c.requires at c.after.ensures)
-
-pub returns-in-Err : goal.returns-in-Err
-unfolding type_step
-returns-in-Err c = rw (← c.stage.ensures, ← c.judge_standing-verdict.ensures, eq-eqb _ _ c.if-verdict-ne0.false, ← c.judge_places.ensures, c.in-Err.is, c.refused-in-Err.ensures, c.in_line.ensures)
+returns-in-Ok c = rw (← c.judge_standing.ensures, ← c.judge_places.ensures, c.in-Ok.is) (rw c.requires at c.after.ensures)
