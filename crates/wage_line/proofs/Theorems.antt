@@ -34,7 +34,7 @@ type_digits : (t : LineType) (a b c : ℕ) → type_from a b c ≡ Ok t → a �
 unfolding type_from type_text
 type_digits t a b c = go (eqb a 51) (eqb b 48) (eqb b 57) (eqb c 48) (eqb c 49) (eqb c 57) refl refl refl refl refl refl
   where
-    told : (u : LineType) (x y z : ℕ) → type_text u ≡ x ∷ (y ∷ (z ∷ [])) → eqb a x ≡ true → eqb b y ≡ true → eqb c z ≡ true → Ok u ≡ Ok t → a ∷ (b ∷ (c ∷ [])) ≡ type_text t
+    told : (u : LineType) (x y z : ℕ) → type_text u ≡ x ∷ (y ∷ (z ∷ [])) → eqb a x ≡ true → eqb b y ≡ true → eqb c z ≡ true → ◌≡◌ {A = Result LineType Refusal} (Ok u) (Ok t) → a ∷ (b ∷ (c ∷ [])) ≡ type_text t
     told u x y z w f g h e =
         let i : u ≡ t = cc in
         rw (← i, w, eqb-true a x f, eqb-true b y g, eqb-true c z h)
