@@ -1,5 +1,6 @@
 -- Laws of texts put one behind the other into lent room, and of numbers in decimal digits. Assumes nothing.
-use Rattle.refusal.proofs.Basics.{◌≡◌, refl, sym, ap, ◌∙◌, arith, ℕ, zero, suc, ◌+◌, ◌-◌, ◌/◌, ◌^◌, ◌≤◌, ◌<◌, length, length-append, le-ltb, lt-ltb, ltb-true, ltb-false, List, [], ◌++◌, Bool, true, false, cond, ltb, sets, length-sets, pow-suc}
+use Rattle.refusal.proofs.Basics.{◌≡◌, refl, sym, ap, ◌∙◌, arith, ℕ, zero, suc, ◌+◌, ◌*◌, ◌/◌, ◌^◌, ◌≤◌, ◌<◌, length, length-append, le-ltb, lt-ltb, ltb-true, ltb-false, List, [], ◌++◌, Bool, true, false, cond, ltb, sets, length-sets, pow-suc, one-le-pow}
+use Prim.Native.Nat.{max}
 use Rattle.text.proofs.Stands.{sets_append}
 use Rattle.text.specs.Digits.{digits_text}
 use Rattle.room.proofs.Laws.{sets_past}
@@ -71,22 +72,21 @@ module _ {s out after : List ℕ} {at r : ℕ} where
 -- ---------------------------------------------------------------------------
 -- How many digits a number has
 
-module _ (rest : ℕ) where
-  -- one below 10
-  pub width_one : (k : ℕ) → rest < 10 → 1 ≤ k → width_in k rest ≡ 1
-  unfolding width_in
-  width_one zero h l = omega arith
-  width_one (suc k) h l = rw (lt-ltb rest 10 h)
+-- one more than its logarithm
+width_log : (k d n : ℕ) → d < k → 10 ^ d ≤ n → n < 10 * 10 ^ d → width_in k n ≡ suc d
+unfolding width_in
+width_log zero d n h l g = absurd (omega arith)
+width_log (suc k) zero n h l g = rw (lt-ltb n 10 g)
+width_log (suc k) (suc d) n h l g =
+    let e = pow-suc 10 d in
+    let p = one-le-pow d 10 (omega arith) in
+    rw (le-ltb n 10 (omega arith)) (ap suc (width_log k d (n / 10) (omega arith) (omega arith) (omega arith)))
 
-  -- else one more than its tenth
-  pub width_more : (k : ℕ) → 10 ≤ rest → rest < 10 ^ k → (width_in k rest ≡ suc (width_in (k - 1) (rest / 10))) × ((rest / 10 < 10 ^ (k - 1)) × (2 ≤ k))
-  unfolding width_in
-  width_more zero h l = let e : 10 ^ 0 ≡ 1 = refl in omega arith
-  width_more (suc zero) h l = let e : 10 ^ 1 ≡ 10 = refl in omega arith
-  width_more (suc (suc k)) h l =
-      let e = pow-suc 10 (suc k) in
-      let p : suc (suc k) - 1 ≡ suc k = omega arith in
-      rw p (rw (le-ltb rest 10 h), (omega arith, omega arith))
+-- zero has as many as one
+pub width_max : (n d : ℕ) → d < 20 → 10 ^ d ≤ max n 1 → max n 1 < 10 * 10 ^ d → d + 1 ≡ width_in 20 n
+unfolding width_in
+width_max zero d h l g = omega (arith, width_log 20 d 1 h l g)
+width_max (suc n) d h l g = omega (arith, width_log 20 d (suc n) h (omega arith) (omega arith))
 
 -- as many digits as that
 pub decimal_length : (n : ℕ) → length (decimal n) ≡ width_in 20 n

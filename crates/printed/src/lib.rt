@@ -24,16 +24,11 @@ pub fn put(out: &mut [u8], at: usize, s: &[u8]) -> usize
 }
 
 // How many decimal digits a number has.
+#[tactic(auto, using(crate::proofs::Laws::width_max))]
 fn width(n: u64) -> usize
     ensures { result ≡ width_in 20 n }
 {
-    let mut rest = n;
-    let mut digits = 1;
-    while 10 <= rest {
-        rest /= 10;
-        digits += 1;
-    }
-    digits
+    n.max(1).ilog10() as usize + 1
 }
 
 // A number in decimal digits.

@@ -25,14 +25,8 @@ pub fn total(s: &[u8]) -> Sum
 {
     let amount = wage_places::find(LineType::Order, 10);
     let mut sum = sums::nothing();
-    let mut at = 0;
-    while at < s.len() {
-        sum = sums::add(
-            sum,
-            sums::number(wage_places::part(amount, wage_line::piece(s, at))),
-            100,
-        );
-        at = wage_line::next_piece(s, at);
+    for line in s.chunks(1002) {
+        sum = sums::add(sum, sums::number(wage_places::part(amount, line)), 100);
     }
     sum
 }
