@@ -45,28 +45,18 @@ fn draft_in(
     ensures { Drafts (drafted day kind t (take (last - first) (drop first (spots t))) (fields_of sizes.now text.now) line.old) result line.new }
 {
     let count = wage_places::count(t);
-    let mut k = first;
-    let mut i: usize = 0;
     let mut at: usize = 0;
-    'places: loop {
-        if last <= k {
-            break 'places Ok(());
-        }
+    'places: for k in first..last {
         if count <= k {
-            break 'places Ok(());
+            break 'places;
         }
-        let end = lent_fields::end_of(text, at, lent_fields::size_at(sizes, i));
+        let end = lent_fields::end_of(text, at, lent_fields::size_at(sizes, k - first));
         match place(day, kind, t, k, &text[at..end], line) {
-            Ok(()) => {
-                at = end;
-                k += 1;
-                i += 1;
-            }
-            Err(r) => {
-                break 'places Err(r);
-            }
+            Ok(()) => at = end,
+            Err(r) => return Err(r),
         }
     }
+    Ok(())
 }
 
 // Those places in scratch room that has the line's size; only a draft that is accepted is put back.

@@ -1,5 +1,5 @@
 -- Laws of the pieces of a file: one by one from a place on, joined again, of whole lines, and of what holds of each. Assumes nothing.
-use Rattle.refusal.proofs.Basics.{◌≡◌, refl, sym, ap, ◌∙◌, arith, ℕ, zero, suc, ◌+◌, ◌/◌, ◌%◌, ◌≤◌, ◌<◌, length, take, drop, get_or, length-drop, length-append, take-append-drop, drop_of_length-le, le-leb, lt-leb, leb-true, leb-false, List, [], ◌∷◌, ◌++◌, Bool, true, false, cond, leb, drop-drop, drop-length, length-take-le, take_all, take_at, drop_at, append-nil, taken, left}
+use Rattle.refusal.proofs.Basics.{◌≡◌, refl, sym, ap, ◌∙◌, arith, ℕ, zero, suc, ◌+◌, ◌/◌, ◌%◌, ◌≤◌, ◌<◌, length, take, drop, get_or, length-drop, length-append, take-append-drop, drop_of_length-le, le-leb, lt-leb, leb-false, List, [], ◌∷◌, ◌++◌, Bool, true, false, cond, leb, drop-drop, drop-length, length-take-le, take_all, take_at, drop_at, append-nil, taken, left}
 use Rattle.std.specs.Prelude.{min}
 use Rattle.text.specs.Split.{joined}
 use Rattle.wage_line.specs.Pieces.{pieces_of, pieces, next_piece}
@@ -15,14 +15,6 @@ module _ (n at : ℕ) where
   -- behind a whole piece
   pub next_whole : at + 1002 ≤ n → at + 1002 ≡ next_piece n at
   next_whole h = taken (leb (at + 1002) n) (at + 1002) n (le-leb (at + 1002) n h)
-
--- behind the piece at a place, and within the file
-pub piece_advances : (s : List ℕ) (at : ℕ) → at < length s → (at < next_piece (length s) at) × (next_piece (length s) at ≤ length s)
-piece_advances s at h = go (leb (at + 1002) (length s)) refl
-  where
-    go : (b : Bool) → leb (at + 1002) (length s) ≡ b → (at < cond b (at + 1002) (length s)) × (cond b (at + 1002) (length s) ≤ length s)
-    go true e = let g = leb-true (at + 1002) (length s) e in (omega arith, g)
-    go false e = (h, omega arith)
 
 -- what is left there is what is left 1,002 bytes on
 pub piece_dropped : (s : List ℕ) (at : ℕ) → drop (at + 1002) s ≡ drop (next_piece (length s) at) s

@@ -15,16 +15,13 @@ fn judge_lines(day: u64, kind: u64, s: &[u8]) -> Answer
     ensures { result ≡ orders_from day kind 1 (pieces s.now) }
 {
     let mut n: usize = 1;
-    let mut at: usize = 0;
+    let mut pieces = s.chunks(1002);
     'lines: loop {
-        if s.len() <= at {
+        let Some(line) = pieces.next() else {
             break 'lines Ok(());
-        }
-        match lent_order::judge_order(day, kind, n, wage_line::piece(s, at)) {
-            Ok(()) => {
-                n += 1;
-                at = wage_line::next_piece(s, at);
-            }
+        };
+        match lent_order::judge_order(day, kind, n, line) {
+            Ok(()) => n += 1,
             Err(r) => {
                 break 'lines Err(r);
             }

@@ -1,4 +1,4 @@
--- `wage_draft::draft_in` meets its contract. The loop's invariant: what is left to be drafted is the whole draft. Assumes nothing.
+-- `wage_draft::draft_in`: what is left to be drafted is the whole draft. Assumes nothing.
 use Rattle.refusal.proofs.Basics.{◌≡◌, ◌≤◌, ◌-◌, length, take, drop}
 use Rattle.wage_places.specs.Places.{spots}
 use Rattle.lent_fields.specs.Fields.{fields_of}
@@ -7,7 +7,4 @@ use Rattle.wage_draft.proofs.Laws.{Left}
 use Rattle.wage_draft.proofs.draft_in.Given as goal
 
 abbrev pub invariant-places : goal.invariant-places
-invariant-places l = (l.at ≤ length l.text) × ((l.i ≤ l.k) × ((length l.line ≡ length l.initial.line) × (drafted l.day l.kind l.t (take (l.last - l.first) (drop l.first (spots l.t))) (fields_of l.sizes l.text) l.initial.line ≡ Left l.day l.kind l.t (spots l.t) l.last l.k l.sizes l.i l.text l.at l.line)))
-
-abbrev pub decreases-places : goal.decreases-places
-decreases-places l = l.count - l.k
+invariant-places l = (l.at ≤ length l.text) × ((length l.line ≡ length l.initial.line) × (drafted l.day l.kind l.t (take (l.last - l.first) (drop l.first (spots l.t))) (fields_of l.sizes l.text) l.initial.line ≡ Left l.day l.kind l.t (spots l.t) l.last l.k l.sizes (l.k - l.first) l.text l.at l.line))
