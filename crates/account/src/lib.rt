@@ -18,16 +18,7 @@ use verdict::{Fault, Verdict};
 pub fn is_iban_formed(s: &[u8]) -> bool
     ensures { result ≡ iban_formed s.now }
 {
-    if s.len() != 21 {
-        return false;
-    }
-    if s[0] != 72 {
-        return false;
-    }
-    if s[1] != 82 {
-        return false;
-    }
-    text::all_of(Class::Digits, &s[2..])
+    s.len() == 21 && s[0] == b'H' && s[1] == b'R' && text::all_of(Class::Digits, &s[2..])
 }
 
 // A run of digits over a modulus: each digit times what its place leaves, `place` for the last one. No digit waits for another: where
@@ -78,6 +69,7 @@ pub fn check_iban(s: &[u8]) -> Verdict
 }
 
 // An IBAN: 3 with its byte, 4, 5, 6. Of one that is right nothing else is asked.
+#[tactic(auto, using(crate::proofs::Theorems::iban_right))]
 pub fn iban(s: &[u8]) -> Verdict
     ensures { result ≡ iban_verdict s.now }
 {
@@ -91,6 +83,7 @@ pub fn iban(s: &[u8]) -> Verdict
 }
 
 // Whether an OIB's check holds.
+#[tactic(auto, unfolding(crate::specs::Account::oib_passes))]
 pub fn oib_passes(s: &[u8]) -> bool
     ensures { result ≡ oib_passes s.now }
 {
