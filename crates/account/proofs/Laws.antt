@@ -3,6 +3,7 @@
 use Rattle.refusal.proofs.Basics.{◌≡◌, refl, sym, ap, ◌∙◌, arith, ℕ, ◌+◌, ◌-◌, ◌*◌, ◌%◌, ◌≤◌, ◌<◌, length, take, drop, get_or, take-append-drop, length-drop, eqb-true, List, [], ◌∷◌, ◌++◌, true, false, ◌&&◌, eqb, length-take, length-take-le, take_all, drop-drop, mul-one, both_true, or_first}
 use Rattle.classes.specs.Classes.{is_digit}
 use Rattle.text.specs.Bytes.{all_of, bytes_verdict}
+use Rattle.verdict.specs.Verdict.{passed}
 use Rattle.classes.specs.declared.Class.TheVariants.{Digits, Account}
 use Rattle.text.specs.Digits.{digits_of, value_from, value_of}
 use Rattle.text.proofs.Laws.{digits_append, all_apart, all_wider, all_passes}
@@ -77,7 +78,7 @@ module _ (s : List ℕ) (e : iban_formed s ≡ true) where
       (ap (λ (x : ℕ). eqb x 1) (ap (λ (x : ℕ). x % 97) z ∙ more_over 97 (bank + account) _ (172700 + k) (both_over 97 bank _ account _ eb ea)))
 
 -- none of their bytes is bad
-pub formed_permitted : (s : List ℕ) → iban_formed s ≡ true → bytes_verdict Account s ≡ 0
+pub formed_permitted : (s : List ℕ) → iban_formed s ≡ true → bytes_verdict Account s ≡ passed
 formed_permitted s e = all_passes Account s (go s (formed_length s e) (both_true (eqb (length s) 21) _ e).1)
   where
     go : (s : List ℕ) → length s ≡ 21 → (eqb (get_or s 0 0) 72 && (eqb (get_or s 1 0) 82 && all_of Digits (drop 2 s))) ≡ true → all_of Account s ≡ true

@@ -64,6 +64,7 @@ pub fn check_iban(s: &[u8]) -> Verdict
 }
 
 // An IBAN: 3 with its byte, 4, 5, 6. Of one that is right nothing else is asked.
+#[tactic(auto, using(crate::proofs::Theorems::iban_right))]
 pub fn iban(s: &[u8]) -> Verdict
     ensures { result ≡ iban_verdict s.now }
 {
@@ -77,6 +78,7 @@ pub fn iban(s: &[u8]) -> Verdict
 }
 
 // Whether an OIB's check holds.
+#[tactic(auto, unfolding(crate::specs::Account::oib_passes))]
 pub fn oib_passes(s: &[u8]) -> bool
     ensures { result ≡ oib_passes s.now }
 {
