@@ -12,16 +12,10 @@ use verdict::{Fault, Verdict};
 pub fn number(s: &[u8]) -> Option<usize>
     ensures { result ≡ model_number s.now }
 {
-    if s.len() != 4 {
-        return None;
+    match s {
+        [b'H', b'R', a, b] => text::two_digits(*a, *b),
+        _ => None,
     }
-    if s[0] != 72 {
-        return None;
-    }
-    if s[1] != 82 {
-        return None;
-    }
-    text::two_digits(s[2], s[3])
 }
 
 // A model's text: 5, then 7 where it is not handled.
