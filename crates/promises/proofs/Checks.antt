@@ -4,7 +4,7 @@ use Rattle.refusal.proofs.Basics.{◌≡◌, refl, arith, ℕ, ◌+◌, ◌-◌,
 use Rattle.std.specs.Prelude.{Err, Ok, Option, Some, None, Result}
 use Rattle.refusal.specs.declared.Refusal.{Refusal}
 use Rattle.refusal.specs.Refusal.{refusal_number}
-use Rattle.verdict.specs.Verdict.{only_if, and_then}
+use Rattle.verdict.specs.Verdict.{passed, only_if, and_then}
 use Rattle.classes.specs.declared.Class.{Class}
 use Rattle.classes.specs.declared.Class.TheVariants.{Digits, Account, Reference}
 use Rattle.text.specs.Bytes.{all_of, found, first_bad, bytes_verdict}
@@ -43,7 +43,7 @@ pub iban_not_00_01_99 : EveryIban (λ text r. (s : List ℕ) → (text ≡ with_
 iban_not_00_01_99 κs a z w call s digits h =
     go a.0.now digits ((verdict_zero (iban_verdict a.0.now) z call (λ e. e, λ e. e)).0 h)
   where
-    go : (text : List ℕ) → (text ≡ with_digits 48 48 s) ⊎ ((text ≡ with_digits 48 49 s) ⊎ (text ≡ with_digits 57 57 s)) → iban_verdict text ≡ 0 → ⊥
+    go : (text : List ℕ) → (text ≡ with_digits 48 48 s) ⊎ ((text ≡ with_digits 48 49 s) ⊎ (text ≡ with_digits 57 57 s)) → iban_verdict text ≡ passed → ⊥
     go text (inl e) v = (no_iban_of_00_01_99 s).0 (rw e at v)
     go text (inr (inl e)) v = (no_iban_of_00_01_99 s).1 (rw e at v)
     go text (inr (inr e)) v = (no_iban_of_00_01_99 s).2 (rw e at v)

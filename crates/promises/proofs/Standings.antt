@@ -2,6 +2,7 @@
 -- written with standing text.
 -- Assumes nothing.
 use Rattle.refusal.proofs.Basics.{◌≡◌, refl, sym, ap, ◌∙◌, arith, ℕ, ◌+◌, ◌-◌, ◌^◌, ◌≤◌, length, take, drop, get_or, take-nil, drop_of_length-le, List, [], map, Bool, true, false, cond, eqb, ltb, eqb-true, eqb-false, ◌↔◌}
+use Rattle.verdict.specs.Verdict.{passed}
 use Rattle.std.specs.Prelude.{Err, Ok, Result}
 use Rattle.refusal.specs.Refusal.{Answer, none, refusal_number}
 use Rattle.refusal.specs.declared.Refusal.{Refusal}
@@ -191,7 +192,7 @@ standing_text_refused_empty κs a z w call h = (refused_told a.0 a.1.0.now a.1.1
 
 -- no refusal of the writer is told of a field that is right whatever stands before it
 written_elsewhere :
-    (cents : ℕ) (fields : List (List ℕ)) (room n : ℕ) → 4 ≤ n → n ≤ 14 → length fields ≡ 11 → ((m : List ℕ) → field_verdict Euro n m (get_or fields (n - 4) []) ≡ 0)
+    (cents : ℕ) (fields : List (List ℕ)) (room n : ℕ) → 4 ≤ n → n ≤ 14 → length fields ≡ 11 → ((m : List ℕ) → field_verdict Euro n m (get_or fields (n - 4) []) ≡ passed)
     → (written_of (write_answer cents fields room)).told.field ≡ n → ⊥
 unfolding write_answer written_of
 written_elsewhere cents fields room n l u all right = go (ltb cents (10 ^ 15)) (given_answer 4 [] fields) refl

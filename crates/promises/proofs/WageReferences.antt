@@ -1,6 +1,7 @@
 -- Document 02, W4, of the call `lanecockle_reference`: what HR69 asks of three parts and of two, and that no other answer moved.
 -- Assumes nothing.
 use Rattle.refusal.proofs.Basics.{◌≡◌, refl, sym, ap, ◌∙◌, arith, ℕ, ◌+◌, ◌-◌, ◌*◌, ◌≤◌, ◌<◌, length, get_or, length-append, le-leb, leb-true, lt-ltb, eqb-true, List, [], ◌∷◌, ◌++◌, append-nil, Bool, true, false, cond, ◌&&◌, eqb, leb, ltb, ◌↔◌, ◌⊎◌, inl, inr, both_true}
+use Rattle.verdict.specs.Verdict.{passed}
 use Rattle.std.specs.Prelude.{Some, None}
 use Rattle.classes.specs.Classes.{is_digit}
 use Rattle.classes.specs.declared.Class.TheVariants.{Digits}
@@ -63,7 +64,7 @@ parts_oib q d l e = rw (d, l, e)
 -- ---------------------------------------------------------------------------
 -- Accepted exactly when it has at most 22 bytes and obeys the model
 
-accepted_69 : (s : List ℕ) → (reference_verdict hr69 s ≡ 0) ↔ ((leb (length s) 22 && obeys (model_of 69) s) ≡ true)
+accepted_69 : (s : List ℕ) → (reference_verdict hr69 s ≡ passed) ↔ ((leb (length s) 22 && obeys (model_of 69) s) ≡ true)
 unfolding model_of special_of
 accepted_69 s = accepted_obeys (model_of 69) s
 
@@ -123,7 +124,7 @@ module _ (s p q c : List ℕ) (parts : parts_of s ≡ p ∷ (q ∷ (c ∷ []))) 
         rw (exactly 5 p _ (omega arith) digits five (exactly 11 q _ (omega arith) o.0 o.1 (exactly 3 c true (omega arith) d l refl)), wage, k, ini, append-nil q, o.2),
       )
 
-  three_exactly : (reference_verdict hr69 s ≡ 0) ↔ WageParts p q c
+  three_exactly : (reference_verdict hr69 s ≡ passed) ↔ WageParts p q c
   three_exactly = (
     λ e. three_forward (sym three_asked ∙ (both_true (leb (length s) 22) _ ((accepted_69 s).0 e)).1),
     λ w. let b = three_back w in (accepted_69 s).1 (rw (le-leb (length s) 22 b.0, three_asked, b.1)),
@@ -150,7 +151,7 @@ module _ (s p q : List ℕ) (parts : parts_of s ≡ p ∷ (q ∷ [])) where
   unfolding bound
   two_length = ap length (sym (bound_parts s)) ∙ rw parts (omega (arith, length-append p (45 ∷ q)))
 
-  two_exactly : (reference_verdict hr69 s ≡ 0) ↔ TwoParts p q
+  two_exactly : (reference_verdict hr69 s ≡ passed) ↔ TwoParts p q
   two_exactly = (λ e. forward (sym two_asked ∙ (both_true (leb (length s) 22) _ ((accepted_69 s).0 e)).1), back)
     where
       forward : both ≡ true → TwoParts p q
@@ -162,7 +163,7 @@ module _ (s p q : List ℕ) (parts : parts_of s ≡ p ∷ (q ∷ [])) where
           let o = both_true (passes Mod1110 (q ++ [])) true g.1 in
           record { digits = x.0; five = x.1; first = rw (append-nil p) at g.0; second = parts_oib q y.0 y.1 (rw (append-nil q) at o.0) }
 
-      back : TwoParts p q → reference_verdict hr69 s ≡ 0
+      back : TwoParts p q → reference_verdict hr69 s ≡ passed
       back w =
           let o = oib_parts q w.second in
           (accepted_69 s).1

@@ -49,7 +49,7 @@ use Rattle.promises.specs.Calls.{EveryJudgeBegin, EveryJudgeStep, EveryJudgeLine
 use Rattle.promises.specs.Wages.{RightBytes}
 
 -- ---------------------------------------------------------------------------
--- (Ok tt) exactly when
+-- Accepted exactly when
 
 -- an end told by 0 is an acceptance
 accepted_end : (e : Result Counts Refusal) (z : Ended) → z ≡ ended_of e → z.told.number ≡ 0 → (n : Counts) × (e ≡ Ok n)

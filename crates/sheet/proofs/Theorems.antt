@@ -2,6 +2,7 @@
 -- fields, the text that is told stands in it, and each text obeys its field's rule.
 -- Assumes nothing.
 use Rattle.refusal.proofs.Basics.{◌≡◌, refl, sym, ap, ◌∙◌, arith, ℕ, ◌+◌, ◌-◌, ◌≤◌, ◌<◌, length, drop, length-append, length-drop, ne_eqb, eqb-true, le-leb, lt-ltb, List, [], ◌∷◌, ◌++◌, map, append-nil, append_assoc, Bool, true, false, cond, eqb, ltb, both_true, ◌↔◌, inl, inr, drop-append-add, take-append_seam, drop-append-le}
+use Rattle.verdict.specs.Verdict.{passed}
 use Rattle.std.specs.Prelude.{Some}
 use Rattle.classes.specs.declared.Class.TheVariants.{Line}
 use Rattle.text.specs.Bytes.{all_of}
@@ -51,7 +52,7 @@ each_free (more {l = l} a s v w) = one_line (number_free l.number l.text (no_lin
 -- A sheet that is written from right fields is right, and reads back as them
 
 -- a written line is right behind one of a lower number
-pub line_right : (last : ℕ) (l : FieldLine) → last < l.number → is_standing l.number ≡ true → field_verdict Euro l.number [] l.text ≡ 0 → is_right last (line_of l) ≡ true
+pub line_right : (last : ℕ) (l : FieldLine) → last < l.number → is_standing l.number ≡ true → field_verdict Euro l.number [] l.text ≡ passed → is_right last (line_of l) ≡ true
 line_right last l a s v = let r = line_read l.number l.text s in rw (r.0, r.1, lt-ltb last l.number a, v)
 
 right_written : {last : ℕ} {ls : List FieldLine} (k : ℕ) → RightLines last ls → bad_from k last (map (λ (l : FieldLine). line_of l) ls ++ ([] ∷ [])) ≡ 0
@@ -181,21 +182,21 @@ module _ (n : ℕ) (above : 0 < n) where
 -- "each text obeying its field's rule"
 
 -- the empty text does, of a field with standing text
-pub empty_obeys : (n : ℕ) → is_standing n ≡ true → field_verdict Euro n [] [] ≡ 0
+pub empty_obeys : (n : ℕ) → is_standing n ≡ true → field_verdict Euro n [] [] ≡ passed
 unfolding first_wrong characters
 empty_obeys n h = go (one_of_lem n h)
   where
-    go : OneOf n → field_verdict Euro n [] [] ≡ 0
+    go : OneOf n → field_verdict Euro n [] [] ≡ passed
     go (low a b) = (text_exactly Euro [] [] n (inl (a, b))).1 (refl, omega arith)
     go (thirteen e) = rw e ((thirteenth_exactly Euro [] []).1 (inl refl))
     go (fourteen e) = (text_exactly Euro [] [] n (inr e)).1 (refl, omega arith)
 
 -- so does the text of a field among right ones
-pub among_obeys : (n last : ℕ) (ls : List FieldLine) → is_standing n ≡ true → RightLines last ls → field_verdict Euro n [] (text_among n ls) ≡ 0
+pub among_obeys : (n last : ℕ) (ls : List FieldLine) → is_standing n ≡ true → RightLines last ls → field_verdict Euro n [] (text_among n ls) ≡ passed
 unfolding text_among
 among_obeys n last [] h none = empty_obeys n h
 among_obeys n last (l ∷ ls) h (more a s v w) = go (eqb l.number n) refl (among_obeys n l.number ls h w)
   where
-    go : (t : Bool) → eqb l.number n ≡ t → field_verdict Euro n [] (text_among n ls) ≡ 0 → field_verdict Euro n [] (cond t l.text (text_among n ls)) ≡ 0
+    go : (t : Bool) → eqb l.number n ≡ t → field_verdict Euro n [] (text_among n ls) ≡ passed → field_verdict Euro n [] (cond t l.text (text_among n ls)) ≡ passed
     go true e ih = rw (eqb-true l.number n e) at v
     go false e ih = ih

@@ -2,6 +2,7 @@
 -- check digits of an accepted slip's reference.
 -- Assumes nothing.
 use Rattle.refusal.proofs.Basics.{◌≡◌, refl, sym, subst, ◌∙◌, arith, ℕ, ◌+◌, ◌-◌, ◌≤◌, length, get_or, eqb-true, eqb-false, List, [], Memᴰ, Bool, true, false, eqb, ◌↔◌, ◌⊎◌, inl, inr, both_true}
+use Rattle.verdict.specs.Verdict.{passed}
 use Rattle.std.specs.Prelude.{Some, None, Ok}
 use Rattle.classes.specs.declared.Class.TheVariants.{Digits, Letters}
 use Rattle.text.specs.Bytes.{all_of, count_of}
@@ -24,7 +25,7 @@ use Rattle.slip.specs.Slip.{slip_answer_in, piece_of}
 use Rattle.slip.proofs.Theorems.{field_text, text_before, Right, accepted_exactly}
 
 -- ---------------------------------------------------------------------------
--- (Ok tt) exactly when
+-- Accepted exactly when
 
 -- a slip in currency c as document 01 asks for it, and document 02, W1
 pub record PlainSlip (c : Currency) (s : List ℕ) : Type 0 where
@@ -68,7 +69,7 @@ from_on P a p f n l u = go (eqb n a) refl
 module _ (c : Currency) (s : List ℕ) where
   -- field n is right
   abbrev RightField : ℕ → Type 0
-  RightField n = field_verdict c n (text_before s n) (field_text s n) ≡ 0
+  RightField n = field_verdict c n (text_before s n) (field_text s n) ≡ passed
 
   -- a text field is right exactly when it is permitted characters, and not too many
   text_field : (n : ℕ) → ((4 ≤ n) × (n ≤ 9)) ⊎ (n ≡ 14) → RightField n ↔ ((first_wrong (field_text s n) ≡ None) × (characters (field_text s n) ≤ most_of n))

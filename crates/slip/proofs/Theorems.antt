@@ -3,7 +3,7 @@
 use Rattle.refusal.proofs.Basics.{◌≡◌, refl, sym, arith, ℕ, zero, suc, ◌+◌, ◌-◌, ◌≤◌, ◌<◌, length, get_or, eq-eqb, eqb-true, leb-true, List, [], ◌∷◌, true, eqb, leb, add-zero, ◌↔◌, chosen, both_true, and_second}
 use Rattle.std.specs.Prelude.{Ok}
 use Rattle.refusal.specs.Refusal.{none}
-use Rattle.verdict.specs.Verdict.{answer_at}
+use Rattle.verdict.specs.Verdict.{passed, answer_at}
 use Rattle.refusal.specs.declared.Refusal.TheVariants.{Size, Ends}
 use Rattle.verdict.proofs.Verdicts.{answer_accepted, first_both}
 use Rattle.text.specs.Bytes.{count_of}
@@ -16,7 +16,7 @@ use Rattle.text.proofs.Pieces.{pieces_counted}
 use Rattle.slip.proofs.Laws.{fields_judged}
 
 -- ---------------------------------------------------------------------------
--- (Ok tt) exactly when
+-- Accepted exactly when
 
 -- the text of field n, counted from 1: the piece between its line feeds
 abbrev pub field_text : List ℕ → ℕ → List ℕ
@@ -31,10 +31,10 @@ pub record Right (c : Currency) (s : List ℕ) : Type 0 where
   pub short : length s ≤ 483
   pub ends : count_of 10 s ≡ 14
   pub last : get_or s (length s - 1) 0 ≡ 10
-  pub fields : (n : ℕ) → 1 ≤ n → n ≤ 14 → field_verdict c n (text_before s n) (field_text s n) ≡ 0
+  pub fields : (n : ℕ) → 1 ≤ n → n ≤ 14 → field_verdict c n (text_before s n) (field_text s n) ≡ passed
 
 -- the fields of an accepted slip are each accepted, up to the last line feed
-fields_each : (c : Currency) (n start : ℕ) (m : List ℕ) (ps : List (List ℕ)) → fields_answer c n start m ps ≡ Ok tt → (k : ℕ) → k + 1 < length ps → field_verdict c (n + k) (get_or (m ∷ ps) k []) (get_or ps k []) ≡ 0
+fields_each : (c : Currency) (n start : ℕ) (m : List ℕ) (ps : List (List ℕ)) → fields_answer c n start m ps ≡ Ok tt → (k : ℕ) → k + 1 < length ps → field_verdict c (n + k) (get_or (m ∷ ps) k []) (get_or ps k []) ≡ passed
 unfolding fields_answer
 fields_each c n start m [] e k h = absurd (omega arith)
 fields_each c n start m (p ∷ []) e k h = absurd (omega arith)
@@ -44,7 +44,7 @@ fields_each c n start m (p ∷ (q ∷ ps)) e (suc k) h =
     rw z (fields_each c (n + 1) (start + length p + 1) p (q ∷ ps) (first_both (answer_at n start (field_verdict c n m p)) _ e).1 k (omega arith))
 
 -- and where each is accepted, so are they all
-each_fields : (c : Currency) (n start : ℕ) (m : List ℕ) (ps : List (List ℕ)) → ((k : ℕ) → k + 1 < length ps → field_verdict c (n + k) (get_or (m ∷ ps) k []) (get_or ps k []) ≡ 0) → (Ok tt) ≡ fields_answer c n start m ps
+each_fields : (c : Currency) (n start : ℕ) (m : List ℕ) (ps : List (List ℕ)) → ((k : ℕ) → k + 1 < length ps → field_verdict c (n + k) (get_or (m ∷ ps) k []) (get_or ps k []) ≡ passed) → (Ok tt) ≡ fields_answer c n start m ps
 unfolding fields_answer
 each_fields c n start m [] f = refl
 each_fields c n start m (p ∷ []) f = refl

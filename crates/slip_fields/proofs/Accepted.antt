@@ -1,6 +1,7 @@
 -- What an accepted field of each kind is: its bytes, its length, and that no line feed stands in it.
 -- Assumes nothing.
 use Rattle.refusal.proofs.Basics.{◌≡◌, refl, sym, ap, ◌∙◌, arith, ℕ, zero, suc, ◌*◌, ◌≤◌, ◌<◌, length, get_or, eqb-true, eq-eqb, ne_eqb, List, [], ◌∷◌, Bool, true, false, cond, not, ◌&&◌, ◌||◌, or-true, eqb, ◌↔◌, ◌⊎◌, inl, inr, ⊎_elim, both_true, and_second}
+use Rattle.verdict.specs.Verdict.{passed}
 use Rattle.std.specs.Prelude.{Option, None}
 use Rattle.verdict.proofs.Verdicts.{both_pass, test_holds}
 use Rattle.classes.specs.Classes.{is_digit, permits}
@@ -62,11 +63,11 @@ free_by_class k n (b ∷ s) e =
 -- Words
 
 -- an accepted word is the word
-pub word_is : (w s : List ℕ) → word_verdict w s ≡ 0 → s ≡ w
+pub word_is : (w s : List ℕ) → word_verdict w s ≡ passed → s ≡ w
 word_is w s e = same_equal w s (test_holds (same w s) 5 refl e)
 
 -- and where the word has no line feed, the field has none
-pub word_free : (w s : List ℕ) → all_of Line w ≡ true → word_verdict w s ≡ 0 → all_of Line s ≡ true
+pub word_free : (w s : List ℕ) → all_of Line w ≡ true → word_verdict w s ≡ passed → all_of Line s ≡ true
 word_free w s h e = rw (word_is w s e) h
 
 -- a word is the same as itself
@@ -79,11 +80,11 @@ same_itself (a ∷ w) = sym (and_second (eqb a a) (same w w) true (eq-eqb a a re
 -- Bytes of a class
 
 -- a field that begins with its bytes' rule has bytes of that class, and none is a line feed where the class permits none
-pub class_free : (k : Class) → permits k 10 ≡ false → (s : List ℕ) → bytes_verdict k s ≡ 0 → all_of Line s ≡ true
+pub class_free : (k : Class) → permits k 10 ≡ false → (s : List ℕ) → bytes_verdict k s ≡ passed → all_of Line s ≡ true
 class_free k n s e = free_by_class k n s (passes_all k s e)
 
 -- amounts and purposes: bytes of a class, and one of two lengths
-pub sized_exactly : (k : Class) (a b : ℕ) (s : List ℕ) → (sized_verdict k a b s ≡ 0) ↔ ((all_of k s ≡ true) × ((length s ≡ a) ⊎ (length s ≡ b)))
+pub sized_exactly : (k : Class) (a b : ℕ) (s : List ℕ) → (sized_verdict k a b s ≡ passed) ↔ ((all_of k s ≡ true) × ((length s ≡ a) ⊎ (length s ≡ b)))
 sized_exactly k a b s = (
   λ e. let h = both_pass (bytes_verdict k s) _ e in (passes_all k s h.0, go (eqb (length s) a) (eqb (length s) b) refl refl (test_holds _ 4 refl h.1)),
   λ w. rw (all_passes k s w.0, sized w.1),
@@ -99,41 +100,41 @@ sized_exactly k a b s = (
     sized (inr e) = rw (eq-eqb (length s) b e) (or-true (eqb (length s) a))
 
 -- so they are no longer than either
-pub sized_is : (k : Class) (a b : ℕ) (s : List ℕ) → sized_verdict k a b s ≡ 0 → (bytes_verdict k s ≡ 0) × ((n : ℕ) → a ≤ n → b ≤ n → length s ≤ n)
+pub sized_is : (k : Class) (a b : ℕ) (s : List ℕ) → sized_verdict k a b s ≡ passed → (bytes_verdict k s ≡ passed) × ((n : ℕ) → a ≤ n → b ≤ n → length s ≤ n)
 sized_is k a b s e =
     let h = (sized_exactly k a b s).0 e in
     (all_passes k s h.0, λ n p q. ⊎_elim (λ (f : length s ≡ a). omega arith) (λ (f : length s ≡ b). omega arith) h.1)
 
 -- one length where both are the same
-pub sized_alone : (k : Class) (a : ℕ) (s : List ℕ) → sized_verdict k a a s ≡ 0 → (all_of k s ≡ true) × (length s ≡ a)
+pub sized_alone : (k : Class) (a : ℕ) (s : List ℕ) → sized_verdict k a a s ≡ passed → (all_of k s ≡ true) × (length s ≡ a)
 sized_alone k a s e = let h = (sized_exactly k a a s).0 e in (h.0, ⊎_elim (λ (f : length s ≡ a). f) (λ (f : length s ≡ a). f) h.1)
 
 -- ---------------------------------------------------------------------------
 -- Accounts
 
 -- an accepted account is 21 letters and digits
-account_is : (s : List ℕ) → iban_verdict s ≡ 0 → (bytes_verdict Account s ≡ 0) × (length s ≡ 21)
+account_is : (s : List ℕ) → iban_verdict s ≡ passed → (bytes_verdict Account s ≡ passed) × (length s ≡ 21)
 account_is s e =
     let h = both_pass (bytes_verdict Account s) _ e in
     (h.0, eqb-true (length s) 21 (test_holds _ 4 refl (both_pass _ _ h.1).0))
 
 -- an accepted account of the account form is 18 letters, digits and hyphens
-account_form_is : (s : List ℕ) → account_form_verdict s ≡ 0 → (bytes_verdict AccountForm s ≡ 0) × (length s ≡ 18)
+account_form_is : (s : List ℕ) → account_form_verdict s ≡ passed → (bytes_verdict AccountForm s ≡ passed) × (length s ≡ 18)
 account_form_is s e =
     let h = both_pass (bytes_verdict AccountForm s) _ e in
     (h.0, eqb-true (length s) 18 (test_holds _ 4 refl (both_pass _ _ h.1).0))
 
 -- an accepted payee has no line feed, and at most 21 bytes
-pub payee_is : (c : Currency) (s : List ℕ) → payee_verdict c s ≡ 0 → (all_of Line s ≡ true) × (length s ≤ 21)
+pub payee_is : (c : Currency) (s : List ℕ) → payee_verdict c s ≡ passed → (all_of Line s ≡ true) × (length s ≤ 21)
 payee_is c s = go c
   where
-    iban : iban_verdict s ≡ 0 → (all_of Line s ≡ true) × (length s ≤ 21)
+    iban : iban_verdict s ≡ passed → (all_of Line s ≡ true) × (length s ≤ 21)
     iban e = let h = account_is s e in (class_free Account refl s h.0, omega (arith, h.1))
 
-    form : account_form_verdict s ≡ 0 → (all_of Line s ≡ true) × (length s ≤ 21)
+    form : account_form_verdict s ≡ passed → (all_of Line s ≡ true) × (length s ≤ 21)
     form e = let h = account_form_is s e in (class_free AccountForm refl s h.0, omega (arith, h.1))
 
-    go : (c : Currency) → payee_verdict c s ≡ 0 → (all_of Line s ≡ true) × (length s ≤ 21)
+    go : (c : Currency) → payee_verdict c s ≡ passed → (all_of Line s ≡ true) × (length s ≤ 21)
     go Euro = iban
     go Kuna = either (is_digit (get_or s 0 0)) _ _ form iban
 
@@ -155,7 +156,7 @@ numbered true f e = (refl, e)
 numbered false f e = let z : ◌≡◌ {A = ℕ} 0 1 = cc in absurd (omega arith)
 
 -- an accepted model is `HR` and two digits
-pub model_is : (s : List ℕ) → model_verdict s ≡ 0 → Named s
+pub model_is : (s : List ℕ) → model_verdict s ≡ passed → Named s
 unfolding is_nothing
 model_is s e =
     let a = get_or s 0 0 in
@@ -169,7 +170,7 @@ model_is s e =
     record { four = eqb-true (length s) 4 f.0; first = eqb-true a 72 g.0; second = eqb-true b 82 g.1; third = d.0; fourth = d.1 }
 
 -- with no line feed
-pub model_free : (s : List ℕ) → model_verdict s ≡ 0 → all_of Line s ≡ true
+pub model_free : (s : List ℕ) → model_verdict s ≡ passed → all_of Line s ≡ true
 model_free s e = free_by_places s (go (model_is s e))
   where
     go : Named s → (i : ℕ) → i < length s → get_or s i 0 ≡ 10 → ⊥
@@ -183,16 +184,16 @@ model_free s e = free_by_places s (go (model_is s e))
 -- References
 
 -- an accepted reference is at most 22 digits and hyphens
-pub reference_is : (m s : List ℕ) → reference_verdict m s ≡ 0 → (bytes_verdict Reference s ≡ 0) × (length s ≤ 22)
+pub reference_is : (m s : List ℕ) → reference_verdict m s ≡ passed → (bytes_verdict Reference s ≡ passed) × (length s ≤ 22)
 reference_is m s e = let w = (reference_accepted_exactly m s).0 e in (all_passes Reference s w.bytes, w.short)
 
 -- ---------------------------------------------------------------------------
 -- Texts
 
 -- an accepted text has at most two bytes for each of its most characters
-pub text_size : (most : ℕ) (s : List ℕ) → characters_verdict most s ≡ 0 → length s ≤ 2 * most
+pub text_size : (most : ℕ) (s : List ℕ) → characters_verdict most s ≡ passed → length s ≤ 2 * most
 text_size most s e = let h = (texts.accepted_exactly most s).0 e in omega (arith, h.1, texts.bytes_at_most_twice s h.0)
 
 -- and no line feed
-pub text_free : (most : ℕ) (s : List ℕ) → characters_verdict most s ≡ 0 → all_of Line s ≡ true
+pub text_free : (most : ℕ) (s : List ℕ) → characters_verdict most s ≡ passed → all_of Line s ≡ true
 text_free most s e = free_by_places s (texts.no_line_feed s ((texts.accepted_exactly most s).0 e).0)

@@ -1,7 +1,7 @@
 -- What is promised of the fields of a slip: which bytes an accepted field has, how many, and what it depends on.
 -- Assumes nothing.
 use Rattle.refusal.proofs.Basics.{◌≡◌, refl, ap, arith, ℕ, ◌+◌, ◌≤◌, length, ne_eqb, List, Bool, true, false, cond, ◌||◌, eqb, leb}
-use Rattle.verdict.specs.Verdict.{Within}
+use Rattle.verdict.specs.Verdict.{passed, Within}
 use Rattle.verdict.proofs.Verdicts.{choice_within, then_within, only_within}
 use Rattle.classes.specs.Classes.{permits}
 use Rattle.text.specs.Bytes.{all_of, same}
@@ -24,7 +24,7 @@ use Rattle.slip_fields.proofs.Accepted as accepted
 -- No line feed
 
 -- an amount or a purpose has none
-sized_free : (k : Class) → permits k 10 ≡ false → (a b : ℕ) (s : List ℕ) → sized_verdict k a b s ≡ 0 → all_of Line s ≡ true
+sized_free : (k : Class) → permits k 10 ≡ false → (a b : ℕ) (s : List ℕ) → sized_verdict k a b s ≡ passed → all_of Line s ≡ true
 sized_free k n a b s e = accepted.class_free k n s (accepted.sized_is k a b s e).0
 
 -- nor has the word of a currency
@@ -34,7 +34,7 @@ currency_free Euro = refl
 currency_free Kuna = refl
 
 -- no line feed stands in an accepted field
-pub no_line_feed : (c : Currency) (n : ℕ) (m s : List ℕ) → field_verdict c n m s ≡ 0 → all_of Line s ≡ true
+pub no_line_feed : (c : Currency) (n : ℕ) (m s : List ℕ) → field_verdict c n m s ≡ passed → all_of Line s ≡ true
 unfolding field_verdict all_of
 no_line_feed c n m s =
     accepted.either (eqb n 1) _ _ (accepted.word_free hrvhub30 s refl)
@@ -50,32 +50,32 @@ no_line_feed c n m s =
 -- The first three fields
 
 -- "1 is `HRVHUB30`"
-pub first_is_hrvhub30 : (c : Currency) (m s : List ℕ) → field_verdict c 1 m s ≡ 0 → s ≡ hrvhub30
+pub first_is_hrvhub30 : (c : Currency) (m s : List ℕ) → field_verdict c 1 m s ≡ passed → s ≡ hrvhub30
 unfolding field_verdict
 first_is_hrvhub30 c m s e = accepted.word_is hrvhub30 s e
 
 -- and that is accepted
-pub hrvhub30_accepted : (c : Currency) (m : List ℕ) → field_verdict c 1 m hrvhub30 ≡ 0
+pub hrvhub30_accepted : (c : Currency) (m : List ℕ) → field_verdict c 1 m hrvhub30 ≡ passed
 unfolding field_verdict
 hrvhub30_accepted c m = rw (accepted.same_itself hrvhub30)
 
 -- "2 is `EUR`"; in a kuna slip `HRK`
-pub second_is_currency : (c : Currency) (m s : List ℕ) → field_verdict c 2 m s ≡ 0 → s ≡ currency_text c
+pub second_is_currency : (c : Currency) (m s : List ℕ) → field_verdict c 2 m s ≡ passed → s ≡ currency_text c
 unfolding field_verdict
 second_is_currency c m s e = accepted.word_is (currency_text c) s e
 
 -- and that is accepted
-pub currency_accepted : (c : Currency) (m : List ℕ) → field_verdict c 2 m (currency_text c) ≡ 0
+pub currency_accepted : (c : Currency) (m : List ℕ) → field_verdict c 2 m (currency_text c) ≡ passed
 unfolding field_verdict
 currency_accepted c m = rw (accepted.same_itself (currency_text c))
 
 -- "3: exactly fifteen digits"
-pub third_is_digits : (c : Currency) (m s : List ℕ) → field_verdict c 3 m s ≡ 0 → (all_of Digits s ≡ true) × (length s ≡ 15)
+pub third_is_digits : (c : Currency) (m s : List ℕ) → field_verdict c 3 m s ≡ passed → (all_of Digits s ≡ true) × (length s ≡ 15)
 unfolding field_verdict
 third_is_digits c m s e = accepted.sized_alone Digits 15 s e
 
 -- and those are accepted
-pub digits_accepted : (c : Currency) (m s : List ℕ) → all_of Digits s ≡ true → length s ≡ 15 → field_verdict c 3 m s ≡ 0
+pub digits_accepted : (c : Currency) (m s : List ℕ) → all_of Digits s ≡ true → length s ≡ 15 → field_verdict c 3 m s ≡ passed
 unfolding field_verdict
 digits_accepted c m s e l = rw (all_passes Digits s e, l)
 
@@ -118,7 +118,7 @@ currency_size Euro = refl
 currency_size Kuna = refl
 
 -- an accepted field has at most the bytes of its size
-pub field_size : (c : Currency) (n : ℕ) (m s : List ℕ) → field_verdict c n m s ≡ 0 → length s ≤ size_of n
+pub field_size : (c : Currency) (n : ℕ) (m s : List ℕ) → field_verdict c n m s ≡ passed → length s ≤ size_of n
 unfolding field_verdict size_of
 field_size c n m s =
     within (eqb n 1) _ _ _ _ _ (λ e. as_long s hrvhub30 (accepted.word_is hrvhub30 s e))

@@ -6,7 +6,7 @@ use Rattle.refusal.specs.Refusal.{Answer, refusal_place, first_of}
 use Rattle.refusal.specs.declared.Place.{Place}
 use Rattle.refusal.specs.declared.Refusal.{Refusal}
 use Rattle.refusal.proofs.Theorems.{refused_not_accepted}
-use Rattle.verdict.specs.Verdict.{verdict_byte, answer_in}
+use Rattle.verdict.specs.Verdict.{passed, verdict_byte, answer_in}
 use Rattle.verdict.proofs.Verdicts.{first_joined, accepted_answer, told_place_lem}
 use Rattle.slip_fields.specs.declared.Currency.TheVariants.{Euro}
 use Rattle.slip_fields.specs.Fields.{field_verdict}
@@ -53,7 +53,7 @@ module _ (n : ℕ) (m : List ℕ) {x : Answer} where
 -- A refusal is told of a field that is not right
 
 -- of one field
-one_refused : (n : ℕ) (m p : List ℕ) (r : Refusal) → answer_in n (field_verdict Euro n m p) ≡ Err r → ((refusal_place r).field ≡ n) × (field_verdict Euro n m p ≡ 0 → ⊥)
+one_refused : (n : ℕ) (m p : List ℕ) (r : Refusal) → answer_in n (field_verdict Euro n m p) ≡ Err r → ((refusal_place r).field ≡ n) × (field_verdict Euro n m p ≡ passed → ⊥)
 one_refused n m p r e =
     let v = field_verdict Euro n m p in (
       ap (λ (x : Place). x.field) (told_place_lem v n (verdict_byte v) r e).0,
@@ -77,7 +77,7 @@ not_before n m (p ∷ ps) r e =
 -- and of no field that is right whatever stands before it
 pub not_there :
     (n : ℕ) (m : List ℕ) (ps : List (List ℕ)) (r : Refusal) (i : ℕ) → given_answer n m ps ≡ Err r → i < length ps
-    → ((before : List ℕ) → field_verdict Euro (n + i) before (get_or ps i []) ≡ 0) → (refusal_place r).field ≡ n + i → ⊥
+    → ((before : List ℕ) → field_verdict Euro (n + i) before (get_or ps i []) ≡ passed) → (refusal_place r).field ≡ n + i → ⊥
 unfolding given_answer
 not_there n m [] r i e h right f = omega arith
 not_there n m (p ∷ ps) r zero e h right f =

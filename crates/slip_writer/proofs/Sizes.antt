@@ -2,7 +2,7 @@
 use Rattle.refusal.proofs.Basics.{◌≡◌, refl, sym, ◌∙◌, arith, ℕ, zero, suc, ◌+◌, ◌≤◌, length, List, [], ◌∷◌}
 use Rattle.std.specs.Prelude.{Ok}
 use Rattle.refusal.specs.Refusal.{Answer}
-use Rattle.verdict.specs.Verdict.{answer_in}
+use Rattle.verdict.specs.Verdict.{passed, answer_in}
 use Rattle.verdict.proofs.Verdicts.{answer_accepted, first_both}
 use Rattle.slip_fields.specs.declared.Currency.TheVariants.{Euro}
 use Rattle.slip_fields.specs.Fields.{field_verdict}
@@ -15,7 +15,7 @@ use Rattle.slip_writer.proofs.Laws.{lines_length, slip_length}
 
 -- of accepted fields the first is accepted, and so are those after it
 pub given_first :
-    (n : ℕ) (m p : List ℕ) (ps : List (List ℕ)) → given_answer n m (p ∷ ps) ≡ Ok tt → (field_verdict Euro n m p ≡ 0) × (given_answer (n + 1) p ps ≡ Ok tt)
+    (n : ℕ) (m p : List ℕ) (ps : List (List ℕ)) → given_answer n m (p ∷ ps) ≡ Ok tt → (field_verdict Euro n m p ≡ passed) × (given_answer (n + 1) p ps ≡ Ok tt)
 unfolding given_answer
 given_first n m p ps e = let h = first_both (answer_in n (field_verdict Euro n m p)) _ e in (answer_accepted _ _ _ h.0, h.1)
 

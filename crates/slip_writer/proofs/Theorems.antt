@@ -4,7 +4,7 @@ use Rattle.refusal.proofs.Basics.{◌≡◌, refl, sym, ap, ◌∙◌, arith, �
 use Rattle.std.specs.Prelude.{Result, Ok, Err}
 use Rattle.refusal.specs.Refusal.{Answer, none}
 use Rattle.refusal.specs.declared.Refusal.{Refusal}
-use Rattle.verdict.specs.Verdict.{answer_at}
+use Rattle.verdict.specs.Verdict.{passed, answer_at}
 use Rattle.verdict.proofs.Verdicts.{answer_accepted, first_both}
 use Rattle.text.specs.Digits.{digits_of, value_of, digits_text}
 use Rattle.text.specs.Split.{split}
@@ -33,7 +33,7 @@ given_lines n m (p ∷ ps) e = let h = given_first n m p ps e in more (no_line_f
 
 -- an accepted field, and then accepted ones
 first_given :
-    (n : ℕ) (m p : List ℕ) (ps : List (List ℕ)) → field_verdict Euro n m p ≡ 0 → given_answer (n + 1) p ps ≡ Ok tt → given_answer n m (p ∷ ps) ≡ Ok tt
+    (n : ℕ) (m p : List ℕ) (ps : List (List ℕ)) → field_verdict Euro n m p ≡ passed → given_answer (n + 1) p ps ≡ Ok tt → given_answer n m (p ∷ ps) ≡ Ok tt
 unfolding given_answer
 first_given n m p ps e g = rw (e, g)
 

@@ -1,6 +1,7 @@
 -- What is promised of standing text: when it is accepted, whose text it is, where that stands, and that the slip's rule accepts it.
 -- Assumes nothing.
 use Rattle.refusal.proofs.Basics.{◌≡◌, refl, sym, ◌∙◌, ℕ, ◌+◌, ◌≤◌, arith, length, List, [], Bool, true, false, cond, ◌↔◌, false≢true}
+use Rattle.verdict.specs.Verdict.{passed}
 use Rattle.std.specs.Prelude.{Option, Some, None, Ok, Err}
 use Rattle.refusal.specs.Refusal.{Answer, none}
 use Rattle.text.specs.declared.Part.{Part}
@@ -20,7 +21,7 @@ use Rattle.standing_text.specs.Standing.{no_part, sheets_judged, supplied_by, af
 use Rattle.standing_text.proofs.Laws.{neither_bad}
 
 -- ---------------------------------------------------------------------------
--- (Ok tt) exactly when
+-- Accepted exactly when
 
 -- what the sheets supply is accepted
 supplied_accepted : (h h' : Option Part) → (supplied_by h h').answer ≡ Ok tt
@@ -146,20 +147,20 @@ refused_empty n farm association r = go (is_standing n) (both_judged farm associ
     go true (Ok tt) e = absurd (refused_not_accepted r (sym e ∙ supplied_accepted (line_held n farm) (line_held n association)))
 
 -- what is answered for a field obeys that field's rule, whatever stands before it
-pub standing_obeys : (n : ℕ) (m farm association : List ℕ) → is_standing n ≡ true → field_verdict Euro n m (standing_text n farm association) ≡ 0
+pub standing_obeys : (n : ℕ) (m farm association : List ℕ) → is_standing n ≡ true → field_verdict Euro n m (standing_text n farm association) ≡ passed
 standing_obeys n m farm association h =
     before_matters_to_12_alone Euro n m [] (standing_text n farm association) not_twelve ∙ go (standing_of n farm association).answer refl
   where
     not_twelve : n ≡ 12 → ⊥
     not_twelve e = false≢true (unfold is_standing in rw e at h)
 
-    go : (x : Answer) → (standing_of n farm association).answer ≡ x → field_verdict Euro n [] (standing_text n farm association) ≡ 0
+    go : (x : Answer) → (standing_of n farm association).answer ≡ x → field_verdict Euro n [] (standing_text n farm association) ≡ passed
     go (Err r) e = rw (refused_empty n farm association r e) (empty_obeys n h)
     go (Ok tt) e =
         let w = (asked_exactly n farm association).0 e in
         rw (standing_text_is n farm association h w.1.0 w.1.1)
         (either (is_among n (fields_in farm)) (text_among n (fields_in farm)) (text_among n (fields_in association)) (among_obeys n 0 (fields_in farm) h (sheet_fields_right farm w.1.0)) (among_obeys n 0 (fields_in association) h (sheet_fields_right association w.1.1)))
       where
-        either : (t : Bool) (x y : List ℕ) → field_verdict Euro n [] x ≡ 0 → field_verdict Euro n [] y ≡ 0 → field_verdict Euro n [] (cond t x y) ≡ 0
+        either : (t : Bool) (x y : List ℕ) → field_verdict Euro n [] x ≡ passed → field_verdict Euro n [] y ≡ passed → field_verdict Euro n [] (cond t x y) ≡ passed
         either true x y f g = f
         either false x y f g = g

@@ -2,6 +2,7 @@
 -- and that a line is right exactly when it has its size, ends and type and passes them all.
 -- Assumes nothing.
 use Rattle.refusal.proofs.Basics.{◌≡◌, refl, arith, ℕ, ◌≤◌, length, take, drop, get_or, List, [], ◌∷◌, true, false, cond, not, ◌&&◌, ◌||◌, eqb, leb, ◌↔◌}
+use Rattle.verdict.specs.Verdict.{passed}
 use Rattle.std.specs.Prelude.{Ok}
 use Rattle.verdict.proofs.Verdicts.{first_both}
 use Rattle.classes.specs.declared.Class.TheVariants.{Digits, Zeros, Blanks, Letters, Description}
@@ -109,7 +110,7 @@ module _ (day kind : ℕ) (t : LineType) (s : List ℕ) where
   -- R holds where the rule of each place refuses nothing
   abbrev Asked : Type 0 → List Spot → Type 0
   Asked R [] = R
-  Asked R (p ∷ ps) = rule_verdict day kind t p.field (part_at p s) s ≡ 0 → Asked R ps
+  Asked R (p ∷ ps) = rule_verdict day kind t p.field (part_at p s) s ≡ passed → Asked R ps
 
   -- of a line of 1,002 bytes, exactly when it holds where the places are accepted
   asked_exactly : length s ≡ 1002 → (R : Type 0) (ps : List Spot) → Asked R ps ↔ (places_from day kind t ps s ≡ Ok tt → R)

@@ -3,7 +3,7 @@
 use Rattle.refusal.proofs.Basics.{◌≡◌, refl, ap, arith, ℕ, zero, suc, ◌+◌, ◌≤◌, ◌<◌, length, get_or, ltb-true, List, [], ◌∷◌, Bool, true, false, cond, ◌&&◌, eqb, ltb, ◌↔◌, both_true}
 use Rattle.std.specs.Prelude.{Ok, Err}
 use Rattle.refusal.specs.Refusal.{none, refusal_number, refusal_place, answer_number}
-use Rattle.verdict.specs.Verdict.{verdict_byte, answer_at}
+use Rattle.verdict.specs.Verdict.{passed, verdict_byte, answer_at}
 use Rattle.refusal.specs.declared.Place.{Place}
 use Rattle.refusal.specs.declared.Refusal.{Refusal}
 use Rattle.refusal.specs.declared.Refusal.TheVariants.{Size}
@@ -21,11 +21,11 @@ use Rattle.wage_fields.specs.Rules.{rule_verdict, place_verdict, place_answer, p
 use Rattle.wage_fields.proofs.Laws.{size_right, accept_both, rule_within, told_byte, Stops, stops}
 
 -- ---------------------------------------------------------------------------
--- (Ok tt) exactly when
+-- Accepted exactly when
 
 module _ (day kind : ℕ) (t : LineType) (s : List ℕ) where
   -- a place is accepted exactly when the line has 1,002 bytes and its field's rule refuses nothing of its bytes
-  pub place_right : (p : Spot) → (place_answer day kind t p s ≡ Ok tt) ↔ ((length s ≡ 1002) × (rule_verdict day kind t p.field (part_at p s) s ≡ 0))
+  pub place_right : (p : Spot) → (place_answer day kind t p s ≡ Ok tt) ↔ ((length s ≡ 1002) × (rule_verdict day kind t p.field (part_at p s) s ≡ passed))
   unfolding place_answer place_verdict
   place_right p =
       let v = rule_verdict day kind t p.field (part_at p s) s in
@@ -50,7 +50,7 @@ module _ (day kind : ℕ) (t : LineType) (s : List ℕ) where
   places_right = (each_accepted (spots t), all_accepted (spots t))
 
   -- of an accepted line, the rule of each field that has a place refuses nothing of the field's bytes
-  pub field_right : places_answer day kind t s ≡ Ok tt → (n k : ℕ) → k < length (spots t) → (place_at t k).field ≡ n → rule_verdict day kind t n (part_of t n s) s ≡ 0
+  pub field_right : places_answer day kind t s ≡ Ok tt → (n k : ℕ) → k < length (spots t) → (place_at t k).field ≡ n → rule_verdict day kind t n (part_of t n s) s ≡ passed
   field_right e n k h f =
       rw (← f, found_spot t k h) ((place_right (place_at t k)).0 (places_right.0 e k h)).1
 
@@ -59,22 +59,22 @@ module _ (day kind : ℕ) (t : LineType) (s : List ℕ) where
 
 module _ (day kind : ℕ) (s : List ℕ) where
   -- an accepted 300 tells its kind, 4 or 5
-  pub label_kind : places_answer day kind Label s ≡ Ok tt → among_verdict 4 5 5 (part_of Label 2 s) ≡ 0
+  pub label_kind : places_answer day kind Label s ≡ Ok tt → among_verdict 4 5 5 (part_of Label 2 s) ≡ passed
   unfolding spots
   label_kind e = field_right day kind Label s e 2 1 (omega arith) refl
 
   -- an accepted 301 tells its number of orders in digits
-  pub group_number_digits : places_answer day kind Group s ≡ Ok tt → bytes_verdict Digits (part_of Group 5 s) ≡ 0
+  pub group_number_digits : places_answer day kind Group s ≡ Ok tt → bytes_verdict Digits (part_of Group 5 s) ≡ passed
   unfolding spots
   group_number_digits e = field_right day kind Group s e 5 4 (omega arith) refl
 
   -- and its sum
-  pub group_sum_digits : places_answer day kind Group s ≡ Ok tt → bytes_verdict Digits (part_of Group 6 s) ≡ 0
+  pub group_sum_digits : places_answer day kind Group s ≡ Ok tt → bytes_verdict Digits (part_of Group 6 s) ≡ passed
   unfolding spots
   group_sum_digits e = field_right day kind Group s e 6 5 (omega arith) refl
 
   -- an accepted 309 tells its amount in digits
-  pub order_amount_digits : places_answer day kind Order s ≡ Ok tt → bytes_verdict Digits (part_of Order 10 s) ≡ 0
+  pub order_amount_digits : places_answer day kind Order s ≡ Ok tt → bytes_verdict Digits (part_of Order 10 s) ≡ passed
   unfolding spots
   order_amount_digits e = field_right day kind Order s e 10 7 (omega arith) refl
 

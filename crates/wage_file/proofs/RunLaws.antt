@@ -3,7 +3,7 @@
 use Rattle.refusal.proofs.Basics.{◌≡◌, refl, sym, ap, ◌∙◌, arith, ℕ, suc, ◌+◌, ◌*◌, ◌≤◌, ◌<◌, length, take, length-take, length-append, lt-ltb, le-leb, eq-eqb, ltb-true, eqb-true, List, [], ◌∷◌, ◌++◌, append_assoc, Bool, true, false, cond, eqb, ltb, add-zero}
 use Rattle.std.specs.Prelude.{Err, Ok}
 use Rattle.refusal.specs.declared.Refusal.{Refusal}
-use Rattle.verdict.specs.Verdict.{only_if, and_then}
+use Rattle.verdict.specs.Verdict.{passed, only_if, and_then}
 use Rattle.verdict.proofs.Verdicts.{both_pass, test_holds}
 use Rattle.sums.specs.Sums.{limb, sum_of, fits, same_sum, number_of, number_in}
 use Rattle.sums.proofs.Laws.{added_on}
@@ -91,7 +91,7 @@ unfolding stand_verdict
 nothing_after n [] j f e = refl
 nothing_after n (s ∷ ss) j f e = let w = came n ss j s e in go w.0.line (rw f at w.0.stands)
   where
-    go : (t : LineType) → stand_verdict 3 j.group t ≡ 0 → s ∷ ss ≡ []
+    go : (t : LineType) → stand_verdict 3 j.group t ≡ passed → s ∷ ss ≡ []
     go Label g = absurd (omega arith)
     go Group g = absurd (omega arith)
     go Order g = absurd (omega arith)
@@ -212,12 +212,12 @@ module _ (day kind : ℕ) where
     ordered_as s = rw (added_on 100 total (amount_in s), added_on 1000 m.tally.cents (amount_in s))
 
     -- a whole group may end
-    whole_made : Whole → whole_verdict 2 here.group ≡ 0
+    whole_made : Whole → whole_verdict 2 here.group ≡ passed
     whole_made w =
         rw (lt-ltb 0 counted w.some, eq-eqb counted (declared_in head) w.number, (sums_told_apart 100 total (promised_in head) (promised_small head)).1 w.sum)
 
     -- and only a whole group
-    whole_told : whole_verdict 2 here.group ≡ 0 → Whole
+    whole_told : whole_verdict 2 here.group ≡ passed → Whole
     whole_told e =
         let number = eqb counted (declared_in head) in
         let same = same_sum (sum_of 100 total) (sum_of 100 (promised_in head)) in
@@ -402,7 +402,7 @@ module _ (day kind : ℕ) where
       go w.0.line w.0.typed w.0.stands w.0.fields w.1 (run_rest n ss)
     where
       go :
-          (t : LineType) → typed_of s ≡ Ok t → stand_verdict 2 (in_group head m counted total).group t ≡ 0 → places_answer day kind t s ≡ Ok tt →
+          (t : LineType) → typed_of s ≡ Ok t → stand_verdict 2 (in_group head m counted total).group t ≡ passed → places_answer day kind t s ≡ Ok tt →
           Ends n ss (after (in_group head m counted total) s t) →
           ((head : List ℕ) (m : Read) (counted total : ℕ) → Ends n ss (in_group head m counted total) → Rest head m counted total ss n) →
           Rest head m counted total (s ∷ ss) n
