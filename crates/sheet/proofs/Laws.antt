@@ -2,7 +2,8 @@
 -- Assumes nothing.
 use Rattle.refusal.proofs.Basics.{◌≡◌, refl, sym, ap, ◌∙◌, arith, ℕ, ◌+◌, ◌-◌, ◌≤◌, ◌<◌, length, take, drop, set, length-drop, length-set, length-append, ne_eqb, eq-eqb, eqb-true, le-leb, leb-true, lt-ltb, le-ltb, List, [], ◌∷◌, ◌++◌, Bool, true, false, cond, ◌&&◌, ◌||◌, eqb, leb, ltb, false≢true, length-take-le, both_true}
 use Rattle.verdict.specs.Verdict.{passed}
-use Rattle.std.specs.Prelude.{Some, None}
+use Rattle.std.specs.Prelude.{Some, None, Err}
+use Rattle.verdict.specs.declared.Fault.{Fault}
 use Rattle.classes.specs.declared.Class.TheVariants.{Line}
 use Rattle.text.specs.Bytes.{first_bad}
 use Rattle.text.specs.Split.{split}
@@ -123,9 +124,9 @@ module _ (last : ℕ) (p : List ℕ) where
   not_above h = rw (le-ltb last (line_number p) h)
 
   -- its text is refused
-  pub not_obeying : last < line_number p → (field_verdict Euro (line_number p) [] (line_text p) ≡ passed → ⊥) → 0 ≡ right_number last p
+  pub not_obeying : last < line_number p → (f : Fault) → field_verdict Euro (line_number p) [] (line_text p) ≡ Err f → 0 ≡ right_number last p
   unfolding right_number
-  not_obeying h e = rw (lt-ltb last (line_number p) h, ne_eqb _ 0 e)
+  not_obeying h f e = rw (lt-ltb last (line_number p) h, e)
 
   -- it is right
   pub obeying : last < line_number p → field_verdict Euro (line_number p) [] (line_text p) ≡ passed → line_number p ≡ right_number last p

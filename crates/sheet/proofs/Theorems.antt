@@ -1,9 +1,9 @@
 -- What is promised of a sheet: it is right exactly when it is written from right fields, a sheet that is written reads back as its
 -- fields, the text that is told stands in it, and each text obeys its field's rule.
 -- Assumes nothing.
-use Rattle.refusal.proofs.Basics.{◌≡◌, refl, sym, ap, ◌∙◌, arith, ℕ, ◌+◌, ◌-◌, ◌≤◌, ◌<◌, length, drop, length-append, length-drop, ne_eqb, eqb-true, le-leb, lt-ltb, List, [], ◌∷◌, ◌++◌, map, append-nil, append_assoc, Bool, true, false, cond, eqb, ltb, both_true, ◌↔◌, inl, inr, drop-append-add, take-append_seam, drop-append-le}
-use Rattle.verdict.specs.Verdict.{passed}
-use Rattle.std.specs.Prelude.{Some}
+use Rattle.refusal.proofs.Basics.{◌≡◌, refl, sym, ap, ◌∙◌, arith, ℕ, ◌+◌, ◌-◌, ◌≤◌, ◌<◌, length, drop, length-append, length-drop, ne_eqb, eqb-true, le-leb, lt-ltb, List, [], ◌∷◌, ◌++◌, map, append-nil, append_assoc, Bool, true, false, false≢true, cond, eqb, ltb, both_true, ◌↔◌, inl, inr, drop-append-add, take-append_seam, drop-append-le}
+use Rattle.verdict.specs.Verdict.{Verdict, passed}
+use Rattle.std.specs.Prelude.{Some, Ok, Err, is_ok}
 use Rattle.classes.specs.declared.Class.TheVariants.{Line}
 use Rattle.text.specs.Bytes.{all_of}
 use Rattle.text.specs.Split.{split}
@@ -85,6 +85,11 @@ written_back ls w = rw (split_joined (each_free w), lines_closed (map (λ (l : F
 -- ---------------------------------------------------------------------------
 -- A right sheet is written from its fields, which are right
 
+-- a verdict that is not an error refuses nothing
+obeyed : (v : Verdict) → is_ok v ≡ true → v ≡ passed
+obeyed (Ok tt) e = refl
+obeyed (Err f) e = absurd (false≢true e)
+
 -- its fields are right
 fields_right : (k last : ℕ) (ps : List (List ℕ)) → 0 < k → bad_from k last ps ≡ 0 → RightLines last (map (λ (p : List ℕ). field_of p) (lines_among ps))
 fields_right k last [] h e = none
@@ -92,7 +97,7 @@ fields_right k last (p ∷ []) h e = none
 fields_right k last (p ∷ (q ∷ ps)) h e =
     let r = right_on k last p q ps h e in
     let a = right_above last p r.0 in
-    more a (numbered p (λ (z : line_number p ≡ 0). omega (arith, z))).standing (eqb-true _ 0 (both_true (ltb last (line_number p)) _ r.0).1)
+    more a (numbered p (λ (z : line_number p ≡ 0). omega (arith, z))).standing (obeyed _ (both_true (ltb last (line_number p)) _ r.0).1)
     (fields_right (k + 1) (line_number p) (q ∷ ps) (omega arith) r.1)
 
 pub sheet_fields_right : (s : List ℕ) → bad_line s ≡ 0 → RightLines 0 (fields_in s)

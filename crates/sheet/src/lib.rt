@@ -107,10 +107,10 @@ fn right_number(last: usize, p: &[u8]) -> usize
         return 0;
     }
     let start = text_start(n);
-    if slip_fields::judge_field(Currency::Euro, n, b"", &p[start..]).is_err() {
-        return 0;
+    match slip_fields::judge_field(Currency::Euro, n, b"", &p[start..]) {
+        Ok(()) => n,
+        Err(_) => 0,
     }
-    n
 }
 
 // ---------------------------------------------------------------------------

@@ -57,7 +57,7 @@ one_refused : (n : ℕ) (m p : List ℕ) (r : Refusal) → answer_in n (field_ve
 one_refused n m p r e =
     let v = field_verdict Euro n m p in (
       ap (λ (x : Place). x.field) (told_place_lem v n (verdict_byte v) r e).0,
-      λ (z : v ≡ 0). refused_not_accepted r (sym e ∙ accepted_answer v n (verdict_byte v) z),
+      λ (z : v ≡ passed). refused_not_accepted r (sym e ∙ accepted_answer v n (verdict_byte v) z),
     )
 
 -- of the first of two answers, or of the second

@@ -24,16 +24,16 @@ slice_bounds-judge_field-start c =
     rw (c.text_start-start.ensures, e) (text_within p (λ (z : line_number p ≡ 0). omega (arith, e, z, c.if-n-last.false))) in
     let h = within in search rules
 
-pub returns-then-judge_field-ne0 : goal.returns-then-judge_field-ne0
-returns-then-judge_field-ne0 c =
+pub returns-in-Err : goal.returns-in-Err
+returns-in-Err c =
     let judged : c.judge_field.result ≡ field_verdict Euro (line_number c.args.p.now) [] (line_text c.args.p.now) = let p = c.args.p.now in
     c.judge_field.ensures ∙ rw (c.text_start-start.ensures, c.line_number-n.ensures, to_the_end (text_start (line_number p)) p) in
     let e = c.line_number-n.ensures in
-    not_obeying _ c.args.p.now (rw (← e) c.if-n-last.false) (λ z. c.if-judge_field-ne0.true (judged ∙ z))
+    not_obeying _ c.args.p.now (rw (← e) c.if-n-last.false) _ (sym (judged) ∙ c.in-Err.is)
 
-pub returns : goal.returns
-returns c =
+pub returns-in-Ok : goal.returns-in-Ok
+returns-in-Ok c =
     let judged : c.judge_field.result ≡ field_verdict Euro (line_number c.args.p.now) [] (line_text c.args.p.now) = let p = c.args.p.now in
     c.judge_field.ensures ∙ rw (c.text_start-start.ensures, c.line_number-n.ensures, to_the_end (text_start (line_number p)) p) in
     let e = c.line_number-n.ensures in
-    e ∙ obeying _ c.args.p.now (rw (← e) c.if-n-last.false) (sym (judged) ∙ c.if-judge_field-ne0.false)
+    e ∙ obeying _ c.args.p.now (rw (← e) c.if-n-last.false) (sym (judged) ∙ c.in-Ok.is)
