@@ -30,7 +30,8 @@ fn run_over(modulus: u32, place: u32, s: &[u8]) -> u32
     let mut sum = 0;
     let mut at = place;
     for b in s.iter().rev() {
-        sum += (*b - b'0') as u32 * at;
+        // widened first: the compiler then takes all the 48s off at once
+        sum += (*b as u32 - 48) * at;
         at = at * 10 % modulus;
     }
     sum
