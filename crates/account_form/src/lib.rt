@@ -14,16 +14,10 @@ use verdict::{Fault, Verdict};
 pub fn is_formed(s: &[u8]) -> bool
     ensures { result ≡ account_formed s.now }
 {
-    if s.len() != 18 {
-        return false;
-    }
-    if s[7] != 45 {
-        return false;
-    }
-    if !text::all_of(Class::Digits, &s[0..7]) {
-        return false;
-    }
-    text::all_of(Class::Digits, &s[8..])
+    s.len() == 18
+        && s[7] == b'-'
+        && text::all_of(Class::Digits, &s[0..7])
+        && text::all_of(Class::Digits, &s[8..])
 }
 
 // An account: 3 with its byte, 4, 5.
@@ -39,11 +33,9 @@ pub fn judge(s: &[u8]) -> Verdict
 pub fn account_or_iban(s: &[u8]) -> Verdict
     ensures { result ≡ account_or_iban_verdict s.now }
 {
-    if s.len() == 0 {
-        return account::iban(s);
+    if !s.is_empty() && classes::is_digit(s[0]) {
+        judge(s)
+    } else {
+        account::iban(s)
     }
-    if classes::is_digit(s[0]) {
-        return judge(s);
-    }
-    account::iban(s)
 }
