@@ -2,6 +2,7 @@
 -- Assumes nothing.
 use Rattle.refusal.proofs.Basics.{◌≡◌, refl, arith, ℕ, zero, suc, ◌≤◌, ◌<◌, length, ne_eqb, le-leb, List, [], ◌∷◌, Bool, true, false, cond, ◌&&◌, and-true, and-false, eqb, leb, eqb-suc-zero, leb-suc-zero}
 use Rattle.std.specs.Prelude.{Some, None}
+use Rattle.std.specs.Bool.{then_some}
 use Rattle.text.specs.Split.{split}
 use Rattle.models.specs.declared.Model.{Model}
 use Rattle.parts.specs.Parts.{parts_of, parts_fit, formed}
@@ -12,13 +13,18 @@ use Rattle.parts.proofs.Ends.{parts_span, count_right, ends_some}
 -- ---------------------------------------------------------------------------
 -- What is found
 
+-- a choice between a number and none
+then_choice : (b : Bool) (n : ℕ) → then_some b n ≡ cond b (Some n) None
+then_choice true n = refl
+then_choice false n = refl
+
 module _ (model : Model) where
   -- no byte is no part
-  pub found_empty : (s : List ℕ) → length s ≡ 0 → cond (eqb model.fewest 0) (Some 0) None ≡ parts_found model s
+  pub found_empty : (s : List ℕ) → length s ≡ 0 → then_some {T = ℕ} (eqb model.fewest 0) 0 ≡ parts_found model s
   unfolding formed parts_of parts_fit ends_from
   found_empty [] h = rw (le-leb 0 model.most (omega arith), and-true) (go model.fewest)
     where
-      go : (n : ℕ) → cond (eqb n 0) (Some 0) None ≡ cond (leb n 0) (Some 0) None
+      go : (n : ℕ) → then_some {T = ℕ} (eqb n 0) 0 ≡ cond (leb n 0) (Some 0) None
       go zero = refl
       go (suc n) = rw (eqb-suc-zero n, leb-suc-zero n)
   found_empty (b ∷ s) h = absurd (omega arith)
@@ -26,7 +32,7 @@ module _ (model : Model) where
   -- the ends that were read, where there are as many parts as the model asks
   pub found_read :
       (s : List ℕ) (ends : ℕ) → (length s ≡ 0 → ⊥) → length s < 1024 → ends ≡ part_read model.lengths 0 (split 45 s) →
-      cond (eqb ends 0) None (cond (count_fits model.fewest model.most ends) (Some ends) None) ≡ parts_found model s
+      cond (eqb ends 0) None (then_some (count_fits model.fewest model.most ends) ends) ≡ parts_found model s
   unfolding formed parts_of
   found_read [] ends h g e = absurd (h refl)
   found_read (b ∷ s) ends h g e = go (parts_fit model.lengths ps) refl e
@@ -35,11 +41,11 @@ module _ (model : Model) where
       ps = split 45 (b ∷ s)
 
       go : (t : Bool) → parts_fit model.lengths ps ≡ t → ends ≡ cond t (ends_from 0 ps) 0 →
-          cond (eqb ends 0) None (cond (count_fits model.fewest model.most ends) (Some ends) None) ≡ cond (leb model.fewest (length ps) && (leb (length ps) model.most && t)) (Some (ends_from 0 ps)) None
+          cond (eqb ends 0) None (then_some (count_fits model.fewest model.most ends) ends) ≡ cond (leb model.fewest (length ps) && (leb (length ps) model.most && t)) (Some (ends_from 0 ps)) None
       go true f e =
           let d = (fit_solid model.lengths ps f).1.0 in
           let l = parts_span (b ∷ s) g in
-          rw (e, ne_eqb _ 0 (ends_some ps d l (rw (first_part (b ∷ s)).2 (omega arith))), count_right model.fewest model.most ps d l, and-true)
+          rw (e, ne_eqb _ 0 (ends_some ps d l (rw (first_part (b ∷ s)).2 (omega arith))), count_right model.fewest model.most ps d l, and-true) (then_choice (leb model.fewest (length ps) && leb (length ps) model.most) (ends_from 0 ps))
       go false f e = rw (e, and-false, and-false)
 
   module _ (s : List ℕ) where

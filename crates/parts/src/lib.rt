@@ -101,14 +101,9 @@ fn count_fits(fewest: usize, most: usize, ends: usize) -> bool
 pub fn parts(model: Model, s: &[u8]) -> Option<usize>
     ensures { result ≡ parts_found model s.now }
 {
-    let fewest = model.fewest;
-    let most = model.most;
     let lengths = model.lengths;
     if s.len() == 0 {
-        if fewest == 0 {
-            return Some(0);
-        }
-        return None;
+        return (model.fewest == 0).then_some(0);
     }
     if 1023 < s.len() {
         return None;
@@ -117,8 +112,5 @@ pub fn parts(model: Model, s: &[u8]) -> Option<usize>
     if ends == 0 {
         return None;
     }
-    if count_fits(wide(fewest), wide(most), ends) {
-        return Some(ends);
-    }
-    None
+    count_fits(wide(model.fewest), wide(model.most), ends).then_some(ends)
 }
