@@ -54,7 +54,7 @@ number_not_zero r = go (refusal_number r) (number_in_table r)
 -- an answer told as numbers loses nothing
 pub told_apart : (a b : Answer) → told_of a ≡ told_of b → a ≡ b
 unfolding told_of
-told_apart (Ok tt) (Ok tt) e = refl
-told_apart (Ok tt) (Err q) e = let z : 0 ≡ refusal_number q = ap (λ (t : Told). t.number) e in absurd (omega (arith, number_not_zero q))
-told_apart (Err r) (Ok tt) e = let z : refusal_number r ≡ 0 = ap (λ (t : Told). t.number) e in absurd (omega (arith, number_not_zero r))
+told_apart (Ok u) (Ok v) e = refl
+told_apart (Ok u) (Err q) e = let z : 0 ≡ refusal_number q = ap (λ (t : Told). t.number) e in absurd (omega (arith, number_not_zero q))
+told_apart (Err r) (Ok u) e = let z : refusal_number r ≡ 0 = ap (λ (t : Told). t.number) e in absurd (omega (arith, number_not_zero r))
 told_apart (Err r) (Err q) e = ap Err (sym (refusal_told_back r) ∙ (ap refusal_in e ∙ refusal_told_back q))

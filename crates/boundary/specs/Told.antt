@@ -18,7 +18,7 @@ abbrev pub refusal : Refusal → Told
 refusal r = record { number = refusal_number r; line = (refusal_place r).line; field = (refusal_place r).field; byte = (refusal_place r).byte; needed = needed_of r }
 
 unfoldable pub told_of : Answer → Told
-told_of (Ok tt) = accepted
+told_of (Ok u) = accepted
 told_of (Err r) = refusal r
 
 -- a verdict, told of no place

@@ -16,5 +16,5 @@ filled_answer s room = cond (ltb room (length s)) (Err (Room none (length s))) (
 
 -- it stands at the front, the bytes beyond it as they were
 abbrev pub filled_by : Answer → List ℕ → ℕ → List ℕ → List ℕ
-filled_by (Ok tt) s k out = fill s k ++ drop (length s) out
+filled_by (Ok u) s k out = fill s k ++ drop (length s) out
 filled_by (Err r) s k out = out

@@ -48,7 +48,7 @@ module _ (day kind : ℕ) (r : Refusal) where
   order_line n s e = go (typed_of s) e
     where
       places : (a : Answer) → answer_of_line n a ≡ Err r → (refusal_place r).line ≡ n
-      places (Ok tt) g = let z : ◌≡◌ {A = ℕ} 0 1 = cc in absurd (omega arith)
+      places (Ok u) g = let z : ◌≡◌ {A = ℕ} 0 1 = cc in absurd (omega arith)
       places (Err q) g = told_of_lem n q r g
 
       other : Err (Misplaced (record { line = n; field = 0; byte = 0 })) ≡ Err r → (refusal_place r).line ≡ n
@@ -70,7 +70,7 @@ module _ (day kind : ℕ) (r : Refusal) where
       go :
           (a : Answer) → lent_order_answer day kind n s ≡ a → first_of a (orders_from day kind (n + 1) ss) ≡ Err r
           → (orders_from day kind (n + 1) ss ≡ Err r → n + 1 ≤ (refusal_place r).line) → n ≤ (refusal_place r).line
-      go (Ok tt) f g later = omega (arith, later g)
+      go (Ok u) f g later = omega (arith, later g)
       go (Err q) f g later = omega (arith, order_line n s (f ∙ g))
 
 -- the lent orders are not refused for the room

@@ -40,7 +40,7 @@ module _ (j : Judge) (s : List ℕ) where
       placed :
           (t : LineType) (a : Answer) → typed_of s ≡ Ok t → stand_verdict j.condition j.group t ≡ passed → places_answer j.day j.kind t s ≡ a →
           is_refused (after_places j s t a).condition ≡ false → Taken j s
-      placed t (Ok tt) f v p h = record {
+      placed t (Ok u) f v p h = record {
         line = t;
         typed = f;
         sound = sound;
@@ -52,7 +52,7 @@ module _ (j : Judge) (s : List ℕ) where
       placed t (Err r) f v p h = absurd (false≢true (sym h))
 
       stood : (t : LineType) (v : Verdict) → typed_of s ≡ Ok t → stand_verdict j.condition j.group t ≡ v → is_refused (after_verdict j s t v).condition ≡ false → Taken j s
-      stood t (Ok tt) f v h = placed t (places_answer j.day j.kind t s) f v refl h
+      stood t (Ok u) f v h = placed t (places_answer j.day j.kind t s) f v refl h
       stood t (Err r) f v h = absurd (false≢true (sym h))
 
       typed_as : (t : Result LineType Refusal) → typed_of s ≡ t → is_refused (typed_step j s t).condition ≡ false → Taken j s

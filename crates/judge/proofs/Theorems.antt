@@ -102,11 +102,11 @@ module _ (j : Judge) (s : List ℕ) where
   type_clear t = judged (stand_verdict j.condition j.group t)
     where
       placed : (a : Answer) → places_answer j.day j.kind t s ≡ a → Clear (after_places j s t a)
-      placed (Ok tt) e = after_clear t
+      placed (Ok u) e = after_clear t
       placed (Err r) e = other_clear (in_line (next_line j) r) j (λ h. places_never_29 j.day j.kind t s r e (in_line_29 (next_line j) r h))
 
       judged : (v : Verdict) → Clear (after_verdict j s t v)
-      judged (Ok tt) = placed (places_answer j.day j.kind t s) refl
+      judged (Ok u) = placed (places_answer j.day j.kind t s) refl
       judged (Err f) = other_clear (refusal_at f (line_place (next_line j))) j (never_29 f _)
 
   -- after any line

@@ -16,7 +16,7 @@ use Rattle.standing.specs.Standing.{after, stand_verdict}
 
 -- the record after a line's places
 abbrev pub after_places : Judge → List ℕ → LineType → Answer → Judge
-after_places j s t (Ok tt) = after j s t
+after_places j s t (Ok u) = after j s t
 after_places j s t (Err r) = refused_with (in_line (next_line j) r) j
 
 abbrev pub after_verdict : Judge → List ℕ → LineType → Verdict → Judge

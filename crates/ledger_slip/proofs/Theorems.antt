@@ -57,7 +57,7 @@ unfolding ledger_of
 ledger_exactly c s n = (λ e. go (slip_answer_in (currency_of s) s) refl e, λ w. back w)
   where
     go : (a : Answer) → slip_answer_in (currency_of s) s ≡ a → ledger_from (currency_of s) (amount_of s) a ≡ Ok (amount_in c n) → PlainSlip c s × (n ≡ amount_of s)
-    go (Ok tt) g e = let h = amount_one (currency_of s) c (amount_of s) n cc in ((accepted_plainly c s).0 (rw h.0 at g), sym h.1)
+    go (Ok u) g e = let h = amount_one (currency_of s) c (amount_of s) n cc in ((accepted_plainly c s).0 (rw h.0 at g), sym h.1)
     go (Err r) g e = let z : ◌≡◌ {A = ℕ} 0 1 = cc in absurd (omega arith)
 
     back : PlainSlip c s × (n ≡ amount_of s) → ledger_from (currency_of s) (amount_of s) (slip_answer_in (currency_of s) s) ≡ Ok (amount_in c n)

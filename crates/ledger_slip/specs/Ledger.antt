@@ -23,7 +23,7 @@ amount_in currency.Euro n = Euro (record { number = n })
 amount_in currency.Kuna n = Kuna (record { number = n })
 
 abbrev pub ledger_from : Currency → ℕ → Answer → Result Amount Refusal
-ledger_from c n (Ok tt) = Ok (amount_in c n)
+ledger_from c n (Ok u) = Ok (amount_in c n)
 ledger_from c n (Err r) = Err r
 
 -- an accepted slip with its amount, or its refusal

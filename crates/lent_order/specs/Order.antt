@@ -11,7 +11,7 @@ use Rattle.wage_fields.specs.Rules.{places_answer}
 
 -- an answer of line n, a refusal's field and byte kept
 abbrev pub answer_of_line : ℕ → Answer → Answer
-answer_of_line n (Ok tt) = Ok tt
+answer_of_line n (Ok u) = Ok tt
 answer_of_line n (Err r) = Err (in_line n r)
 
 -- another type

@@ -76,7 +76,7 @@ kind_before kind rest e = go (eqb kind 4 || eqb kind 5) refl e
 
 -- what comes before is accepted
 pub accepted_before : (a rest : Answer) → (a ≡ no_room → ⊥) → first_of a rest ≡ no_room → (a ≡ Ok tt) × (rest ≡ no_room)
-accepted_before (Ok tt) rest other e = (refl, e)
+accepted_before (Ok u) rest other e = (refl, e)
 accepted_before (Err r) rest other e = absurd (other e)
 
 -- there is too little room

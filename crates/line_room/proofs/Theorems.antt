@@ -17,7 +17,7 @@ refusal_leaves_all r line out = refl
 
 -- and a line leaves what is behind it
 pub behind_kept : (a : Answer) (line out : List ℕ) → length line ≡ 1002 → drop 1002 (left_by_line a line out) ≡ drop 1002 out
-behind_kept (Ok tt) line out e = drop_at line (drop 1002 out) 1002 e
+behind_kept (Ok u) line out e = drop_at line (drop 1002 out) 1002 e
 behind_kept (Err r) line out e = refl
 
 -- ---------------------------------------------------------------------------

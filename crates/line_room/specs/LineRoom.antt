@@ -27,7 +27,7 @@ closing_answer day room = for_day day (for_room room)
 
 -- the line at the front, "changes nothing after the line"; a refusal changes nothing
 abbrev pub left_by_line : Answer → List ℕ → List ℕ → List ℕ
-left_by_line (Ok tt) line out = line ++ drop 1002 out
+left_by_line (Ok u) line out = line ++ drop 1002 out
 left_by_line (Err r) line out = out
 
 -- a call that answers so, and leaves that

@@ -11,7 +11,7 @@ use Rattle.boundary.proofs.Theorems.{number_not_zero}
 -- a call answers 0 exactly when what it tells accepts
 pub told_zero : (x : Answer) (z : Told) → z ≡ told_of x → (z.number ≡ 0) ↔ (x ≡ Ok tt)
 unfolding told_of
-told_zero (Ok tt) z e = (λ h. refl, λ q. rw e refl)
+told_zero (Ok u) z e = (λ h. refl, λ q. rw e refl)
 told_zero (Err r) z e = (λ h. let k : refusal_number r ≡ 0 = rw e at h in absurd (omega (arith, number_not_zero r)), λ q. absurd (refused_not_accepted r q))
 
 -- a call that tells a verdict answers 0 exactly when its rule holds

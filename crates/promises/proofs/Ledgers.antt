@@ -70,8 +70,8 @@ ledger_currency_exactly κs a z w call c =
 -- the answer that is told of what was read in a currency
 answer_told : (c : Currency) (n : ℕ) (x : Answer) → (ledger_told (ledger_from c n x)).told ≡ told_of x
 unfolding ledger_told amount_in told_of
-answer_told Euro n (Ok tt) = refl
-answer_told Kuna n (Ok tt) = refl
+answer_told Euro n (Ok u) = refl
+answer_told Kuna n (Ok u) = refl
 answer_told c n (Err r) = refl
 
 -- of a slip: that of the reader in the currency that its field 2 names
@@ -130,7 +130,7 @@ ledger_field_handed κs a z w call = rw call (field_stands (currency_of a.0.now)
 -- the answer that the euro call for cents tells is the euro reader's
 cents_answer : (s : List ℕ) (x : Answer) → (cents_told (cents_from s x)).told ≡ told_of x
 unfolding cents_told told_of
-cents_answer s (Ok tt) = refl
+cents_answer s (Ok u) = refl
 cents_answer s (Err r) = refl
 
 -- what the euro reader accepts, this one accepts as euro, with the same cents

@@ -37,7 +37,7 @@ either_known false t u k l = l
 -- an answer, a digit made, a listing, an amount, a slip of either currency, a slip written, an end, a judge's record
 answer_known : (x : Answer) → Known (told_of x)
 unfolding told_of
-answer_known (Ok tt) = inl refl
+answer_known (Ok u) = inl refl
 answer_known (Err r) = refusal_known r
 
 made_known : (x : Result ℕ Refusal) → Known (made_of x).told

@@ -159,7 +159,7 @@ line_refused j s unrefused q e = limit (goes_on j) refl (rw unrefused at e)
     fields :
         (t : LineType) → goes_on j ≡ true → typed_of s ≡ Ok t → stand_verdict (stage_of j.condition) j.group t ≡ passed → (a : Answer) → places_answer j.day j.kind t s ≡ a
         → (after_places j s t a).condition ≡ condition.Refused q → LineRefused j s q
-    fields t g f v (Ok tt) p h = absurd (no_refusal (after j s t).condition q (after_unrefused j s t) h)
+    fields t g f v (Ok u) p h = absurd (no_refusal (after j s t).condition q (after_unrefused j s t) h)
     fields t g f v (Err r) p h = let w = first_refused j.day j.kind t s r p in place g t f v w.order w.known w.before r w.here (one_refusal h)
 
     stand :

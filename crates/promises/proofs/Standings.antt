@@ -174,7 +174,7 @@ refused_told n farm association z call h = go (is_standing n) refl (both_judged 
         → (StandingRefused n farm association z.told z.sheet) × ((z.start ≡ 0) × (z.length ≡ 0))
     go false e x f c =
         (field e (ap (λ (t : StandingTold). t.told) c) (ap (λ (t : StandingTold). t.sheet) c), (ap (λ (t : StandingTold). t.start) c, ap (λ (t : StandingTold). t.length) c))
-    go true e (Ok tt) f c =
+    go true e (Ok u) f c =
         absurd (h ((asked_zero (standing_of n farm association) z call).1 ((standing.asked_exactly n farm association).1 (e, neither_bad (bad_line farm) (bad_line association) f))))
     go true e (Err r) f c =
         (line e (sheets_refused farm association r z.told z.sheet f (ap (λ (t : StandingTold). t.told) c) (ap (λ (t : StandingTold). t.sheet) c)), (ap (λ (t : StandingTold). t.start) c, ap (λ (t : StandingTold). t.length) c))
@@ -208,7 +208,7 @@ written_elsewhere cents fields room n l u all right = go (ltb cents (10 ^ 15)) (
         (t : Bool) (x : Answer) → given_answer 4 [] fields ≡ x
         → (written_of (cond t (after_fields x (slip_text cents fields) room) (Err (Length (record { line = 0; field = 3; byte = 0 }))))).told.field ≡ n → ⊥
     go false x g e = omega (arith, e)
-    go true (Ok tt) g e = room_told (ltb room (length (slip_text cents fields))) e
+    go true (Ok u) g e = room_told (ltb room (length (slip_text cents fields))) e
     go true (Err r) g e = not_there 4 [] fields r (n - 4) g (omega arith) (rw there right) (e ∙ sym there)
 
 -- "what is answered for a field is accepted by the slip's writer at that field"
@@ -253,7 +253,7 @@ answered cents sizes text farm association room = go (lent_whole 11 sizes text) 
         → Answered cents sizes text farm association room (cond t (slip_after_sheets (both_judged farm association).sheet x (write_answer cents (filled_fields sizes text farm association) room)) (record { sheet = Neither; written = Err (Size none) }))
     go false e x f = unsized e refl
     go true e (Err r) f = malformed e r f refl
-    go true e (Ok tt) f = let b = neither_bad (bad_line farm) (bad_line association) f in writes e b.0 b.1 refl
+    go true e (Ok u) f = let b = neither_bad (bad_line farm) (bad_line association) f in writes e b.0 b.1 refl
 
 -- of a right call: the writer's answer
 right_answered :

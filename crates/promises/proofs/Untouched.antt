@@ -25,7 +25,7 @@ use Rattle.promises.specs.Calls.{EveryFilled, EverySlipWrite, EverySlipWriteStan
 -- what an answer leaves, where a refusal leaves all as it was
 kept : (left : Answer → List ℕ) (out : List ℕ) → ((r : Refusal) → left (Err r) ≡ out) → (a : Answer) (z : Told) (after : List ℕ) → z ≡ told_of a → after ≡ left a → (z.number ≡ 0 → ⊥) → after ≡ out
 unfolding told_of
-kept left out keeps (Ok tt) z after e w h = absurd (h (ap (λ (t : Told). t.number) e))
+kept left out keeps (Ok u) z after e w h = absurd (h (ap (λ (t : Told). t.number) e))
 kept left out keeps (Err r) z after e w h = w ∙ keeps r
 
 pub filled_untouched : EveryFilled (λ text number out r after. (r.number ≡ 0 → ⊥) → after ≡ out)

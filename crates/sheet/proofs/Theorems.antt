@@ -87,7 +87,7 @@ written_back ls w = rw (split_joined (each_free w), lines_closed (map (λ (l : F
 
 -- a verdict that is not an error refuses nothing
 obeyed : (v : Verdict) → is_ok v ≡ true → v ≡ passed
-obeyed (Ok tt) e = refl
+obeyed (Ok u) e = refl
 obeyed (Err f) e = absurd (false≢true e)
 
 -- its fields are right

@@ -36,7 +36,7 @@ unfolding given_answer
 one_given n m s x e = e ∙ alone (answer_in n (field_verdict Euro n m s))
   where
     alone : (a : Answer) → a ≡ first_of a (Ok tt)
-    alone (Ok tt) = refl
+    alone (Ok u) = refl
     alone (Err r) = refl
 
 module _ (n : ℕ) (m : List ℕ) {x : Answer} where
@@ -62,7 +62,7 @@ one_refused n m p r e =
 
 -- of the first of two answers, or of the second
 either_refused : (a b : Answer) (r : Refusal) → first_of a b ≡ Err r → (a ≡ Err r) ⊎ (b ≡ Err r)
-either_refused (Ok tt) b r e = inr e
+either_refused (Ok u) b r e = inr e
 either_refused (Err q) b r e = inl e
 
 -- of no field before the first

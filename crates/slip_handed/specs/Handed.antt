@@ -51,7 +51,7 @@ abbrev pub amount_of : List ℕ → ℕ
 amount_of s = value_of (digits_of (piece_of 2 (split 10 s)))
 
 abbrev pub cents_from : List ℕ → Answer → Result ℕ Refusal
-cents_from s (Ok tt) = Ok (amount_of s)
+cents_from s (Ok u) = Ok (amount_of s)
 cents_from s (Err r) = Err r
 
 -- the amount of an accepted euro slip in cents; else its refusal

@@ -45,7 +45,7 @@ unfolding slip_printed
 slip_at_most s = go (slip_answer s) refl
   where
     go : (a : Answer) → slip_answer s ≡ a → length (printed_for a s) ≤ 6100
-    go (Ok tt) e = let b = both_at_most accepted_line (field_lines s 3 12) 9 6060 (omega arith) (lines_at_most s 3 12 ((accepted_plainly Euro s).0 e).short) in omega arith
+    go (Ok u) e = let b = both_at_most accepted_line (field_lines s 3 12) 9 6060 (omega arith) (lines_at_most s 3 12 ((accepted_plainly Euro s).0 e).short) in omega arith
     go (Err r) e = let b = refused_at_most r in omega arith
 
 -- with a kuna slip's cents
@@ -62,11 +62,11 @@ ledger_at_most s = go (currency_of s) (slip_answer_in (currency_of s) s) refl
   where
     go : (c : Currency) (a : Answer) → slip_answer_in (currency_of s) s ≡ a → length (ledger_lines (ledger_from c (amount_of s) a) s) ≤ 6200
     go c (Err r) e = let b = refused_at_most r in omega arith
-    go Euro (Ok tt) e =
+    go Euro (Ok u) e =
         let l = lines_at_most s 3 12 ((accepted_plainly (currency_of s) s).0 e).short in
         let b = both_at_most euro_line (field_lines s 3 12) 14 6060 (omega arith) l in
         omega arith
-    go Kuna (Ok tt) e =
+    go Kuna (Ok u) e =
         let l = lines_at_most s 3 12 ((accepted_plainly (currency_of s) s).0 e).short in
         let b = both_at_most kuna_line (field_lines s 3 12) 14 6060 (omega arith) l in
         let d = both_at_most (kuna_line ++ field_lines s 3 12) (cents_line (amount_of s)) 6074 27 b (cents_at_most (amount_of s)) in

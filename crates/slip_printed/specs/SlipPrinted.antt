@@ -36,7 +36,7 @@ field_lines s n zero = []
 field_lines s n (suc k) = field_line n (piece_of (n - 1) (split 10 s)) ++ field_lines s (suc n) k
 
 abbrev pub printed_for : Answer → List ℕ → List ℕ
-printed_for (Ok tt) s = accepted_line ++ field_lines s 3 12
+printed_for (Ok u) s = accepted_line ++ field_lines s 3 12
 printed_for (Err r) s = refused_text r
 
 unfoldable pub slip_printed : List ℕ → List ℕ

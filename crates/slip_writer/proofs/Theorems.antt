@@ -79,7 +79,7 @@ bytes_counted cents fields room n e = small (ltb cents (10 ^ 15)) refl e
     fits h a false g e = let z : n ≡ length (slip_text cents fields) = cc in record { small = h; given = a; size = z; fits = omega (arith, ltb-false room (length (slip_text cents fields)) g) }
 
     given : cents < 10 ^ 15 → (a : Answer) → given_answer 4 [] fields ≡ a → after_fields a (slip_text cents fields) room ≡ Ok n → Counted cents fields room n
-    given h (Ok tt) g e = fits h g (ltb room (length (slip_text cents fields))) refl e
+    given h (Ok u) g e = fits h g (ltb room (length (slip_text cents fields))) refl e
     given h (Err r) g e = let z : ◌≡◌ {A = ℕ} 0 1 = cc in absurd (omega arith)
 
     small : (t : Bool) → ltb cents (10 ^ 15) ≡ t → cond t (after_fields (given_answer 4 [] fields) (slip_text cents fields) room) (Err (Refusal.Length (record { line = 0; field = 3; byte = 0 }))) ≡ Ok n → Counted cents fields room n

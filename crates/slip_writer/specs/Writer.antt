@@ -24,7 +24,7 @@ abbrev pub written_in_room : List ℕ → ℕ → Result ℕ Refusal
 written_in_room s room = cond (ltb room (length s)) (Err (Room none (length s))) (Ok (length s))
 
 abbrev pub after_fields : Answer → List ℕ → ℕ → Result ℕ Refusal
-after_fields (Ok tt) s room = written_in_room s room
+after_fields (Ok u) s room = written_in_room s room
 after_fields (Err r) s room = Err r
 
 -- "the amount in cents (10^15 or more is 4)"

@@ -38,7 +38,7 @@ filled_fields sizes text farm association = filled_from 4 (eleven_of sizes text)
 
 -- "20 before the writer's"
 abbrev pub slip_after_sheets : Sheet → Answer → Result ℕ Refusal → StandingSlip
-slip_after_sheets sheet (Ok tt) w = record { sheet = Neither; written = w }
+slip_after_sheets sheet (Ok u) w = record { sheet = Neither; written = w }
 slip_after_sheets sheet (Err r) w = record { sheet = sheet; written = Err r }
 
 -- 1 where the sizes are not the text's, then the sheets, then the writer's answer

@@ -47,7 +47,7 @@ module _ (n : ℕ) (farm association : List ℕ) where
   asked_exactly = (there, λ w. rw (standing_supplied w.0 w.1.0 w.1.1) (supplied_accepted (line_held n farm) (line_held n association)))
     where
       sheets : (x : Answer) → (both_judged farm association).answer ≡ x → (after_sheets (both_judged farm association).sheet x (supplied_by (line_held n farm) (line_held n association))).answer ≡ Ok tt → (bad_line farm ≡ 0) × (bad_line association ≡ 0)
-      sheets (Ok tt) g e = neither_bad (bad_line farm) (bad_line association) g
+      sheets (Ok u) g e = neither_bad (bad_line farm) (bad_line association) g
       sheets (Err r) g e = absurd (refused_not_accepted r e)
 
       go :
@@ -122,7 +122,7 @@ standing_part_within n farm association = go (is_standing n) refl (both_judged f
         → (asked t x n farm association).part.start + (asked t x n farm association).part.length ≤ length (sheet_of (asked t x n farm association).sheet farm association)
     go false g x e = omega arith
     go true g (Err r) e = omega arith
-    go true g (Ok tt) e =
+    go true g (Ok u) e =
         let w = neither_bad (bad_line farm) (bad_line association) e in
         let z : 0 + 1 ≤ n = omega (arith, (standing_within n g).0) in
         supplied_within (line_held n farm) (line_held n association) farm association _ _ (held_stands n z farm w.0) (held_stands n z association w.1)
@@ -144,7 +144,7 @@ refused_empty n farm association r = go (is_standing n) (both_judged farm associ
     go : (t : Bool) (x : Answer) → (asked t x n farm association).answer ≡ Err r → standing_bytes (asked t x n farm association) farm association ≡ []
     go false x e = no_bytes Neither farm association
     go true (Err q) e = no_bytes (both_judged farm association).sheet farm association
-    go true (Ok tt) e = absurd (refused_not_accepted r (sym e ∙ supplied_accepted (line_held n farm) (line_held n association)))
+    go true (Ok u) e = absurd (refused_not_accepted r (sym e ∙ supplied_accepted (line_held n farm) (line_held n association)))
 
 -- what is answered for a field obeys that field's rule, whatever stands before it
 pub standing_obeys : (n : ℕ) (m farm association : List ℕ) → is_standing n ≡ true → field_verdict Euro n m (standing_text n farm association) ≡ passed
@@ -156,7 +156,7 @@ standing_obeys n m farm association h =
 
     go : (x : Answer) → (standing_of n farm association).answer ≡ x → field_verdict Euro n [] (standing_text n farm association) ≡ passed
     go (Err r) e = rw (refused_empty n farm association r e) (empty_obeys n h)
-    go (Ok tt) e =
+    go (Ok u) e =
         let w = (asked_exactly n farm association).0 e in
         rw (standing_text_is n farm association h w.1.0 w.1.1)
         (either (is_among n (fields_in farm)) (text_among n (fields_in farm)) (text_among n (fields_in association)) (among_obeys n 0 (fields_in farm) h (sheet_fields_right farm w.1.0)) (among_obeys n 0 (fields_in association) h (sheet_fields_right association w.1.1)))

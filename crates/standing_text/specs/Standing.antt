@@ -37,7 +37,7 @@ supplied_by None None = record { sheet = Neither; answer = Ok tt; part = no_part
 
 -- what both sheets judged leave of an answer: a refusal tells no part
 abbrev pub after_sheets : Sheet → Answer → Standing → Standing
-after_sheets sheet (Ok tt) rest = rest
+after_sheets sheet (Ok u) rest = rest
 after_sheets sheet (Err r) rest = record { sheet = sheet; answer = Err r; part = no_part }
 
 -- both sheets, "farm's sheet judged first"

@@ -128,7 +128,7 @@ module _ (line : List ℕ) (d : Draft) where
         other h g = let z : ◌≡◌ {A = ℕ} 0 1 = cc in absurd (omega arith)
 
         go : (a : Answer) → d.answer ≡ a → Drafts (going_on d.answer (record { answer = d.answer; line = line }) d) r after → DraftsRight d r after
-        go (Ok tt) e v =
+        go (Ok u) e v =
             let u : Drafts (record { answer = Ok tt; line = d.line }) r after = rw e at v in
             record { answers = u.answers ∙ sym e; leaves = λ (h : r ≡ Ok tt). u.leaves }
         go (Err q) e v =
@@ -147,7 +147,7 @@ later_field (f ∷ fs) k = refl
 pub going_twice :
     (next : Draft → Draft) (d e : Draft) (a : Answer) → d.answer ≡ a
     → going_on a d (going_on e.answer e (next e)) ≡ going_on (going_on a d e).answer (going_on a d e) (next (going_on a d e))
-going_twice next d e (Ok tt) h = refl
+going_twice next d e (Ok u) h = refl
 going_twice next d e (Err r) h = rw h
 
 module _ (day kind : ℕ) (t : LineType) where
@@ -316,7 +316,7 @@ module _ (day kind : ℕ) (t : LineType) where
       rw (drafted_first day kind t p ps fs line) (go d e a (kept_both n m line d.line e.line (omega arith) a (drafted_kept m ps h.1.1 (drop 1 fs) d.line)) d.answer)
     where
       go : (d e : Draft) → Kept n line d.line → Kept n line e.line → (a : Answer) → Kept n line (going_on a d e).line
-      go d e x y (Ok tt) = y
+      go d e x y (Ok u) = y
       go d e x y (Err r) = x
 
 -- ---------------------------------------------------------------------------
@@ -324,7 +324,7 @@ module _ (day kind : ℕ) (t : LineType) where
 
 -- what was accepted went on
 went_on : (a : Answer) (d e : Draft) → d.answer ≡ a → (going_on a d e).answer ≡ Ok tt → (a ≡ Ok tt) × (going_on a d e ≡ e)
-went_on (Ok tt) d e h g = (refl, refl)
+went_on (Ok u) d e h g = (refl, refl)
 went_on (Err r) d e h g = let z : ◌≡◌ {A = ℕ} 0 1 = cc in absurd (omega arith)
 
 -- a field was accepted: it has the place's size, it was put, and judged there
@@ -463,7 +463,7 @@ module _ (day kind : ℕ) (t : LineType) where
       go :
           (d x : Draft) → blanked (p ∷ ps) d.line ≡ blanked (p ∷ ps) line → blanked (p ∷ ps) x.line ≡ blanked (p ∷ ps) line →
           (a : Answer) → blanked (p ∷ ps) (going_on a d x).line ≡ blanked (p ∷ ps) line
-      go d x e f (Ok tt) = f
+      go d x e f (Ok u) = f
       go d x e f (Err r) = e
 
   -- a line's own parts, put at its places over blanks, give it back

@@ -30,7 +30,7 @@ placed day kind t p f line =
 
 -- after a refusal nothing more is put
 abbrev pub going_on : Answer → Draft → Draft → Draft
-going_on (Ok tt) d next = next
+going_on (Ok u) d next = next
 going_on (Err r) d next = d
 
 -- fields at places in order; a field that is not there is an empty one

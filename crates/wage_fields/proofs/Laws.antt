@@ -140,7 +140,7 @@ module _ (day kind : ℕ) (t : LineType) (s : List ℕ) where
   range_one k = let e : k + 1 - k ≡ 1 = omega arith in rw e (alone (place_answer day kind t (place_at t k) s))
     where
       alone : (a : Answer) → first_of a (Ok tt) ≡ a
-      alone (Ok tt) = refl
+      alone (Ok u) = refl
       alone (Err r) = refl
 
   -- past the last there is none, and all are alike
@@ -177,7 +177,7 @@ module _ (day kind : ℕ) (t : LineType) (s : List ℕ) (r : Refusal) where
           (a : Answer) → place_answer day kind t p s ≡ a → first_of a (places_from day kind t ps s) ≡ Err r →
           (places_from day kind t ps s ≡ Err r → Stops day kind t s ps r) → Stops day kind t s (p ∷ ps) r
       go (Err q) f g rest = record { order = 0; known = omega arith; before = λ k h. absurd (omega arith); here = f ∙ g }
-      go (Ok tt) f g rest =
+      go (Ok u) f g rest =
           let w = rest g in
           record {
             order = suc w.order;

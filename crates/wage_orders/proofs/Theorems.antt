@@ -25,7 +25,7 @@ module _ (day kind : ℕ) where
   order_told n s e = go (typed_of s) refl e
     where
       fields : (a : Answer) → answer_of_line n a ≡ Ok tt → a ≡ Ok tt
-      fields (Ok tt) g = refl
+      fields (Ok u) g = refl
       fields (Err r) g = let z : ◌≡◌ {A = ℕ} 0 1 = cc in absurd (omega arith)
 
       go : (t : Result LineType Refusal) → typed_of s ≡ t → order_from day kind n s t ≡ Ok tt → RightLine day kind Order s
@@ -51,7 +51,7 @@ module _ (day kind : ℕ) where
   orders_told_lem n (s ∷ ss) e = go (lent_order_answer day kind n s) refl e (orders_told_lem (n + 1) ss)
     where
       go : (a : Answer) → lent_order_answer day kind n s ≡ a → first_of a (orders_from day kind (n + 1) ss) ≡ Ok tt → (orders_from day kind (n + 1) ss ≡ Ok tt → EachRight ss) → EachRight (s ∷ ss)
-      go (Ok tt) f g rest = each_more (RightLine day kind Order) [] s ss (order_told n s f) (rest g)
+      go (Ok u) f g rest = each_more (RightLine day kind Order) [] s ss (order_told n s f) (rest g)
       go (Err r) f g rest = let z : ◌≡◌ {A = ℕ} 0 1 = cc in absurd (omega arith)
 
   -- right orders are accepted

@@ -50,7 +50,7 @@ module _ (day kind : ℕ) (t : LineType) where
           (d : Draft) (a : Answer) → d.answer ≡ a → (d.answer ≡ Err r → needed_of r ≡ 0)
           → ((drafted day kind t ps (drop 1 fs) d.line).answer ≡ Err r → needed_of r ≡ 0)
           → (going_on d.answer d (drafted day kind t ps (drop 1 fs) d.line)).answer ≡ Err r → needed_of r ≡ 0
-      go d (Ok tt) h here later g = later (rw h at g)
+      go d (Ok u) h here later g = later (rw h at g)
       go d (Err q) h here later g = here (rw (← h) at (rw h at g))
 
 -- no field is refused for the room
