@@ -1,8 +1,8 @@
 -- What is promised of the rules of a 309: the byte that a verdict tells lies within its place.
 -- Assumes nothing.
-use Rattle.refusal.proofs.Basics.{arith, ℕ, length, List, true, false, not, eqb}
+use Rattle.refusal.proofs.Basics.{ℕ, length, List, true, false, not, eqb}
 use Rattle.verdict.specs.Verdict.{Within}
-use Rattle.verdict.proofs.Verdicts.{plain_within, choice_within}
+use Rattle.verdict.proofs.Verdicts.{pass_within, choice_within}
 use Rattle.classes.specs.declared.Class.TheVariants.{Digits}
 use Rattle.text.proofs.Laws.{bytes_within}
 use Rattle.wage_places.specs.declared.LineType.TheVariants.{Order}
@@ -30,4 +30,4 @@ order_within kind n f s =
     (or (eqb n 20) _ _ (sign_within 32 48 51 f)
     (or (eqb n 21) _ _ (sign_within 32 48 48 f)
     (or (eqb n 22) _ _ (code_within kind (held_blank (held_in (part_of Order 11 s))) f)
-    (or (eqb n 23) _ _ (oib_within (not (eqb kind 5)) f) (plain_within (length f) 0 (omega arith))))))))))))))))
+    (or (eqb n 23) _ _ (oib_within (not (eqb kind 5)) f) (pass_within (length f))))))))))))))))

@@ -1,13 +1,15 @@
 -- Laws of a line's places: the byte that a verdict tells, answers joined, the places from one up to another, and the first that is refused.
 -- Assumes nothing.
-use Rattle.refusal.proofs.Basics.{◌≡◌, refl, sym, ap, ◌∙◌, arith, ℕ, zero, suc, ◌+◌, ◌-◌, ◌≤◌, ◌<◌, ◌^◌, length, drop, get_or, length-take, get_or-eq_default, leb-true, ltb-true, ltb-false, eqb-true, ne_eqb, List, [], ◌∷◌, Bool, true, false, cond, eqb, leb, ltb, add-one}
+use Rattle.refusal.proofs.Basics.{◌≡◌, refl, sym, ap, ◌∙◌, arith, ℕ, zero, suc, add-zero, ◌+◌, ◌-◌, ◌≤◌, ◌<◌, ◌^◌, length, drop, get_or, length-take, get_or-eq_default, leb-true, ltb-true, ltb-false, eqb-true, ne_eqb, List, [], ◌∷◌, Bool, true, false, cond, eqb, leb, ltb, add-one}
 use Rattle.std.specs.Prelude.{Ok, Err}
 use Rattle.refusal.specs.Refusal.{Answer, none, refusal_number, refusal_place, answer_number, first_of}
-use Rattle.verdict.specs.Verdict.{verdict_byte, answer_at, Within}
+use Rattle.verdict.specs.Verdict.{Verdict, passed, refusal_at, fault_byte, verdict_byte, answer_at, Within}
 use Rattle.refusal.specs.declared.Place.{Place}
 use Rattle.refusal.specs.declared.Refusal.{Refusal}
 use Rattle.refusal.specs.declared.Refusal.TheVariants.{Size}
-use Rattle.verdict.proofs.Verdicts.{told_place_lem, plain_within, byte_within}
+use Rattle.verdict.specs.declared.Fault.{Fault}
+use Rattle.verdict.specs.declared.Fault.TheVariants.{Byte, Length, Form, Check, Model, Parts, Digit, Misplaced, Date, Orders, Sum}
+use Rattle.verdict.proofs.Verdicts.{refusal_no_pass, fault_told, pass_within, byte_within}
 use Rattle.wage_places.specs.declared.LineType.{LineType}
 use Rattle.wage_places.specs.declared.LineType.TheVariants.{Label, Group, Order, Closing}
 use Rattle.wage_places.specs.declared.Spot.{Spot}
@@ -26,7 +28,7 @@ pub rule_within : (day kind : ℕ) (t : LineType) (n : ℕ) (f s : List ℕ) →
 rule_within day kind Label n f s = label_within day n f s
 rule_within day kind Group n f s = group_within day n f
 rule_within day kind Order n f s = order_within kind n f s
-rule_within day kind Closing n f s = plain_within (length f) 0 (omega arith)
+rule_within day kind Closing n f s = pass_within (length f)
 
 -- so of a place, or the one behind it
 pub place_within : (day kind : ℕ) (t : LineType) (p : Spot) (s : List ℕ) → verdict_byte (place_verdict day kind t p s) ≤ p.size
@@ -42,9 +44,11 @@ place_small t k = go (ltb k (length (spots t))) refl
     go true e = sizes_small t k (ltb-true k (length (spots t)) e)
     go false e = rw (get_or-eq_default (spots t) no_spot (ltb-false k (length (spots t)) e)) (record { short = omega arith; within = omega arith })
 
--- so its byte in the line is a number: p is the place at k, and v what its rule says
-pub fits : (day kind : ℕ) (t : LineType) (k : ℕ) (s : List ℕ) (p : Spot) (v : ℕ) → p ≡ place_at t k → v ≡ place_verdict day kind t (place_at t k) s → p.start + verdict_byte v < 2 ^ 64
-fits day kind t k s p v e w = rw (w, e) (omega (arith, place_within day kind t (place_at t k) s, (place_small t k).within))
+-- so its byte in the line is a number: p is the place at k, and f the fault that its rule finds
+pub fits : (day kind : ℕ) (t : LineType) (k : ℕ) (s : List ℕ) (p : Spot) (f : Fault) → p ≡ place_at t k → Err f ≡ place_verdict day kind t (place_at t k) s → p.start + fault_byte f < 2 ^ 64
+fits day kind t k s p f e w =
+    let b : fault_byte f ≤ (place_at t k).size = rw (← w) at (place_within day kind t (place_at t k) s) in
+    rw e (omega (arith, b, (place_small t k).within))
 
 -- ---------------------------------------------------------------------------
 -- Answers joined
@@ -63,25 +67,35 @@ size_right n a e = go (eqb n 1002) refl e
 
 -- the byte that a refusal tells: of a 3 one of the n bytes that were judged, of any other the first of them
 pub told_byte :
-    (n v field start : ℕ) (r : Refusal) → Within n v → 0 < n → answer_at field start v ≡ Err r →
+    (n : ℕ) (v : Verdict) (field start : ℕ) (r : Refusal) → Within n v → 0 < n → answer_at field start v ≡ Err r →
     (refusal_number r ≡ 3 → (start ≤ (refusal_place r).byte) × ((refusal_place r).byte < start + n)) × ((refusal_number r ≡ 3 → ⊥) → (refusal_place r).byte ≡ start)
-told_byte n v field start r w some e = go (leb 32 v) refl
+told_byte n (Ok u) field start r w some e = refusal_no_pass r (sym e)
+told_byte n (Err f) field start r w some e = go f w cc
   where
-    byte : (refusal_place r).byte ≡ start + verdict_byte v
-    byte = ap (λ (x : Place). x.byte) (told_place_lem v field (start + verdict_byte v) r e).0
+    at : Fault → Place
+    at g = record { line = 0; field = field; byte = start + fault_byte g }
 
-    go :
-        (t : Bool) → leb 32 v ≡ t →
-        (refusal_number r ≡ 3 → (start ≤ (refusal_place r).byte) × ((refusal_place r).byte < start + n)) × ((refusal_number r ≡ 3 → ⊥) → (refusal_place r).byte ≡ start)
-    go true f =
-        let h : 32 ≤ v = leb-true 32 v f in
-        let inside : v < 32 + n = w.0 in
-        let b = byte in
-        let d : verdict_byte v ≡ v - 32 = rw f in
-        let z : eqb v 0 ≡ false = ne_eqb v 0 (λ q. omega arith) in
-        let three : 3 ≡ refusal_number r = rw (z, f) at (ap answer_number e) in
-        ((λ q. (omega arith, omega arith)), (λ no. absurd (no (sym three))))
-    go false f = let b = byte in let d : verdict_byte v ≡ 0 = rw f in ((λ q. (omega arith, omega arith)), (λ no. omega arith))
+    Told : Refusal → Type 0
+    Told q =
+        (refusal_number q ≡ 3 → (start ≤ (refusal_place q).byte) × ((refusal_place q).byte < start + n))
+        × ((refusal_number q ≡ 3 → ⊥) → (refusal_place q).byte ≡ start)
+
+    -- every fault but a 3 tells the first byte
+    plain : (g : Fault) → fault_byte g ≡ 0 → (refusal_number (refusal_at g (at g)) ≡ 3 → ⊥) → refusal_at g (at g) ≡ r → Told r
+    plain g b d z = rw (← z) ((λ q. absurd (d q)), λ no. ap (λ (x : Place). x.byte) (fault_told g (at g)).0 ∙ rw b (add-zero start))
+
+    go : (g : Fault) → Within n (Err g) → refusal_at g (at g) ≡ r → Told r
+    go (Byte i) h z = let k = h i refl in rw (← z) ((λ q. (omega arith, omega arith)), λ no. absurd (no refl))
+    go Length h z = plain Length refl (λ q. omega arith) z
+    go Form h z = plain Form refl (λ q. omega arith) z
+    go Check h z = plain Check refl (λ q. omega arith) z
+    go Model h z = plain Model refl (λ q. omega arith) z
+    go Parts h z = plain Parts refl (λ q. omega arith) z
+    go Digit h z = plain Digit refl (λ q. omega arith) z
+    go Misplaced h z = plain Misplaced refl (λ q. omega arith) z
+    go Date h z = plain Date refl (λ q. omega arith) z
+    go Orders h z = plain Orders refl (λ q. omega arith) z
+    go Sum h z = plain Sum refl (λ q. omega arith) z
 
 -- ---------------------------------------------------------------------------
 -- The places from one on, up to another
@@ -106,16 +120,16 @@ module _ (day kind : ℕ) (t : LineType) (s : List ℕ) (k last : ℕ) where
   unfolding place_answer
   range_size h e = rw (range_next h, ne_eqb (length s) 1002 e)
 
-  module _ (h : k < last) (whole : length s ≡ 1002) (v : ℕ) (e : v ≡ place_verdict day kind t (place_at t k) s) where
+  module _ (h : k < last) (whole : length s ≡ 1002) (v : Verdict) (e : v ≡ place_verdict day kind t (place_at t k) s) where
     -- the place at k says nothing: those behind it answer
-    pub range_on : v ≡ 0 → Rest ≡ places_from day kind t (spots_from t (k + 1) (last - (k + 1))) s
+    pub range_on : v ≡ passed → Rest ≡ places_from day kind t (spots_from t (k + 1) (last - (k + 1))) s
     unfolding place_answer
     range_on z = rw (range_next h, whole, ← e, z)
 
     -- it says something: that is the answer
-    pub range_stop : (v ≡ 0 → ⊥) → answer_at (place_at t k).field (place_at t k).start v ≡ Rest
+    pub range_stop : (f : Fault) → v ≡ Err f → answer_at (place_at t k).field (place_at t k).start (Err f) ≡ Rest
     unfolding place_answer
-    range_stop z = rw (range_next h, whole, ← e, ne_eqb v 0 z)
+    range_stop f z = rw (range_next h, whole, ← e, z)
 
 -- no type has more than sixteen
 pub few : (t : LineType) → length (spots t) ≤ 16

@@ -163,5 +163,5 @@ places_never_29 day kind t s r e h =
     go (place_at t w.order) (eqb (length s) 1002) w.here
   where
     go : (p : Spot) (b : Bool) → cond b (answer_at p.field p.start (place_verdict day kind t p s)) (Err (Size none)) ≡ Err r → ⊥
-    go p true f = answer_never_29 (length (part_at p s)) (place_verdict day kind t p s) p.field _ r (rule_within day kind t p.field (part_at p s) s) f h
+    go p true f = answer_never_29 (place_verdict day kind t p s) p.field _ r f h
     go p false f = let n : 1 ≡ refusal_number r = ap answer_number f in omega arith

@@ -5,12 +5,12 @@
 #![tactic(auto)]
 
 ghost use Rattle.std.specs.Prelude.{◌≡◌, get_or, ◌+◌, ◌-◌, ◌<◌, ◌^◌};
-ghost use Rattle.verdict.specs.Verdict.{verdict_byte, answer_at};
+ghost use Rattle.verdict.specs.Verdict.{fault_byte, refusal_at};
 ghost use Rattle.wage_places.specs.Places.{spots, no_spot};
 ghost use Rattle.wage_fields.specs.Rules.{place_verdict, place_answer, spots_from, places_from, places_answer};
 
-use refusal::{Answer, Refusal};
-use verdict::Verdict;
+use refusal::{Answer, Place, Refusal};
+use verdict::{Fault, Verdict};
 use wage_places::{LineType, Spot};
 
 // The rule of a place, under a day and a kind.
@@ -25,14 +25,17 @@ fn rule(day: u64, kind: u64, t: LineType, k: usize, s: &[u8]) -> Verdict
     }
 }
 
-// A verdict told of its place in the line.
-fn told(p: Spot, verdict: Verdict) -> Answer
-    requires { p.start + verdict_byte verdict < 2 ^ 64 }
-    ensures { result ≡ answer_at p.field p.start verdict }
+// A fault told of its place in the line.
+fn told(p: Spot, fault: Fault) -> Refusal
+    requires { p.start + fault_byte fault < 2 ^ 64 }
+    ensures { result ≡ refusal_at fault (record { line = 0; field = p.field; byte = p.start + fault_byte fault }) }
 {
-    let field = p.field;
-    let start = p.start;
-    verdict::answer_of(verdict, field, start + verdict::byte_of(verdict))
+    let place = Place {
+        line: 0,
+        field: p.field,
+        byte: p.start + verdict::byte_of(Err(fault)),
+    };
+    verdict::told(fault, place)
 }
 
 // The places from one order up to another, in order: a line of another size is refused, else the first refusal stands, with its
@@ -49,11 +52,10 @@ fn judge_range(day: u64, kind: u64, t: LineType, first: usize, last: usize, s: &
         if last <= k {
             break 'places Ok(());
         }
-        let verdict = rule(day, kind, t, k, s);
-        if verdict.is_err() {
-            break 'places told(wage_places::spot_at(t, k), verdict);
+        match rule(day, kind, t, k, s) {
+            Ok(()) => k += 1,
+            Err(fault) => break 'places Err(told(wage_places::spot_at(t, k), fault)),
         }
-        k += 1;
     }
 }
 

@@ -9,19 +9,19 @@ returns-then-s-ne1002 c = let a = c.args in
 
 pub told-requires : goal.told-requires
 told-requires c = let a = c.args in
-    fits a.day a.kind a.t c.places.k a.s.now _ _ c.spot_at.ensures c.rule-verdict.ensures
+    fits a.day a.kind a.t c.places.k a.s.now _ _ c.spot_at.ensures (sym c.in-Err.is ∙ c.rule.ensures)
 
 pub places-preserved : goal.places-preserved
 places-preserved c = let a = c.args in
     let l = c.places in
-    l.invariant ∙ range_on a.day a.kind a.t a.s.now l.k a.last c.if-last-k.false c.if-s-ne1002.false _ c.rule-verdict.ensures c.if-verdict-ne0.false
+    l.invariant ∙ range_on a.day a.kind a.t a.s.now l.k a.last c.if-last-k.false c.if-s-ne1002.false _ c.rule.ensures c.in-Ok.is
 
 pub returns-then-last-k : goal.returns-then-last-k
 returns-then-last-k c = let a = c.args in
     let l = c.places in
     range_end a.day a.kind a.t a.s.now l.k a.last c.if-last-k.true ∙ sym l.invariant
 
-pub returns-then-verdict-ne0 : goal.returns-then-verdict-ne0
-returns-then-verdict-ne0 c = let a = c.args in
+pub returns-in-Err : goal.returns-in-Err
+returns-in-Err c = let a = c.args in
     let l = c.places in
-    c.told.ensures ∙ rw c.spot_at.ensures (range_stop a.day a.kind a.t a.s.now l.k a.last c.if-last-k.false c.if-s-ne1002.false _ c.rule-verdict.ensures c.if-verdict-ne0.true) ∙ sym l.invariant
+    rw (c.told.ensures, c.spot_at.ensures) (range_stop a.day a.kind a.t a.s.now l.k a.last c.if-last-k.false c.if-s-ne1002.false _ c.rule.ensures _ c.in-Err.is ∙ sym l.invariant)
