@@ -1,5 +1,5 @@
 -- Document 01's answer to a reference, whatever its parts hold: what W4 (proofs/Before.antt) leaves as it was.
-use Rattle.std.specs.Prelude.{ℕ, List, leb, length, Option, Some, None}
+use Rattle.std.specs.Prelude.{ℕ, List, leb, length, Option, Some, None, Err}
 use Rattle.verdict.specs.Verdict.{Verdict, only_if, and_then}
 use Rattle.verdict.specs.declared.Fault.{Fault}
 use Rattle.text.specs.Bytes.{bytes_verdict}
@@ -11,7 +11,7 @@ use Rattle.parts.specs.Parts.{parts_of, formed}
 use Rattle.groups.specs.Groups.{groups_right}
 
 -- under a model: 7, 3, 4, 8, 9
-abbrev pub modelled_before : Model → List ℕ → ℕ
+abbrev pub modelled_before : Model → List ℕ → Verdict
 modelled_before model s =
     and_then (only_if model.handled Fault.Model)
     (and_then (bytes_verdict Reference s)
@@ -20,10 +20,10 @@ modelled_before model s =
     (only_if (groups_right model.groups (parts_of s)) Fault.Digit))))
 
 -- under a model's number, or none
-abbrev pub number_before : List ℕ → Option ℕ → ℕ
+abbrev pub number_before : List ℕ → Option ℕ → Verdict
 number_before s (Some n) = modelled_before (model_of n) s
-number_before s None = 5
+number_before s None = Err Fault.Form
 
 -- under a model's text
-abbrev pub reference_before : List ℕ → List ℕ → ℕ
+abbrev pub reference_before : List ℕ → List ℕ → Verdict
 reference_before m s = number_before s (model_number m)

@@ -24,25 +24,22 @@ pub fn obeys(model: Model, s: &[u8]) -> bool
 
 // A reference under a model's rules: 7, then 3 with its byte, 4, 8, 5 and 9. What is formed has no byte for 3, so that only
 // what is not is looked through for one; of an empty one nothing is asked.
+#[tactic(auto, using(crate::proofs::Laws::text_read, crate::proofs::Laws::text_bare))]
 fn judged(model: Model, s: &[u8]) -> Verdict
     ensures { result ≡ modelled_verdict model s.now }
 {
     verdict::only_if(model.handled, Fault::Model)?;
-    match parts::parts(model, s) {
-        Some(ends) => {
-            if s.len() == 0 {
-                return Ok(());
-            }
-            verdict::only_if(s.len() <= 22, Fault::Length)?;
-            verdict::only_if(part_contents::contents_at(model, ends, s), Fault::Form)?;
-            verdict::only_if(groups::groups_at(model, ends, s), Fault::Digit)
-        }
-        None => {
-            text::judge(Class::Reference, s)?;
-            verdict::only_if(s.len() <= 22, Fault::Length)?;
-            Err(Fault::Parts)
-        }
+    let Some(ends) = parts::parts(model, s) else {
+        text::judge(Class::Reference, s)?;
+        verdict::only_if(s.len() <= 22, Fault::Length)?;
+        return Err(Fault::Parts);
+    };
+    if s.len() == 0 {
+        return Ok(());
     }
+    verdict::only_if(s.len() <= 22, Fault::Length)?;
+    verdict::only_if(part_contents::contents_at(model, ends, s), Fault::Form)?;
+    verdict::only_if(groups::groups_at(model, ends, s), Fault::Digit)
 }
 
 // A reference by its model's number. The rules are handed on as they come: kept in a local they would be copied.
