@@ -46,7 +46,7 @@ pub fn print(s: &[u8], out: &mut [u8]) -> usize
 {
     match slip::read(s) {
         Ok(()) => put_accepted(b"accepted\n", s, out),
-        Err(r) => printed::put_refused(out, 0, r),
+        Err(refused) => printed::put_refused(out, 0, refused),
     }
 }
 
