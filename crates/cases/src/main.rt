@@ -24,13 +24,8 @@ fn main(rt: HostRuntime) {
 
 // Answers each line.
 fn answer_all(rt: &impl Print, s: &[u8]) {
-    let mut at = 0;
-    while at < s.len() {
-        let start = at;
-        let e = find(&s[start..], 10);
-        let end = start + e;
-        at = end + 1;
-        answer(rt, &s[start..end]);
+    for line in s.split_inclusive(|b| *b == b'\n') {
+        answer(rt, front(line, find(line, b'\n')));
     }
 }
 
@@ -138,7 +133,7 @@ fn read(rt: &impl Print, s: &[u8]) {
 }
 
 fn read_in(s: &[u8], text: &mut [u8]) -> Told {
-    put_lines(text, s, 124);
+    put_lines(text, s, b'|');
     desk_slips::lanecockle_slip_read(front(text, s.len()))
 }
 
@@ -149,7 +144,7 @@ fn enter(rt: &impl Print, s: &[u8]) {
 }
 
 fn enter_in(s: &[u8], text: &mut [u8]) -> Ledger {
-    put_lines(text, s, 124);
+    put_lines(text, s, b'|');
     desk_ledger::lanecockle_ledger_read(front(text, s.len()))
 }
 
@@ -228,8 +223,8 @@ fn stand(rt: &impl Print, question: &[u8]) {
 fn stand_in(question: &[u8], farm: &mut [u8], association: &mut [u8]) -> StandingTold {
     let f = field(question, 2);
     let a = field(question, 3);
-    put_lines(farm, f, 126);
-    put_lines(association, a, 126);
+    put_lines(farm, f, b'~');
+    put_lines(association, a, b'~');
     let n = number_at(question, 1);
     desk_standing::lanecockle_standing_text(n, front(farm, f.len()), front(association, a.len()))
 }
@@ -258,8 +253,8 @@ fn write_sheets(
     association: &mut [u8],
     out: &mut [u8],
 ) {
-    put_lines(farm, field(question, 3), 126);
-    put_lines(association, field(question, 4), 126);
+    put_lines(farm, field(question, 3), b'~');
+    put_lines(association, field(question, 4), b'~');
     write_lent(rt, question, text, sizes, farm, association, out);
 }
 

@@ -52,12 +52,6 @@ module _ (c : ℕ) where
       go (p ∷ []) h = rw h (omega arith, take_all (length s) s (omega arith))
       go (p ∷ (q ∷ ps)) h = let l = h.0 in (omega arith, sym h.1.0)
 
-  -- that of what is left from a place on ends within the text
-  pub first_ends : (s : List ℕ) (at n : ℕ) → at ≤ length s → n ≡ length (piece_at c 0 (take (length s - at) (drop at s))) → at + n ≤ length s
-  first_ends s at n h e =
-      let f : n ≡ length (piece_at c 0 (drop at s)) = e ∙ rw (to_the_end at s) in
-      omega (arith, (first_front (drop at s)).0, length-drop at s)
-
   -- there are no more bytes c than bytes
   pub count_within : (s : List ℕ) → count_of c s ≤ length s
   unfolding count_of

@@ -30,13 +30,8 @@ fn main(rt: HostRuntime) {
 // Answers each line. The verbs of judge and tally are `judge_by`'s, all others `respond`'s.
 fn answer_all(rt: &impl Print, s: &[u8], memory: &mut [u8], kept: &mut [u8]) {
     let mut r = begun();
-    let mut at = 0;
-    while at < s.len() {
-        let start = at;
-        let e = find(&s[start..], 10);
-        let end = start + e;
-        at = end + 1;
-        let question = &s[start..end];
+    for line in s.split_inclusive(|b| *b == b'\n') {
+        let question = front(line, find(line, b'\n'));
         let verb = answer(rt, question, memory, kept);
         r = judge_by(rt, verb, question, r, memory);
     }
