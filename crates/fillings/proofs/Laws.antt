@@ -266,9 +266,9 @@ room_counted xs b after n m e w h = let z : n ≡ length xs = omega arith in (rw
 -- What the listing answers of a text that it takes
 
 -- "A form that no filling can mend is a count of 0"
-pub none_accepted : (s : List ℕ) (aim : Aim) → aim.mendable ≡ false → fillings (accepts aim) s ≡ []
+pub none_accepted : (s : List ℕ) → fillings (accepts Aim.Unmendable) s ≡ []
 unfolding accepts fillings
-none_accepted s aim m = among_none (λ (k : ℕ). accepts aim (fill s k)) 0 (10 ^ marks s) (λ k. rw m)
+none_accepted s = among_none (λ (k : ℕ). accepts Aim.Unmendable (fill s k)) 0 (10 ^ marks s) (λ k. refl)
 
 -- what a listing over the rule p answers and leaves
 abbrev pub ListedBy : (List ℕ → Bool) → List ℕ → List ℕ → Result ℕ Refusal → List ℕ → Type 0
@@ -284,5 +284,5 @@ module _ (s : List ℕ) (h : length s ≤ 22) (g : marks s ≤ 4) where
   all_listed p out r o v = (v.0 ∙ sym (taken_on p (length out)), v.1)
 
   -- nothing is listed
-  pub none_listed : (out : List ℕ) (aim : Aim) → aim.mendable ≡ false → ListedBy (accepts aim) s out (Ok 0) out
-  none_listed out aim m = all_listed (accepts aim) out (Ok 0) out (rw (none_accepted s aim m) (left _ _ _ _ (le-ltb (length out) 0 (omega arith)) refl, refl))
+  pub none_listed : (out : List ℕ) → ListedBy (accepts Aim.Unmendable) s out (Ok 0) out
+  none_listed out = all_listed (accepts Aim.Unmendable) out (Ok 0) out (rw (none_accepted s) (left _ _ _ _ (le-ltb (length out) 0 (omega arith)) refl, refl))

@@ -1,12 +1,13 @@
 -- How the code lists: mark by mark, and what it asks of each filling. It mirrors src/; proofs/ leads from it to the listing of
 -- Fillings.antt, and wet/proofs/Accepts.antt to what the rules ask.
-use Rattle.std.specs.Prelude.{ℕ, ◌*◌, ◌^◌, Bool, List, cond, ◌&&◌}
+use Rattle.std.specs.Prelude.{ℕ, ◌*◌, ◌^◌, Bool, false, List}
 use Rattle.text.specs.Bytes.{marks}
 use Rattle.filling.specs.Filling.{fill}
 use Rattle.fillings.specs.Fillings.{among}
 use Rattle.account.specs.Answers.{is_iban}
 use Rattle.groups.specs.Mirror.{obeys_at}
 use Rattle.fillings.specs.declared.Aim.{Aim}
+use Rattle.fillings.specs.declared.Aim.TheVariants.{Iban, Reference, Unmendable}
 
 -- ---------------------------------------------------------------------------
 -- Mark by mark: the fillings that stand in one part of the numbers
@@ -24,4 +25,6 @@ block p s number = between p s (number * 10 ^ marks s) (10 ^ marks s)
 
 -- "A form that no filling can mend": none is accepted
 unfoldable pub accepts : Aim → List ℕ → Bool
-accepts aim s = aim.mendable && cond aim.iban (is_iban s) (obeys_at aim.model aim.ends s)
+accepts Iban s = is_iban s
+accepts (Reference model ends) s = obeys_at model ends s
+accepts Unmendable s = false

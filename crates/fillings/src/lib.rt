@@ -15,28 +15,24 @@ use classes::Class;
 use models::Model;
 use refusal::Refusal;
 
-// What is listed: IBANs, or references under a model, whose parts end so in every filling; nothing where no filling mends the form.
+// What is listed: IBANs, references under a model, whose parts end so in every filling, or nothing, where no filling mends the form.
 #[derive(Clone, Copy)]
-pub struct Aim {
-    pub iban: bool,
-    pub mendable: bool,
-    pub model: Model,
-    pub ends: usize,
+pub enum Aim {
+    Iban,
+    Reference(Model, usize),
+    Unmendable,
 }
 
 // Whether a filled text is accepted.
+#[tactic(auto, unfolding(crate::specs::Mirror::accepts))]
 fn accepted(aim: Aim, s: &[u8]) -> bool
     ensures { result ≡ accepts aim s.now }
 {
-    if !aim.mendable {
-        return false;
+    match aim {
+        Aim::Iban => account::iban_passes(s),
+        Aim::Reference(model, ends) => groups::obeys_at(model, ends, s),
+        Aim::Unmendable => false,
     }
-    if aim.iban {
-        return account::iban_passes(s);
-    }
-    let model = aim.model;
-    let ends = aim.ends;
-    groups::obeys_at(model, ends, s)
 }
 
 // A text of at most 22 bytes, held by value.
@@ -110,7 +106,7 @@ pub fn list_into(aim: Aim, s: &[u8], out: &mut [u16]) -> Result<usize, Refusal>
     if 4 < left {
         return Err(Refusal::Marks(refusal::nowhere()));
     }
-    if !aim.mendable {
+    if let Aim::Unmendable = aim {
         return Ok(0);
     }
     let t = held(s);

@@ -28,9 +28,9 @@ use Rattle.wet.specs.Wet.{aim_from, wet_iban, iban_listing, model_listing}
 -- What is asked of each filling
 
 -- an IBAN's rule
-pub iban_fillings : (s : List ℕ) (aim : Aim) → aim.mendable ≡ true → aim.iban ≡ true → fillings is_iban s ≡ fillings (accepts aim) s
+pub iban_fillings : (s : List ℕ) → fillings is_iban s ≡ fillings (accepts Aim.Iban) s
 unfolding accepts
-iban_fillings s aim m i = changed_rule is_iban (accepts aim) s (λ k h. rw (m, i))
+iban_fillings s = changed_rule is_iban (accepts Aim.Iban) s (λ k h. refl)
 
 -- a filled-in byte is a digit
 filled_digit : (x : ℕ) → is_digit (48 + x % 10) ≡ true
@@ -66,9 +66,9 @@ pub short_is_not_wet : (s : List ℕ) → length s < 2 → false ≡ wet_iban s
 short_is_not_wet s h = rw (get_or-eq_default s 0 {n = 1} (omega arith)) (sym (and-false (eqb (get_or s 0 0) 72)))
 
 -- 16 and 15 are the listing's own
-pub iban_listed : (s out : List ℕ) (aim : Aim) (r : Result ℕ Refusal) (o : List ℕ) → aim.mendable ≡ true → aim.iban ≡ true → length s ≡ 21 → wet_iban s ≡ true → ListedBy (accepts aim) s out r o → (r ≡ iban_listing s (length out)) × (o ≡ left_by_listing r (fillings is_iban s) out)
-iban_listed s out aim r o x i n e h =
-    let g : ListedBy is_iban s out r o = rw (iban_fillings s aim x i) h in
+pub iban_listed : (s out : List ℕ) (r : Result ℕ Refusal) (o : List ℕ) → length s ≡ 21 → wet_iban s ≡ true → ListedBy (accepts Aim.Iban) s out r o → (r ≡ iban_listing s (length out)) × (o ≡ left_by_listing r (fillings is_iban s) out)
+iban_listed s out r o n e h =
+    let g : ListedBy is_iban s out r o = rw (iban_fillings s) h in
     (entered _ _ _ _ (eq-eqb (length s) 21 n) (entered _ _ _ _ e (rw (le-leb (length s) 22 (omega arith)) at g.0)), g.1)
 
 -- 15 is

@@ -35,8 +35,8 @@ iban_listing s room =
 
 -- what is listed under a model, by what was found of one filling
 abbrev pub aim_from : declared.Model → Option ℕ → Aim
-aim_from model (Some ends) = record { iban = false; mendable = true; model = model; ends = ends }
-aim_from model None = record { iban = false; mendable = false; model = model; ends = 0 }
+aim_from model (Some ends) = Aim.Reference model ends
+aim_from model None = Aim.Unmendable
 
 -- 7, then 15
 abbrev pub model_listing : declared.Model → List ℕ → ℕ → Result ℕ Refusal

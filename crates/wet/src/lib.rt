@@ -44,17 +44,7 @@ pub fn list_iban(s: &[u8], out: &mut [u16]) -> Result<usize, Refusal>
     if !is_wet_iban(s) {
         return Err(Refusal::Byte(refusal::nowhere()));
     }
-    let model = models::rules(0);
-    fillings::list_into(
-        Aim {
-            iban: true,
-            mendable: true,
-            model,
-            ends: 0,
-        },
-        s,
-        out,
-    )
+    fillings::list_into(Aim::Iban, s, out)
 }
 
 // What is listed of a text under a model: the fillings have their parts where the first one, by 0, has them.
@@ -64,20 +54,11 @@ fn aimed(model: Model, s: &[u8]) -> Aim
 {
     let n = s.len();
     let mut t = [0u8; 22];
-    filling::filled(s, 0, &mut t);
+    // A text of 22 bytes has room for its filling.
+    let _ = filling::filled(s, 0, &mut t);
     match parts::parts(model, &t[..n]) {
-        Some(ends) => Aim {
-            iban: false,
-            mendable: true,
-            model,
-            ends,
-        },
-        None => Aim {
-            iban: false,
-            mendable: false,
-            model,
-            ends: 0,
-        },
+        Some(ends) => Aim::Reference(model, ends),
+        None => Aim::Unmendable,
     }
 }
 
@@ -86,8 +67,7 @@ fn list_model(model: Model, s: &[u8], out: &mut [u16]) -> Result<usize, Refusal>
     requires { (length s.now ≤ 22) × (marks s.now ≤ 4) }
     ensures { (result ≡ model_listing model s.now (length out.old)) × (out.new ≡ left_by_listing result (fillings (obeys model) s.now) out.old) }
 {
-    let handled = model.handled;
-    if !handled {
+    if !model.handled {
         return Err(Refusal::Model(refusal::nowhere()));
     }
     fillings::list_into(aimed(model, s), s, out)

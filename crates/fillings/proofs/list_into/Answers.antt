@@ -1,18 +1,18 @@
 -- `fillings::list_into` meets its contract: 1 and 16 first; then nothing where no filling mends the form, else the count is that of all fillings,
 -- and they are written where there is room: room for ten thousand is room for all. Assumes nothing.
-use Rattle.refusal.proofs.Basics.{refl, arith, ◌≤◌, length, not-true}
+use Rattle.refusal.proofs.Basics.{refl, arith, ◌≤◌, length}
 use Rattle.text.specs.Bytes.{marks}
 use Rattle.fillings.specs.Mirror.{accepts}
 use Rattle.fillings.specs.Fillings.{fillings}
 use Rattle.fillings.proofs.Laws.{fillings_fit, written_all, room_refused, room_counted, all_listed, none_listed}
 use Rattle.fillings.proofs.list_into.Goals as goal
 
-pub returns-then-not-aim : goal.returns-then-not-aim
-returns-then-not-aim c =
+pub returns-in-Unmendable : goal.returns-in-Unmendable
+returns-in-Unmendable c =
     let short : length (c.args.s.now) ≤ 22 = omega (arith, c.if-n-gt22.false) in
     let few : marks (c.args.s.now) ≤ 4 = omega (arith, c.count-left.ensures, c.if-left-gt4.false) in
     let a = c.args in
-    none_listed (c.args.s.now) (short) (few) a.out.now a.aim (not-true a.aim.mendable c.if-not-aim.true)
+    rw c.in-Unmendable.is (none_listed (c.args.s.now) (short) (few) a.out.now)
 
 pub returns-then-out-ge10000 : goal.returns-then-out-ge10000
 returns-then-out-ge10000 c =
