@@ -1,5 +1,5 @@
 -- Document 01, "Wet slips": what the listings of IBANs and of references answer. No place is told.
-use Rattle.std.specs.Prelude.{ℕ, Bool, true, false, cond, ◌&&◌, List, [], eqb, leb, length, get_or, drop, Option, Some, None, Result, Err}
+use Rattle.std.specs.Prelude.{ℕ, Bool, cond, ◌&&◌, List, [], eqb, leb, length, get_or, drop, Option, Some, None, Result, Err}
 use Rattle.refusal.specs.declared.Refusal.{Refusal}
 use Rattle.refusal.specs.Refusal.{none}
 use Rattle.refusal.specs.declared.Refusal.TheVariants.{Size, Byte, Form, Model, Marks}

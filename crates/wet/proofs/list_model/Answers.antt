@@ -5,4 +5,4 @@ use Rattle.wet.proofs.list_model.Goals as goal
 
 pub returns : goal.returns
 returns c = let a = c.args in
-    reference_listed a.model a.s.now a.out.now _ _ c.if-not-model.false c.requires.0 c.requires.1 (rw c.aimed.ensures at c.list_into.ensures)
+    reference_listed a.model a.s.now a.out.now _ _ (not-false a.model.handled c.if-not-model.false) c.requires.0 c.requires.1 (rw c.aimed.ensures at c.list_into.ensures)
