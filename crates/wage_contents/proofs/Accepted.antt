@@ -1,8 +1,9 @@
--- What acceptance of a place's content means: each verdict is 0 exactly when a plain test holds.
+-- What acceptance of a place's content means: each verdict refuses nothing exactly when a plain test holds.
 -- Assumes nothing.
 use Rattle.refusal.proofs.Basics.{◌≡◌, refl, sym, arith, ℕ, ◌+◌, ◌-◌, ◌≤◌, length, take, drop, drop_of_length-le, eq-eqb, ne_eqb, eqb-true, leb-true, leb-false, le-leb, List, [], ◌∷◌, Bool, true, false, cond, not, ◌&&◌, ◌||◌, false≢true, eqb, leb, take_all, ◌↔◌, both_true}
-use Rattle.verdict.specs.Verdict.{and_then, only_if}
-use Rattle.verdict.proofs.Verdicts.{both_pass, pass_both, test_holds}
+use Rattle.verdict.specs.declared.Fault.{Fault}
+use Rattle.verdict.specs.Verdict.{Verdict, passed, only_if}
+use Rattle.verdict.proofs.Verdicts.{test_exactly, both_exactly}
 use Rattle.text.specs.Bytes.{bytes_verdict, all_of, same, eur}
 use Rattle.classes.specs.declared.Class.{Class}
 use Rattle.classes.specs.declared.Class.TheVariants.{Digits, Blanks, Zeros, Place}
@@ -21,30 +22,19 @@ use Rattle.wage_contents.specs.Contents.{tested, one_of, two_of, among_verdict, 
 use Rattle.wage_contents.proofs.Laws.{blanks_placed, account_right}
 
 -- refusing nothing exactly when a test holds
-abbrev pub Exactly : ℕ → Bool → Type 0
-Exactly v b = (v ≡ 0) ↔ (b ≡ true)
+abbrev pub Exactly : Verdict → Bool → Type 0
+Exactly v b = (v ≡ passed) ↔ (b ≡ true)
 
 -- ---------------------------------------------------------------------------
 -- Verdicts joined
 
--- a test and its refusal
-pub if_tested : (b : Bool) (n : ℕ) → eqb n 0 ≡ false → Exactly (only_if b n) b
-if_tested b n z = (test_holds b n z, (λ e. rw e))
-
--- two, one after the other
-pub both : (v w : ℕ) (a b : Bool) → Exactly v a → Exactly w b → Exactly (and_then v w) (a && b)
-both v w a b p q = (
-  (λ e. let h = both_pass v w e in rw (p.0 h.0, q.0 h.1)),
-  (λ e. let h = both_true a b e in pass_both v w (p.1 h.0) (q.1 h.1)),
-)
-
 -- one of two, by a test
-either : (t : Bool) (v w : ℕ) (a b : Bool) → Exactly v a → Exactly w b → Exactly (cond t v w) (cond t a b)
+either : (t : Bool) (v w : Verdict) (a b : Bool) → Exactly v a → Exactly w b → Exactly (cond t v w) (cond t a b)
 either true v w a b p q = p
 either false v w a b p q = q
 
 -- nothing is refused where a test holds, else by the other
-if_not : (t : Bool) (w : ℕ) (b : Bool) → Exactly w b → Exactly (cond t 0 w) (t || b)
+if_not : (t : Bool) (w : Verdict) (b : Bool) → Exactly w b → Exactly (cond t passed w) (t || b)
 if_not true w b q = ((λ e. refl), (λ e. refl))
 if_not false w b q = q
 
@@ -56,14 +46,14 @@ pub bytes_accepted : (k : Class) (f : List ℕ) → Exactly (bytes_verdict k f) 
 bytes_accepted k f = (passes_all k f, all_passes k f)
 
 -- 3, then a test
-pub after_bytes : (k : Class) (f : List ℕ) (b : Bool) (n : ℕ) → eqb n 0 ≡ false → Exactly (tested k f b n) (all_of k f && b)
+pub after_bytes : (k : Class) (f : List ℕ) (b : Bool) (n : Fault) → Exactly (tested k f b n) (all_of k f && b)
 unfolding tested
-after_bytes k f b n z = both (bytes_verdict k f) (only_if b n) (all_of k f) b (bytes_accepted k f) (if_tested b n z)
+after_bytes k f b n = both_exactly (bytes_verdict k f) (only_if b n) (all_of k f) b (bytes_accepted k f) (test_exactly b n)
 
 -- digits, one of three numbers
 pub among_accepted : (a b c : ℕ) (f : List ℕ) → Exactly (among_verdict a b c f) (all_of Digits f && one_of a b c (number_in f))
 unfolding among_verdict
-among_accepted a b c f = after_bytes Digits f _ 5 refl
+among_accepted a b c f = after_bytes Digits f _ Fault.Form
 
 -- digits that write 0 are zeros
 written_zeros : (f : List ℕ) → all_of Digits f ≡ true → value_of (digits_of f) ≡ 0 → all_of Zeros f ≡ true
@@ -96,18 +86,18 @@ zeros_accepted f h = (
 pub oib_accepted : (absent : Bool) (f : List ℕ) → Exactly (oib_place_verdict absent f) (all_of Digits f && cond (all_of Zeros f) absent (oib_passes f))
 unfolding oib_place_verdict
 oib_accepted absent f =
-    both (bytes_verdict Digits f) _ (all_of Digits f) (cond (all_of Zeros f) absent (oib_passes f)) (bytes_accepted Digits f)
-    (either (all_of Zeros f) _ _ absent (oib_passes f) (if_tested absent 5 refl) (if_tested (oib_passes f) 6 refl))
+    both_exactly (bytes_verdict Digits f) _ (all_of Digits f) (cond (all_of Zeros f) absent (oib_passes f)) (bytes_accepted Digits f)
+    (either (all_of Zeros f) _ _ absent (oib_passes f) (test_exactly absent Fault.Form) (test_exactly (oib_passes f) Fault.Check))
 
 -- "at least two of these three not zero"
 pub employer_accepted : (before last f : List ℕ) → Exactly (employer_verdict before last f) (all_of Digits f && not (two_of (all_of Zeros before) (all_of Zeros last) (all_of Zeros f)))
 unfolding employer_verdict
-employer_accepted before last f = after_bytes Digits f _ 5 refl
+employer_accepted before last f = after_bytes Digits f _ Fault.Form
 
 -- a date from one to another
 pub date_accepted : (first last : ℕ) (f : List ℕ) → Exactly (date_verdict first last f) (all_of Digits f && (is_date (number_in f) && (leb first (number_in f) && leb (number_in f) last)))
 unfolding date_verdict
-date_accepted first last f = after_bytes Digits f _ 11 refl
+date_accepted first last f = after_bytes Digits f _ Fault.Date
 
 -- from a number to the same number: that number
 alone : (a n : ℕ) → (leb a n && leb n a) ≡ eqb n a
@@ -136,9 +126,9 @@ placed_accepted : (blank : Bool) (f : List ℕ) → Exactly (iban_place_verdict 
 unfolding iban_place_verdict
 placed_accepted blank f =
     let g = take 21 f in
-    both (bytes_verdict Place f) _ (all_of Place f) ((blank && all_of Blanks f) || (all_of Blanks (drop 21 f) && is_iban g)) (bytes_accepted Place f)
+    both_exactly (bytes_verdict Place f) _ (all_of Place f) ((blank && all_of Blanks f) || (all_of Blanks (drop 21 f) && is_iban g)) (bytes_accepted Place f)
     (if_not (blank && all_of Blanks f) _ (all_of Blanks (drop 21 f) && is_iban g)
-    (both (only_if (all_of Blanks (drop 21 f)) 5) _ (all_of Blanks (drop 21 f)) (is_iban g) (if_tested (all_of Blanks (drop 21 f)) 5 refl)
+    (both_exactly (only_if (all_of Blanks (drop 21 f)) Fault.Form) _ (all_of Blanks (drop 21 f)) (is_iban g) (test_exactly (all_of Blanks (drop 21 f)) Fault.Form)
     (iban_accepted_exactly g)))
 
 -- an IBAN with blanks behind it, or blank where that may be: the place permits the bytes of both
@@ -148,7 +138,7 @@ iban_place_accepted blank f = (
   (λ e. go (blank && all_of Blanks f) refl e),
 )
   where
-    go : (t : Bool) → (blank && all_of Blanks f) ≡ t → (t || (all_of Blanks (drop 21 f) && is_iban (take 21 f))) ≡ true → iban_place_verdict blank f ≡ 0
+    go : (t : Bool) → (blank && all_of Blanks f) ≡ t → (t || (all_of Blanks (drop 21 f) && is_iban (take 21 f))) ≡ true → iban_place_verdict blank f ≡ passed
     go true e g = (placed_accepted blank f).1 (rw (blanks_placed f (both_true blank (all_of Blanks f) e).1, e))
     go false e g = sym (account_right blank f g)
 
@@ -160,4 +150,4 @@ iban_whole_accepted blank f h = let g : length f ≤ 21 = omega arith in rw (dro
 -- `EUR`, or blank where that may be
 pub currency_accepted : (blank : Bool) (f : List ℕ) → Exactly (currency_verdict blank f) ((blank && all_of Blanks f) || same eur f)
 unfolding currency_verdict
-currency_accepted blank f = if_tested ((blank && all_of Blanks f) || same eur f) 5 refl
+currency_accepted blank f = test_exactly ((blank && all_of Blanks f) || same eur f) Fault.Form

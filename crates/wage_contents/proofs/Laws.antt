@@ -7,6 +7,8 @@ use Rattle.text.proofs.Laws.{all_joined, all_wider, all_passes, passes_all}
 use Rattle.account.specs.Account.{iban_formed, iban_passes}
 use Rattle.account.specs.Answers.{is_iban}
 use Rattle.account.proofs.Laws.{formed_permitted}
+use Rattle.std.specs.Prelude.{Ok}
+use Rattle.verdict.specs.Verdict.{passed}
 use Rattle.verdict.proofs.Verdicts.{pass_both}
 use Rattle.wage_contents.specs.Contents.{iban_place_verdict}
 
@@ -22,13 +24,13 @@ account_placed f e g =
     (blanks_placed (drop 21 f) e)
 
 -- so nothing is refused of it
-pub account_right : (blank : Bool) (f : List ℕ) → (all_of Blanks (drop 21 f) && is_iban (take 21 f)) ≡ true → 0 ≡ iban_place_verdict blank f
+pub account_right : (blank : Bool) (f : List ℕ) → (all_of Blanks (drop 21 f) && is_iban (take 21 f)) ≡ true → Ok tt ≡ iban_place_verdict blank f
 unfolding iban_place_verdict
 account_right blank f e =
     let a = both_true (all_of Blanks (drop 21 f)) (is_iban (take 21 f)) e in
     let b = both_true (iban_formed (take 21 f)) (iban_passes (take 21 f)) a.1 in
     sym (pass_both (bytes_verdict Place f) _ (all_passes Place f (account_placed f a.0 b.0)) (rw (a.0, b.0, b.1) (either (blank && all_of Blanks f))))
   where
-    either : (t : Bool) → ◌≡◌ {A = ℕ} (cond t 0 0) 0
+    either : (t : Bool) → cond t passed passed ≡ passed
     either true = refl
     either false = refl

@@ -3,9 +3,6 @@ use Rattle.refusal.proofs.Basics.{sym, ◌∙◌}
 use Rattle.refusal.specs.One.{One}
 use Rattle.wage_contents.proofs as here
 
-pub only_if_one : One _ here.only_if.Kinds.ps here.only_if.Kinds.r here.only_if.Reads.Post
-only_if_one κs a z z' w w' p q = p ∙ sym q
-
 pub judge_tested_one : One _ here.judge_tested.Kinds.ps here.judge_tested.Kinds.r here.judge_tested.Reads.Post
 judge_tested_one κs a z z' w w' p q = p ∙ sym q
 

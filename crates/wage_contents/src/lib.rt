@@ -15,6 +15,7 @@ use verdict::{Fault, Verdict};
 // Tests
 
 // 3 with its byte, then a fault, unless a test holds.
+#[tactic(auto, unfolding(crate::specs::Contents::tested))]
 pub fn judge_tested(class: Class, f: &[u8], right: bool, fault: Fault) -> Verdict
     ensures { result ≡ tested class f.now right fault }
 {
@@ -26,24 +27,34 @@ pub fn judge_tested(class: Class, f: &[u8], right: bool, fault: Fault) -> Verdic
 // Numbers and dates
 
 // Digits, one of three numbers: 3, 5.
+#[tactic(auto, unfolding(crate::specs::Contents::among_verdict))]
 pub fn judge_among(a: u64, b: u64, c: u64, f: &[u8]) -> Verdict
     ensures { result ≡ among_verdict a b c f.now }
 {
     let v = sums::number(f);
-    judge_tested(Class::Digits, f, (v == a) | ((v == b) | (v == c)), Fault::Form)
+    judge_tested(
+        Class::Digits,
+        f,
+        (v == a) | ((v == b) | (v == c)),
+        Fault::Form,
+    )
 }
 
 // An OIB, or zeros where they may stand for none: 3, 5, 6.
+#[tactic(auto, unfolding(crate::specs::Contents::oib_place_verdict))]
 pub fn judge_oib(absent: bool, f: &[u8]) -> Verdict
     ensures { result ≡ oib_place_verdict absent f.now }
 {
+    text::judge(Class::Digits, f)?;
     if text::all_of(Class::Zeros, f) {
-        return verdict::only_if(absent, Fault::Form);
+        verdict::only_if(absent, Fault::Form)
+    } else {
+        verdict::only_if(account::oib_passes(f), Fault::Check)
     }
-    judge_tested(Class::Digits, f, account::oib_passes(f), Fault::Check)
 }
 
 // The last of three employer's fields, two of which are not zero: 3, 5.
+#[tactic(auto, unfolding(crate::specs::Contents::employer_verdict))]
 pub fn judge_employer(before: &[u8], last: &[u8], f: &[u8]) -> Verdict
     ensures { result ≡ employer_verdict before.now last.now f.now }
 {
@@ -54,6 +65,7 @@ pub fn judge_employer(before: &[u8], last: &[u8], f: &[u8]) -> Verdict
 }
 
 // A date from one to another: 3, 11.
+#[tactic(auto, unfolding(crate::specs::Contents::date_verdict))]
 pub fn judge_date(first: u64, last: u64, f: &[u8]) -> Verdict
     ensures { result ≡ date_verdict first last f.now }
 {
@@ -80,6 +92,7 @@ fn behind(f: &[u8]) -> &[u8]
 }
 
 // An IBAN with blanks behind it, or all blank where that may be: 3, 5, 6. Most are right: that is asked first.
+#[tactic(auto, using(crate::proofs::Laws::account_right), unfolding(crate::specs::Contents::iban_place_verdict))]
 pub fn judge_iban(blank: bool, f: &[u8]) -> Verdict
     ensures { result ≡ iban_place_verdict blank f.now }
 {
@@ -96,8 +109,12 @@ pub fn judge_iban(blank: bool, f: &[u8]) -> Verdict
 }
 
 // `EUR`, or blank where that may be: 5.
+#[tactic(auto, unfolding(crate::specs::Contents::currency_verdict))]
 pub fn judge_currency(blank: bool, f: &[u8]) -> Verdict
     ensures { result ≡ currency_verdict blank f.now }
 {
-    verdict::only_if((blank & text::all_blank(f)) | (f == b"EUR"), Fault::Form)
+    verdict::only_if(
+        (blank & text::all_blank(f)) | (f == b"EUR".as_slice()),
+        Fault::Form,
+    )
 }
