@@ -43,65 +43,14 @@ pub enum Class {
 pub fn is_digit(b: u8) -> bool
     ensures { result ≡ is_digit b }
 {
-    if b < 48 {
-        return false;
-    }
-    b <= 57
+    b.is_ascii_digit()
 }
 
 // Whether a byte is a letter, A to Z.
 pub fn is_letter(b: u8) -> bool
     ensures { result ≡ is_letter b }
 {
-    if b < 65 {
-        return false;
-    }
-    b <= 90
-}
-
-fn is_account_byte(b: u8) -> bool
-    ensures { result ≡ permits Class.Account b }
-{
-    if is_digit(b) {
-        return true;
-    }
-    is_letter(b)
-}
-
-fn is_reference_byte(b: u8) -> bool
-    ensures { result ≡ permits Class.Reference b }
-{
-    if is_digit(b) {
-        return true;
-    }
-    b == 45
-}
-
-fn is_wet_digit(b: u8) -> bool
-    ensures { result ≡ permits Class.WetAccount b }
-{
-    if is_digit(b) {
-        return true;
-    }
-    b == 63
-}
-
-fn is_wet_reference_byte(b: u8) -> bool
-    ensures { result ≡ permits Class.WetReference b }
-{
-    if is_reference_byte(b) {
-        return true;
-    }
-    b == 63
-}
-
-fn is_place_byte(b: u8) -> bool
-    ensures { result ≡ permits Class.Place b }
-{
-    if is_account_byte(b) {
-        return true;
-    }
-    b == 32
+    b.is_ascii_uppercase()
 }
 
 // Whether a description permits a byte: `, - . /` and digits, A to Z, a to z, a blank, and ten letters of WIN-1250. It
@@ -109,20 +58,20 @@ fn is_place_byte(b: u8) -> bool
 pub fn described(b: u8) -> bool
     ensures { result ≡ permits Class.Description b }
 {
-    ((44 <= b) & (b <= 57))
-        | ((65 <= b) & (b <= 90))
-        | ((97 <= b) & (b <= 122))
-        | (b == 32)
-        | (b == 138)
-        | (b == 154)
-        | (b == 142)
-        | (b == 158)
-        | (b == 198)
-        | (b == 230)
-        | (b == 200)
-        | (b == 232)
-        | (b == 208)
-        | (b == 240)
+    ((b',' <= b) & (b <= b'9'))
+        | ((b'A' <= b) & (b <= b'Z'))
+        | ((b'a' <= b) & (b <= b'z'))
+        | (b == b' ')
+        | (b == 0x8A)
+        | (b == 0x9A)
+        | (b == 0x8E)
+        | (b == 0x9E)
+        | (b == 0xC6)
+        | (b == 0xE6)
+        | (b == 0xC8)
+        | (b == 0xE8)
+        | (b == 0xD0)
+        | (b == 0xF0)
 }
 
 // Whether a class permits a byte.
@@ -131,18 +80,18 @@ pub fn permitted(class: Class, b: u8) -> bool
 {
     match class {
         Class::Digits => is_digit(b),
-        Class::Account => is_account_byte(b),
-        Class::Reference => is_reference_byte(b),
-        Class::WetAccount => is_wet_digit(b),
-        Class::WetReference => is_wet_reference_byte(b),
-        Class::Dry => b != 63,
-        Class::Part => b != 45,
-        Class::Line => b != 10,
+        Class::Account => is_digit(b) || is_letter(b),
+        Class::Reference => is_digit(b) || b == b'-',
+        Class::WetAccount => is_digit(b) || b == b'?',
+        Class::WetReference => is_digit(b) || b == b'-' || b == b'?',
+        Class::Dry => b != b'?',
+        Class::Part => b != b'-',
+        Class::Line => b != b'\n',
         Class::Letters => is_letter(b),
-        Class::Blanks => b == 32,
-        Class::Zeros => b == 48,
-        Class::Place => is_place_byte(b),
+        Class::Blanks => b == b' ',
+        Class::Zeros => b == b'0',
+        Class::Place => is_digit(b) || is_letter(b) || b == b' ',
         Class::Description => described(b),
-        Class::AccountForm => is_account_byte(b) | (b == 45),
+        Class::AccountForm => is_digit(b) || is_letter(b) || b == b'-',
     }
 }

@@ -39,35 +39,31 @@ pub fn zero() -> Tally
 }
 
 // Whether a tally has at most 1,000,000 groups and orders, and less than 10^21 cents.
+#[tactic(auto, unfolding(crate::specs::Tally::is_within))]
 pub fn is_within(t: Tally) -> bool
     ensures { result ≡ is_within t }
 {
-    let total = t.total;
-    (t.groups <= 1000000) & (t.orders <= 1000000) & sums::fits(total, 1000)
+    t.groups <= 1_000_000 && t.orders <= 1_000_000 && sums::fits(t.total, 1000)
 }
 
 // A tally with what a line adds. One beyond its limits, which nothing brings back within them, stays as it is.
+#[tactic(auto, unfolding(crate::specs::Tally::is_within))]
 pub fn grow(t: Tally, more: Growth) -> Tally
     ensures { result ≡ cond (is_within t) (grown t more) t }
 {
-    let groups = t.groups;
-    let orders = t.orders;
-    let total = t.total;
-    if is_within(t) {
-        match more {
-            Growth::Nothing => t,
-            Growth::Group => Tally {
-                groups: groups + 1,
-                orders,
-                total,
-            },
-            Growth::Order(cents) => Tally {
-                groups,
-                orders: orders + 1,
-                total: sums::add(total, cents, 1000),
-            },
-        }
-    } else {
-        t
+    if !is_within(t) {
+        return t;
+    }
+    match more {
+        Growth::Nothing => t,
+        Growth::Group => Tally {
+            groups: t.groups + 1,
+            ..t
+        },
+        Growth::Order(cents) => Tally {
+            orders: t.orders + 1,
+            total: sums::add(t.total, cents, 1000),
+            ..t
+        },
     }
 }
