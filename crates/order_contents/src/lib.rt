@@ -25,7 +25,10 @@ pub enum Held {
 pub fn judge_purpose(f: &[u8]) -> Verdict
     ensures { result ≡ purpose_place_verdict f.now }
 {
-    verdict::only_if(text::all_blank(f) | text::all_of(Class::Letters, f), Fault::Form)
+    verdict::only_if(
+        text::all_blank(f) | text::all_of(Class::Letters, f),
+        Fault::Form,
+    )
 }
 
 // A place's byte: its first; 0 where it has none.

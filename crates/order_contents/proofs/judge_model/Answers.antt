@@ -12,4 +12,4 @@ returns-in-NoModel c = rw c.in-NoModel.is
 
 pub returns-in-Number : goal.returns-in-Number
 unfolding held_verdict
-returns-in-Number c = rw (c.in-Number.is, ← c.rules-model.ensures) c.only_if.ensures
+returns-in-Number c = rw (c.in-Number.is, ← c.rules.ensures) c.only_if.ensures
