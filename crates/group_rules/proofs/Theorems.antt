@@ -1,8 +1,8 @@
 -- What is promised of the rules of a 301: the byte that a verdict tells lies within its place.
 -- Assumes nothing.
-use Rattle.refusal.proofs.Basics.{arith, ℕ, length, List, true, false, eqb}
+use Rattle.refusal.proofs.Basics.{ℕ, length, List, true, false, eqb}
 use Rattle.verdict.specs.Verdict.{Within}
-use Rattle.verdict.proofs.Verdicts.{plain_within, choice_within}
+use Rattle.verdict.proofs.Verdicts.{pass_within, choice_within}
 use Rattle.classes.specs.declared.Class.TheVariants.{Digits}
 use Rattle.text.proofs.Laws.{bytes_within}
 use Rattle.wage_contents.proofs.Within.{date_within, iban_place_within, currency_within}
@@ -18,4 +18,4 @@ group_within day n f =
     (or (eqb n 4) _ _ (currency_within true f)
     (or (eqb n 5) _ _ (bytes_within Digits f)
     (or (eqb n 6) _ _ (bytes_within Digits f)
-    (or (eqb n 7) _ _ (date_within day 99991231 f) (plain_within (length f) 0 (omega arith))))))))
+    (or (eqb n 7) _ _ (date_within day 99991231 f) (pass_within (length f))))))))

@@ -14,6 +14,7 @@ use verdict::Verdict;
 use wage_places::{LineType, part_at};
 
 // A 301's rule for a place.
+#[tactic(auto, unfolding(wage_places::specs::Places::spots))]
 pub fn group_rule(day: u64, k: usize, s: &[u8]) -> Verdict
     ensures { result ≡ group_rule day (get_or (spots Group) k no_spot).field (part_at (get_or (spots Group) k no_spot) s.now) }
 {

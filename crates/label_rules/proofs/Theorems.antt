@@ -1,8 +1,8 @@
 -- What is promised of the rules of a 300: the byte that a verdict tells lies within its place.
 -- Assumes nothing.
-use Rattle.refusal.proofs.Basics.{arith, ℕ, length, List, true, false, eqb}
+use Rattle.refusal.proofs.Basics.{ℕ, length, List, true, false, eqb}
 use Rattle.verdict.specs.Verdict.{Within}
-use Rattle.verdict.proofs.Verdicts.{plain_within, choice_within}
+use Rattle.verdict.proofs.Verdicts.{pass_within, choice_within}
 use Rattle.classes.specs.declared.Class.TheVariants.{Digits}
 use Rattle.text.proofs.Laws.{bytes_within}
 use Rattle.wage_places.specs.declared.LineType.TheVariants.{Label}
@@ -21,4 +21,4 @@ label_within day n f s =
     (or (eqb n 5) _ _ (oib_within true f)
     (or (eqb n 6) _ _ (bytes_within Digits f)
     (or (eqb n 7) _ _ (employer_within (part_of Label 5 s) (part_of Label 6 s) f)
-    (or (eqb n 8) _ _ (oib_within false f) (plain_within (length f) 0 (omega arith)))))))))
+    (or (eqb n 8) _ _ (oib_within false f) (pass_within (length f)))))))))

@@ -14,6 +14,7 @@ use verdict::Verdict;
 use wage_places::{LineType, part_at};
 
 // A 300's rule for a place.
+#[tactic(auto, unfolding(wage_places::specs::Places::spots, wage_places::specs::Places::spot_in))]
 pub fn label_rule(day: u64, k: usize, s: &[u8]) -> Verdict
     ensures { result ≡ label_rule day (get_or (spots Label) k no_spot).field (part_at (get_or (spots Label) k no_spot) s.now) s.now }
 {
