@@ -16,6 +16,8 @@ use boundary::Told;
 use desk_record::Record;
 use sums::Sum;
 use text::Part;
+use refusal::Refusal;
+use condition::Counts;
 
 // What the end of a wage file tells.
 #[repr(C)]

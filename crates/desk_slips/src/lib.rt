@@ -12,6 +12,7 @@ ghost use Rattle.desk_slips.specs.Slips.{cents_told, written_of, WritesSlipGiven
 
 use boundary::{Told, Valued};
 use text::Part;
+use refusal::Refusal;
 
 // A slip's amount.
 fn tell_amount(a: Result<u64, Refusal>) -> Valued

@@ -14,6 +14,7 @@ ghost use Rattle.boundary.specs.Told.{told_of};
 ghost use Rattle.desk_wet.specs.Listed.{listed_of};
 
 use boundary::{Told, Valued};
+use refusal::Refusal;
 
 // A listing's count.
 fn tell_listed(l: Result<usize, Refusal>) -> Valued

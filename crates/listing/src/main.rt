@@ -8,6 +8,7 @@
 use line::Seen;
 use std::io::Read;
 use text::front;
+use refusal::Refusal;
 
 // A line as far as it was read: whether there may be more of it, and whether a read failed.
 #[derive(Clone, Copy)]

@@ -9,7 +9,8 @@ ghost use Rattle.wage_line.specs.Pieces.{pieces};
 ghost use Rattle.judge.specs.Judge.{steps};
 ghost use Rattle.wage_file.specs.File.{file_answer};
 
-use condition::Judge;
+use condition::{Counts, Judge};
+use refusal::Refusal;
 
 // The lines of a part of a file, from a record on.
 pub fn lines(from: Judge, s: &[u8]) -> Judge

@@ -9,6 +9,7 @@ ghost use Rattle.wage_printed.specs.FilePrinted.{day_told, ending_printed};
 
 use classes::Class;
 use condition::Counts;
+use refusal::Refusal;
 
 // The day that the first line tells; 0, which is no date, if it is not eight digits and a line feed.
 pub fn day(s: &[u8]) -> u64

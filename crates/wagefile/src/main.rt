@@ -6,9 +6,10 @@
 // (wage_printed/proofs/Theorems.antt) says that this prints the line of the whole file.
 #![tactic(auto)]
 
-use condition::Judge;
+use condition::{Counts, Judge};
 use std::io::Read;
 use text::front;
+use refusal::Refusal;
 
 // The record after a read, whether there may be more, and whether the read failed.
 #[derive(Clone, Copy)]

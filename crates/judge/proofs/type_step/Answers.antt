@@ -13,4 +13,8 @@ returns-in-Err c = rw (c.refused.ensures, c.told.ensures, c.at_line.ensures, ←
 
 pub returns-in-Ok : goal.returns-in-Ok
 unfolding type_step
-returns-in-Ok c = rw (← c.judge_standing.ensures, ← c.judge_places.ensures, c.in-Ok.is) (rw c.requires at c.after.ensures)
+returns-in-Ok c = rw (← c.judge_standing.ensures, c.in_default.is, ← c.judge_places.ensures, c.in-Ok.is) (rw c.requires at c.after.ensures)
+
+pub returns-in-Err-judge_places : goal.returns-in-Err-judge_places
+unfolding type_step
+returns-in-Err-judge_places c = rw (← c.judge_standing.ensures, c.in_default.is, ← c.judge_places.ensures, c.in-Err-judge_places.is, c.refused-in-Err-judge_places.ensures, c.in_line.ensures)
