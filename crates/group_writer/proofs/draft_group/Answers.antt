@@ -4,11 +4,11 @@ use Rattle.bare_line.proofs.Theorems.{bare}
 use Rattle.group_writer.proofs.Laws.{group_first, group_worked, group_last}
 use Rattle.group_writer.proofs.draft_group.Goals as goal
 
-pub returns-in-Err : goal.returns-in-Err
-returns-in-Err c = group_first c.args.day c.args.kind c.args.sizes.now c.args.text.now _ _ _ _ _ (bare Group _ _ c.requires.0 c.dress.ensures) c.draft.ensures _ c.in-Err.is
+pub returns-in_err-draft : goal.returns-in_err-draft
+returns-in_err-draft c = group_first c.args.day c.args.kind c.args.sizes.now c.args.text.now _ _ _ _ _ (bare Group _ _ c.requires.0 c.dress.ensures) c.draft.ensures _ c.in_err-draft.is
 
-pub returns-in-Err-draft_worked : goal.returns-in-Err-draft_worked
-returns-in-Err-draft_worked c = group_worked c.args.day c.args.kind c.args.sizes.now c.args.text.now _ _ _ _ _ (bare Group _ _ c.requires.0 c.dress.ensures) c.draft.ensures c.in_default.is c.line-2-1.given _ _ c.draft_worked.ensures _ c.in-Err-draft_worked.is
+pub returns-in_err-draft_worked : goal.returns-in_err-draft_worked
+returns-in_err-draft_worked c = group_worked c.args.day c.args.kind c.args.sizes.now c.args.text.now _ _ _ _ _ (bare Group _ _ c.requires.0 c.dress.ensures) c.draft.ensures c.in_ok-draft.is c.line-2-1.given _ _ c.draft_worked.ensures _ c.in_err-draft_worked.is
 
 pub returns : goal.returns
-returns c = group_last c.args.day c.args.kind c.args.sizes.now c.args.text.now _ _ _ _ _ (bare Group _ _ c.requires.0 c.dress.ensures) c.draft.ensures c.in_default.is c.line-2-1.given _ _ c.draft_worked.ensures c.in_default-draft_worked.is c.line-3-1.given _ _ c.sizes_behind-last.ensures c.text_behind.ensures _ _ c.draft-2.ensures
+returns c = group_last c.args.day c.args.kind c.args.sizes.now c.args.text.now _ _ _ _ _ (bare Group _ _ c.requires.0 c.dress.ensures) c.draft.ensures c.in_ok-draft.is c.line-2-1.given _ _ c.draft_worked.ensures c.in_ok-draft_worked.is c.line-3-1.given _ _ c.sizes_behind-last.ensures c.text_behind.ensures _ _ c.draft-2.ensures

@@ -17,19 +17,19 @@ returns-then-not-is_kind c = sizes_right _ _ _ _ _ _ _ _ (sym c.is_lent_whole.en
     (day_right _ _ _ _ _ _ (sym c.is_date.ensures ∙ not-false _ c.if-not-is_date.false-raw)
     (kind_wrong _ _ c.args.kind _ _ (sym c.is_kind.ensures ∙ not-true _ c.if-not-is_kind.true-raw) c.nowhere-then-not-is_kind.ensures))
 
-pub returns-in-Err : goal.returns-in-Err
+pub returns-in_err-judge : goal.returns-in_err-judge
 unfolding group_answer
-returns-in-Err c = sizes_right _ _ _ _ _ _ _ _ (sym c.is_lent_whole.ensures ∙ not-false _ c.if-not-is_lent_whole.false-raw)
+returns-in_err-judge c = sizes_right _ _ _ _ _ _ _ _ (sym c.is_lent_whole.ensures ∙ not-false _ c.if-not-is_lent_whole.false-raw)
     (day_right _ _ _ _ _ _ (sym c.is_date.ensures ∙ not-false _ c.if-not-is_date.false-raw)
     (kind_right _ _ c.args.kind _ _ _ (sym c.is_kind.ensures ∙ not-false _ c.if-not-is_kind.false-raw)
-    (refused_first _ _ _ _ _ (sym c.judge.ensures ∙ c.in-Err.is))))
+    (refused_first _ _ _ _ _ (sym c.judge.ensures ∙ c.in_err-judge.is))))
 
 pub write_judged-requires : goal.write_judged-requires
-write_judged-requires c = accepted_small _ _ _ (sym c.judge.ensures ∙ c.in_default.is)
+write_judged-requires c = accepted_small _ _ _ (sym c.judge.ensures ∙ c.in_ok-judge.is)
 
 pub returns : goal.returns
 unfolding group_answer
 returns c = sizes_right _ _ _ _ _ _ _ _ (sym c.is_lent_whole.ensures ∙ not-false _ c.if-not-is_lent_whole.false-raw)
     (day_right _ _ _ _ _ _ (sym c.is_date.ensures ∙ not-false _ c.if-not-is_date.false-raw)
     (kind_right _ _ c.args.kind _ _ _ (sym c.is_kind.ensures ∙ not-false _ c.if-not-is_kind.false-raw)
-    (accepted_first _ _ _ _ _ _ (sym c.judge.ensures ∙ c.in_default.is) c.write_judged.ensures)))
+    (accepted_first _ _ _ _ _ _ (sym c.judge.ensures ∙ c.in_ok-judge.is) c.write_judged.ensures)))
