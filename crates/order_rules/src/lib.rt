@@ -23,6 +23,7 @@ fn model_at(k: usize, s: &[u8]) -> Held
 }
 
 // A 309's rule for a place.
+#[tactic(auto, unfolding(wage_places::specs::Places::spots, wage_places::specs::Places::spot_in))]
 pub fn order_rule(kind: u64, k: usize, s: &[u8]) -> Verdict
     ensures { result ≡ order_rule kind (get_or (spots Order) k no_spot).field (part_at (get_or (spots Order) k no_spot) s.now) s.now }
 {
