@@ -33,7 +33,7 @@ sign_accepted a b c f = test_exactly (one_of a b c (get_or f 0 0)) Fault.Form
 pub blank_model_accepted : (f : List ℕ) → Exactly (reference_held Blank f) (all_of Blanks f)
 unfolding reference_held tested bytes_verdict first_bad
 blank_model_accepted f = (
-  (λ e. blank (all_of Blanks f) refl (eqb-true (length (trimmed f)) 0 (test_holds _ _ (both_pass (bytes_verdict Reference (trimmed f)) (only_if (eqb (length (trimmed f)) 0) Fault.Parts) e).1))),
+  (λ e. blank (all_of Blanks f) refl (eqb-true (length (trimmed f)) 0 (test_holds _ Fault.Parts (both_pass (bytes_verdict Reference (trimmed f)) (only_if (eqb (length (trimmed f)) 0) Fault.Parts) e).1))),
   (λ e. rw (trimmed_blanks f e)),
 )
   where

@@ -22,6 +22,7 @@ pub enum Held {
 // Purpose, sign
 
 // Blank, or letters: 5.
+#[tactic(auto, unfolding(crate::specs::Contents::purpose_place_verdict))]
 pub fn judge_purpose(f: &[u8]) -> Verdict
     ensures { result ≡ purpose_place_verdict f.now }
 {
@@ -35,13 +36,11 @@ pub fn judge_purpose(f: &[u8]) -> Verdict
 fn first_byte(f: &[u8]) -> u8
     ensures { result ≡ get_or f.now 0 0 }
 {
-    if f.len() == 0 {
-        return 0;
-    }
-    f[0]
+    *f.first().unwrap_or(&0)
 }
 
 // One of three bytes: 5.
+#[tactic(auto, unfolding(crate::specs::Contents::sign_verdict))]
 pub fn judge_sign(a: u8, b: u8, c: u8, f: &[u8]) -> Verdict
     ensures { result ≡ sign_verdict a b c f.now }
 {
@@ -53,6 +52,7 @@ pub fn judge_sign(a: u8, b: u8, c: u8, f: &[u8]) -> Verdict
 // Model and reference
 
 // What a model's place holds, read once for the model, its reference and a code.
+#[tactic(auto, unfolding(crate::specs::Contents::held_in))]
 pub fn model_in(m: &[u8]) -> Held
     ensures { result ≡ held_in m.now }
 {
@@ -66,6 +66,7 @@ pub fn model_in(m: &[u8]) -> Held
 }
 
 // A model's place by what it holds: 5, 7.
+#[tactic(auto, unfolding(crate::specs::Contents::held_verdict))]
 pub fn judge_model(held: Held) -> Verdict
     ensures { result ≡ held_verdict held }
 {
@@ -77,6 +78,7 @@ pub fn judge_model(held: Held) -> Verdict
 }
 
 // A reference by what its model's place holds: 3, 8, 5, 9, and the model's own 5 and 7.
+#[tactic(auto, unfolding(crate::specs::Contents::reference_held))]
 pub fn judge_reference(held: Held, f: &[u8]) -> Verdict
     ensures { result ≡ reference_held held f.now }
 {
@@ -92,11 +94,12 @@ pub fn judge_reference(held: Held, f: &[u8]) -> Verdict
 // Description, code
 
 // A description: 3, 5. It is tested as a whole; only a wrong byte is looked for.
+#[tactic(auto, using(text::proofs::Laws::all_passes), unfolding(crate::specs::Contents::description_verdict, wage_contents::specs::Contents::tested))]
 pub fn judge_description(f: &[u8]) -> Verdict
     ensures { result ≡ description_verdict f.now }
 {
     if !text::all_described(f) {
-        return text::judge(Class::Description, f);
+        text::judge(Class::Description, f)?;
     }
     verdict::only_if(!text::all_blank(f), Fault::Form)
 }
@@ -105,14 +108,11 @@ pub fn judge_description(f: &[u8]) -> Verdict
 fn is_blank(held: Held) -> bool
     ensures { result ≡ held_blank held }
 {
-    match held {
-        Held::Blank => true,
-        Held::NoModel => false,
-        Held::Number(_) => false,
-    }
+    matches!(held, Held::Blank)
 }
 
 // A code of 004's list, by what the recipient's model's place holds: 3, 5.
+#[tactic(auto, unfolding(crate::specs::Contents::code_verdict))]
 pub fn judge_code(kind: u64, recipient: Held, f: &[u8]) -> Verdict
     ensures { result ≡ code_verdict kind (held_blank recipient) f.now }
 {
