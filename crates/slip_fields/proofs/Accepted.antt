@@ -1,8 +1,9 @@
 -- What an accepted field of each kind is: its bytes, its length, and that no line feed stands in it.
 -- Assumes nothing.
-use Rattle.refusal.proofs.Basics.{◌≡◌, refl, sym, ap, ◌∙◌, arith, ℕ, zero, suc, ◌*◌, ◌≤◌, ◌<◌, length, get_or, eqb-true, eq-eqb, ne_eqb, List, [], ◌∷◌, Bool, true, false, cond, not, ◌&&◌, ◌||◌, or-true, eqb, ◌↔◌, ◌⊎◌, inl, inr, ⊎_elim, both_true, and_second}
-use Rattle.verdict.specs.Verdict.{passed}
-use Rattle.std.specs.Prelude.{Option, None}
+use Rattle.refusal.proofs.Basics.{◌≡◌, refl, sym, ap, ◌∙◌, arith, ℕ, zero, suc, ◌*◌, ◌≤◌, ◌<◌, length, get_or, eqb-true, eq-eqb, ne_eqb, List, [], ◌∷◌, Bool, true, false, false≢true, cond, not, ◌&&◌, ◌||◌, or-true, eqb, ◌↔◌, ◌⊎◌, inl, inr, ⊎_elim, both_true, and_second}
+use Rattle.std.specs.Prelude.{Option, Some, None, is_none}
+use Rattle.verdict.specs.Verdict.{Verdict, passed}
+use Rattle.verdict.specs.declared.Fault.{Fault}
 use Rattle.verdict.proofs.Verdicts.{both_pass, test_holds}
 use Rattle.classes.specs.Classes.{is_digit, permits}
 use Rattle.text.specs.Bytes.{all_of, bytes_verdict, same}
@@ -10,7 +11,7 @@ use Rattle.text.specs.Digits.{two_digits}
 use Rattle.classes.specs.declared.Class.{Class}
 use Rattle.classes.specs.declared.Class.TheVariants.{Account, AccountForm, Reference, Line}
 use Rattle.classes.proofs.Laws.{digit_bounds}
-use Rattle.text.proofs.Laws.{is_nothing, all_passes, passes_all}
+use Rattle.text.proofs.Laws.{all_passes, passes_all}
 use Rattle.characters.specs.Answers.{characters_verdict}
 use Rattle.characters.proofs.Theorems as texts
 use Rattle.account.specs.Answers.{iban_verdict}
@@ -28,7 +29,7 @@ use Rattle.text.proofs.Same.{same_equal}
 -- Choices
 
 -- what follows of either answer where it accepts follows of the choice between them
-pub either : {A : Type 0} (t : Bool) (x y : ℕ) → (x ≡ 0 → A) → (y ≡ 0 → A) → cond t x y ≡ 0 → A
+pub either : {A : Type 0} (t : Bool) (x y : Verdict) → (x ≡ passed → A) → (y ≡ passed → A) → cond t x y ≡ passed → A
 either true x y p q e = p e
 either false x y p q e = q e
 
@@ -64,17 +65,11 @@ free_by_class k n (b ∷ s) e =
 
 -- an accepted word is the word
 pub word_is : (w s : List ℕ) → word_verdict w s ≡ passed → s ≡ w
-word_is w s e = same_equal w s (test_holds (same w s) 5 refl e)
+word_is w s e = same_equal w s (test_holds (same w s) Fault.Form e)
 
 -- and where the word has no line feed, the field has none
 pub word_free : (w s : List ℕ) → all_of Line w ≡ true → word_verdict w s ≡ passed → all_of Line s ≡ true
 word_free w s h e = rw (word_is w s e) h
-
--- a word is the same as itself
-pub same_itself : (w : List ℕ) → same w w ≡ true
-unfolding same
-same_itself [] = refl
-same_itself (a ∷ w) = sym (and_second (eqb a a) (same w w) true (eq-eqb a a refl) (sym (same_itself w)))
 
 -- ---------------------------------------------------------------------------
 -- Bytes of a class
@@ -86,7 +81,7 @@ class_free k n s e = free_by_class k n s (passes_all k s e)
 -- amounts and purposes: bytes of a class, and one of two lengths
 pub sized_exactly : (k : Class) (a b : ℕ) (s : List ℕ) → (sized_verdict k a b s ≡ passed) ↔ ((all_of k s ≡ true) × ((length s ≡ a) ⊎ (length s ≡ b)))
 sized_exactly k a b s = (
-  λ e. let h = both_pass (bytes_verdict k s) _ e in (passes_all k s h.0, go (eqb (length s) a) (eqb (length s) b) refl refl (test_holds _ 4 refl h.1)),
+  λ e. let h = both_pass (bytes_verdict k s) _ e in (passes_all k s h.0, go (eqb (length s) a) (eqb (length s) b) refl refl (test_holds _ Fault.Length h.1)),
   λ w. rw (all_passes k s w.0, sized w.1),
 )
   where
@@ -116,13 +111,13 @@ sized_alone k a s e = let h = (sized_exactly k a a s).0 e in (h.0, ⊎_elim (λ 
 account_is : (s : List ℕ) → iban_verdict s ≡ passed → (bytes_verdict Account s ≡ passed) × (length s ≡ 21)
 account_is s e =
     let h = both_pass (bytes_verdict Account s) _ e in
-    (h.0, eqb-true (length s) 21 (test_holds _ 4 refl (both_pass _ _ h.1).0))
+    (h.0, eqb-true (length s) 21 (test_holds _ Fault.Length (both_pass _ _ h.1).0))
 
 -- an accepted account of the account form is 18 letters, digits and hyphens
 account_form_is : (s : List ℕ) → account_form_verdict s ≡ passed → (bytes_verdict AccountForm s ≡ passed) × (length s ≡ 18)
 account_form_is s e =
     let h = both_pass (bytes_verdict AccountForm s) _ e in
-    (h.0, eqb-true (length s) 18 (test_holds _ 4 refl (both_pass _ _ h.1).0))
+    (h.0, eqb-true (length s) 18 (test_holds _ Fault.Length (both_pass _ _ h.1).0))
 
 -- an accepted payee has no line feed, and at most 21 bytes
 pub payee_is : (c : Currency) (s : List ℕ) → payee_verdict c s ≡ passed → (all_of Line s ≡ true) × (length s ≤ 21)
@@ -150,23 +145,22 @@ pub record Named (s : List ℕ) : Type 0 where
   pub fourth : is_digit (get_or s 3 0) ≡ true
 
 -- a choice between a number and none has a number only where its test holds and the number is there
-numbered : (t : Bool) (f : Option ℕ) → is_nothing (cond t f None) ≡ false → (t ≡ true) × (is_nothing f ≡ false)
-unfolding is_nothing
-numbered true f e = (refl, e)
-numbered false f e = let z : ◌≡◌ {A = ℕ} 0 1 = cc in absurd (omega arith)
+numbered : (t : Bool) (f : Option ℕ) (n : ℕ) → cond t f None ≡ Some n → (t ≡ true) × (f ≡ Some n)
+numbered true f n e = (refl, e)
+numbered false f n e = let z : true ≡ false = ap is_none e in absurd (false≢true (sym z))
 
 -- an accepted model is `HR` and two digits
 pub model_is : (s : List ℕ) → model_verdict s ≡ passed → Named s
-unfolding is_nothing
 model_is s e =
+    let w = (model_accepted_exactly s).0 e in
     let a = get_or s 0 0 in
     let b = get_or s 1 0 in
     let x = get_or s 2 0 in
     let y = get_or s 3 0 in
-    let h = numbered (eqb (length s) 4 && (eqb a 72 && eqb b 82)) (two_digits x y) (ap is_nothing ((model_accepted_exactly s).0 e).named) in
+    let h = numbered (eqb (length s) 4 && (eqb a 72 && eqb b 82)) (two_digits x y) w.number w.named in
     let f = both_true (eqb (length s) 4) (eqb a 72 && eqb b 82) h.0 in
     let g = both_true (eqb a 72) (eqb b 82) f.1 in
-    let d = both_true (is_digit x) (is_digit y) (numbered (is_digit x && is_digit y) _ h.1).0 in
+    let d = both_true (is_digit x) (is_digit y) (numbered (is_digit x && is_digit y) _ _ h.1).0 in
     record { four = eqb-true (length s) 4 f.0; first = eqb-true a 72 g.0; second = eqb-true b 82 g.1; third = d.0; fourth = d.1 }
 
 -- with no line feed

@@ -1,7 +1,9 @@
 -- What is promised of the fields of a slip: which bytes an accepted field has, how many, and what it depends on.
 -- Assumes nothing.
 use Rattle.refusal.proofs.Basics.{◌≡◌, refl, ap, arith, ℕ, ◌+◌, ◌≤◌, length, ne_eqb, List, Bool, true, false, cond, ◌||◌, eqb, leb}
-use Rattle.verdict.specs.Verdict.{passed, Within}
+use Rattle.std.specs.Prelude.{Err}
+use Rattle.verdict.specs.Verdict.{Verdict, passed, Within}
+use Rattle.verdict.specs.declared.Fault.{Fault}
 use Rattle.verdict.proofs.Verdicts.{choice_within, then_within, only_within}
 use Rattle.classes.specs.Classes.{permits}
 use Rattle.text.specs.Bytes.{all_of, same}
@@ -57,7 +59,7 @@ first_is_hrvhub30 c m s e = accepted.word_is hrvhub30 s e
 -- and that is accepted
 pub hrvhub30_accepted : (c : Currency) (m : List ℕ) → field_verdict c 1 m hrvhub30 ≡ passed
 unfolding field_verdict
-hrvhub30_accepted c m = rw (accepted.same_itself hrvhub30)
+hrvhub30_accepted c m = refl
 
 -- "2 is `EUR`"; in a kuna slip `HRK`
 pub second_is_currency : (c : Currency) (m s : List ℕ) → field_verdict c 2 m s ≡ passed → s ≡ currency_text c
@@ -67,7 +69,8 @@ second_is_currency c m s e = accepted.word_is (currency_text c) s e
 -- and that is accepted
 pub currency_accepted : (c : Currency) (m : List ℕ) → field_verdict c 2 m (currency_text c) ≡ passed
 unfolding field_verdict
-currency_accepted c m = rw (accepted.same_itself (currency_text c))
+currency_accepted Euro m = refl
+currency_accepted Kuna m = refl
 
 -- "3: exactly fifteen digits"
 pub third_is_digits : (c : Currency) (m s : List ℕ) → field_verdict c 3 m s ≡ passed → (all_of Digits s ≡ true) × (length s ≡ 15)
@@ -96,15 +99,15 @@ unfolding field_verdict
 currency_matters_to_2_and_10_alone c c' n m s g h = rw (ne_eqb n 2 g, ne_eqb n 10 h)
 
 -- the word of another currency is 5
-pub other_currency_refused : (m : List ℕ) → (field_verdict Euro 2 m (currency_text Kuna) ≡ 5) × (field_verdict Kuna 2 m (currency_text Euro) ≡ 5)
-unfolding field_verdict same
+pub other_currency_refused : (m : List ℕ) → (field_verdict Euro 2 m (currency_text Kuna) ≡ Err Fault.Form) × (field_verdict Kuna 2 m (currency_text Euro) ≡ Err Fault.Form)
+unfolding field_verdict
 other_currency_refused m = (refl, refl)
 
 -- ---------------------------------------------------------------------------
 -- Sizes
 
 -- what is within the size of either answer where it accepts is within the size of the choice between them
-within : (t : Bool) (x y : ℕ) (j k l : ℕ) → (x ≡ 0 → l ≤ j) → (y ≡ 0 → l ≤ k) → cond t x y ≡ 0 → l ≤ cond t j k
+within : (t : Bool) (x y : Verdict) (j k l : ℕ) → (x ≡ passed → l ≤ j) → (y ≡ passed → l ≤ k) → cond t x y ≡ passed → l ≤ cond t j k
 within true x y j k l p q e = p e
 within false x y j k l p q e = q e
 
@@ -142,16 +145,16 @@ total_size = refl
 pub field_within : (c : Currency) (n : ℕ) (m s : List ℕ) → Within (length s) (field_verdict c n m s)
 unfolding field_verdict
 field_within c n m s =
-    choose (eqb n 1) _ _ (only_within _ (same hrvhub30 s) 5 (omega arith))
-    (choose (eqb n 2) _ _ (only_within _ (same (currency_text c) s) 5 (omega arith))
+    choose (eqb n 1) _ _ (only_within _ (same hrvhub30 s) Fault.Form refl)
+    (choose (eqb n 2) _ _ (only_within _ (same (currency_text c) s) Fault.Form refl)
     (choose (eqb n 3) _ _ (sized Digits 15 15)
     (choose (eqb n 10) _ _ (payee_within c)
     (choose (eqb n 11) _ _ (model_within (length s) s)
     (choose (eqb n 12) _ _ (reference_within m s)
     (choose (eqb n 13) _ _ (sized Letters 0 4)
-    (then_within (length s) _ _ (found_within (length s) (first_wrong s) (wrong_below s)) (only_within _ (leb (characters s) (most_of n)) 4 (omega arith)))))))))
+    (then_within (length s) _ _ (found_within (length s) (first_wrong s) (wrong_below s)) (only_within _ (leb (characters s) (most_of n)) Fault.Length refl))))))))
   where
-    choose : (b : Bool) (v w : ℕ) → Within (length s) v → Within (length s) w → Within (length s) (cond b v w)
+    choose : (b : Bool) (v w : Verdict) → Within (length s) v → Within (length s) w → Within (length s) (cond b v w)
     choose = choice_within (length s)
 
     payee_within : (c : Currency) → Within (length s) (payee_verdict c s)
@@ -159,4 +162,4 @@ field_within c n m s =
     payee_within Kuna = account_or_iban_within s
 
     sized : (k : Class) (a b : ℕ) → Within (length s) (sized_verdict k a b s)
-    sized k a b = then_within (length s) _ _ (bytes_within k s) (only_within (length s) (eqb (length s) a || eqb (length s) b) 4 (omega arith))
+    sized k a b = then_within (length s) _ _ (bytes_within k s) (only_within (length s) (eqb (length s) a || eqb (length s) b) Fault.Length refl)

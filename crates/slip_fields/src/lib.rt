@@ -69,6 +69,7 @@ fn most_of(n: usize) -> usize
 }
 
 // Field n of a slip in a currency, after the field `before` it.
+#[tactic(auto, unfolding(crate::specs::Fields::field_verdict))]
 pub fn judge_field(currency: Currency, n: usize, before: &[u8], s: &[u8]) -> Verdict
     ensures { result ≡ field_verdict currency n before.now s.now }
 {
