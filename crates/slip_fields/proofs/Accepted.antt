@@ -1,10 +1,9 @@
 -- What an accepted field of each kind is: its bytes, its length, and that no line feed stands in it.
 -- Assumes nothing.
-use Rattle.refusal.proofs.Basics.{◌≡◌, refl, sym, ap, ◌∙◌, arith, ℕ, zero, suc, ◌*◌, ◌≤◌, ◌<◌, length, get_or, eqb-true, eq-eqb, ne_eqb, List, [], ◌∷◌, Bool, true, false, cond, not, ◌&&◌, ◌||◌, or-true, eqb, ◌↔◌, ◌⊎◌, inl, inr, ⊎_elim, both_true, and_second}
+use Rattle.refusal.proofs.Basics.{◌≡◌, refl, sym, ap, ◌∙◌, arith, ℕ, zero, suc, ◌*◌, ◌≤◌, ◌<◌, length, get_or, eqb-true, eq-eqb, ne_eqb, List, [], ◌∷◌, Bool, true, false, false≢true, cond, not, ◌&&◌, ◌||◌, or-true, eqb, ◌↔◌, ◌⊎◌, inl, inr, ⊎_elim, both_true, and_second}
+use Rattle.std.specs.Prelude.{Option, Some, None, is_none}
 use Rattle.verdict.specs.Verdict.{Verdict, passed}
 use Rattle.verdict.specs.declared.Fault.{Fault}
-use Rattle.std.specs.Prelude.{Option, None, Some}
-use Rattle.std.proofs.lemmas.Option.{none-some}
 use Rattle.verdict.proofs.Verdicts.{both_pass, test_holds}
 use Rattle.classes.specs.Classes.{is_digit, permits}
 use Rattle.text.specs.Bytes.{all_of, bytes_verdict, same}
@@ -148,16 +147,17 @@ pub record Named (s : List ℕ) : Type 0 where
 -- a choice between a number and none has a number only where its test holds and the number is there
 numbered : (t : Bool) (f : Option ℕ) (n : ℕ) → cond t f None ≡ Some n → (t ≡ true) × (f ≡ Some n)
 numbered true f n e = (refl, e)
-numbered false f n e = absurd (none-some n e)
+numbered false f n e = let z : true ≡ false = ap is_none e in absurd (false≢true (sym z))
 
 -- an accepted model is `HR` and two digits
 pub model_is : (s : List ℕ) → model_verdict s ≡ passed → Named s
 model_is s e =
+    let w = (model_accepted_exactly s).0 e in
     let a = get_or s 0 0 in
     let b = get_or s 1 0 in
     let x = get_or s 2 0 in
     let y = get_or s 3 0 in
-    let h = numbered (eqb (length s) 4 && (eqb a 72 && eqb b 82)) (two_digits x y) _ ((model_accepted_exactly s).0 e).named in
+    let h = numbered (eqb (length s) 4 && (eqb a 72 && eqb b 82)) (two_digits x y) w.number w.named in
     let f = both_true (eqb (length s) 4) (eqb a 72 && eqb b 82) h.0 in
     let g = both_true (eqb a 72) (eqb b 82) f.1 in
     let d = both_true (is_digit x) (is_digit y) (numbered (is_digit x && is_digit y) _ _ h.1).0 in

@@ -1,9 +1,9 @@
 -- What is promised of the fields of a slip: which bytes an accepted field has, how many, and what it depends on.
 -- Assumes nothing.
 use Rattle.refusal.proofs.Basics.{◌≡◌, refl, ap, arith, ℕ, ◌+◌, ◌≤◌, length, ne_eqb, List, Bool, true, false, cond, ◌||◌, eqb, leb}
+use Rattle.std.specs.Prelude.{Err}
 use Rattle.verdict.specs.Verdict.{Verdict, passed, Within}
 use Rattle.verdict.specs.declared.Fault.{Fault}
-use Rattle.std.specs.Prelude.{Err}
 use Rattle.verdict.proofs.Verdicts.{choice_within, then_within, only_within}
 use Rattle.classes.specs.Classes.{permits}
 use Rattle.text.specs.Bytes.{all_of, same}
