@@ -5,7 +5,7 @@
 
 ghost use Rattle.std.specs.Prelude.{◌≡◌, length, take, drop};
 ghost use Rattle.wage_line.specs.Pieces.{next_piece};
-ghost use Rattle.wage_line.specs.Line.{ends_right, wrong_type, type_from, typed_of, place_of};
+ghost use Rattle.wage_line.specs.Line.{ends_right, type_from, typed_of, place_of};
 
 use refusal::{Place, Refusal};
 use wage_places::{LineType, Spot};
@@ -17,53 +17,29 @@ use wage_places::{LineType, Spot};
 fn ends_right(s: &[u8]) -> bool
     ensures { result ≡ ends_right s.now }
 {
-    if s.len() < 1002 {
-        return false;
-    }
-    if s[1000] != 13 {
-        return false;
-    }
-    s[1001] == 10
+    s.len() >= 1002 && s[1000] == b'\r' && s[1001] == b'\n'
 }
 
-// No type: 5 at the type's first byte.
-fn wrong_type() -> Result<LineType, Refusal>
-    ensures { result ≡ wrong_type }
-{
-    let place = Place {
-        line: 0,
-        field: 0,
-        byte: 997,
-    };
-    Err(Refusal::Form(place))
-}
-
-// The type that three bytes write.
+// The type that three bytes write; else 5 at the type's first byte.
+#[tactic(auto, unfolding(crate::specs::Line::type_from))]
 fn type_from(a: u8, b: u8, c: u8) -> Result<LineType, Refusal>
     ensures { result ≡ type_from a b c }
 {
-    if a != 51 {
-        return wrong_type();
-    }
-    if b == 48 {
-        match c {
-            48 => Ok(LineType::Label),
-            49 => Ok(LineType::Group),
-            57 => Ok(LineType::Order),
-            _ => wrong_type(),
-        }
-    } else {
-        if b != 57 {
-            return wrong_type();
-        }
-        if c != 57 {
-            return wrong_type();
-        }
-        Ok(LineType::Closing)
+    match [a, b, c] {
+        [b'3', b'0', b'0'] => Ok(LineType::Label),
+        [b'3', b'0', b'1'] => Ok(LineType::Group),
+        [b'3', b'0', b'9'] => Ok(LineType::Order),
+        [b'3', b'9', b'9'] => Ok(LineType::Closing),
+        _ => Err(Refusal::Form(Place {
+            line: 0,
+            field: 0,
+            byte: 997,
+        })),
     }
 }
 
 // A line's type: 1, 2, then 5.
+#[tactic(auto, unfolding(crate::specs::Line::typed_of))]
 pub fn read_type(s: &[u8]) -> Result<LineType, Refusal>
     ensures { result ≡ typed_of s.now }
 {
@@ -77,6 +53,7 @@ pub fn read_type(s: &[u8]) -> Result<LineType, Refusal>
 }
 
 // A named place of a line, by its field's number, as the part of the lent line where it stands; else an empty part.
+#[tactic(auto, unfolding(crate::specs::Line::place_of))]
 pub fn place(s: &[u8], field: usize) -> &[u8]
     ensures { result.now ≡ place_of s.now field }
 {
@@ -93,23 +70,23 @@ pub fn place(s: &[u8], field: usize) -> &[u8]
 pub fn piece(s: &[u8], at: usize) -> &[u8]
     ensures { result.now ≡ take 1002 (drop at s.now) }
 {
-    let p = Spot {
-        field: 0,
-        start: at,
-        size: 1002,
-    };
-    wage_places::part(p, s)
+    wage_places::part(
+        Spot {
+            field: 0,
+            start: at,
+            size: 1002,
+        },
+        s,
+    )
 }
 
 // Where the piece after the one at a place begins: at the end, if there is none.
 pub fn next_piece(s: &[u8], at: usize) -> usize
     ensures { result ≡ next_piece (length s.now) at }
 {
-    if s.len() < at {
-        return s.len();
+    if s.len().saturating_sub(at) < 1002 {
+        s.len()
+    } else {
+        at + 1002
     }
-    if s.len() - at < 1002 {
-        return s.len();
-    }
-    at + 1002
 }

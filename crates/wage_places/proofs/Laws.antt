@@ -1,7 +1,6 @@
 -- Laws of places: of tables, of the search by field number, and of the bytes of a place.
 -- Assumes nothing.
-use Rattle.refusal.proofs.Basics.{◌≡◌, sym, ap, ◌∙◌, arith, ℕ, zero, suc, ◌+◌, ◌-◌, ◌≤◌, ◌<◌, length, take, drop, get_or, length-drop, drop_of_length-le, get_or-eq_default, eq-eqb, ne_eqb, List, [], ◌∷◌, Bool, true, false, cond, ◌&&◌, eqb, drop-cons, take_all, take-nil, length-take-le, add-one, both_true}
-use Rattle.text.proofs.Laws.{to_the_end}
+use Rattle.refusal.proofs.Basics.{◌≡◌, sym, ◌∙◌, arith, ℕ, zero, suc, ◌+◌, ◌≤◌, ◌<◌, length, drop, get_or, length-drop, drop_of_length-le, get_or-eq_default, eq-eqb, ne_eqb, List, [], ◌∷◌, Bool, true, false, cond, ◌&&◌, eqb, drop-cons, length-take-le, add-one, both_true}
 use Rattle.wage_places.specs.declared.Spot.{Spot}
 use Rattle.wage_places.specs.Places.{no_spot, spot_in, part_at}
 
@@ -18,25 +17,18 @@ none_below : (n k : ℕ) → NoneBelow n k → n ≤ k
 none_below zero k r = omega arith
 none_below (suc n) k r = let h = none_below n k r.0 in let g = r.1 in omega arith
 
--- the place p that a match on k answers is the table's: in the arm of a number, and past the last
-module _ (ps : List Spot) (k : ℕ) (p : Spot) where
-  pub there : (n : ℕ) → k ≡ n → p ≡ get_or ps n no_spot → p ≡ get_or ps k no_spot
-  there n e h = rw e h
-
-  pub past : NoneBelow (length ps) k → p ≡ no_spot → p ≡ get_or ps k no_spot
-  past r h = h ∙ sym (get_or-eq_default ps no_spot (none_below (length ps) k r))
-
--- both
-pub ruleset arms = (there, past)
+-- past the last place a table has none
+pub past : (ps : List Spot) (k : ℕ) (p : Spot) → NoneBelow (length ps) k → p ≡ no_spot → p ≡ get_or ps k no_spot
+past ps k p r h = h ∙ sym (get_or-eq_default ps no_spot (none_below (length ps) k r))
 
 -- ---------------------------------------------------------------------------
 -- The search for a field, from place k on
 
 module _ (n : ℕ) (ps : List Spot) (k : ℕ) where
   -- the place k is of another field
-  pub find_on : (p : Spot) → k < length ps → p ≡ get_or ps k no_spot → (p.field ≡ n → ⊥) → spot_in n (drop k ps) ≡ spot_in n (drop (k + 1) ps)
+  pub find_on : k < length ps → ((get_or ps k no_spot).field ≡ n → ⊥) → spot_in n (drop k ps) ≡ spot_in n (drop (k + 1) ps)
   unfolding spot_in
-  find_on p h e g = rw (drop-cons ps k no_spot h, add-one k, ← e, ne_eqb n p.field (λ (f : n ≡ p.field). g (sym f)))
+  find_on h g = let p = get_or ps k no_spot in rw (drop-cons ps k no_spot h, add-one k, ne_eqb n p.field (λ (f : n ≡ p.field). g (sym f)))
 
   -- the place k is of field n
   pub find_stops : (p : Spot) → k < length ps → p ≡ get_or ps k no_spot → p.field ≡ n → p ≡ spot_in n (drop k ps)
@@ -52,18 +44,6 @@ module _ (n : ℕ) (ps : List Spot) (k : ℕ) where
 -- The bytes of a place
 
 module _ (p : Spot) (s : List ℕ) where
-  -- past the end there are none
-  pub part_none : length s < p.start → [] ≡ part_at p s
-  part_none h = let g : length s ≤ p.start = omega arith in rw (drop_of_length-le s g) (sym (take-nil p.size))
-
-  -- at the end there is what is left
-  pub part_short : length s - p.start < p.size → take (length s - p.start) (drop p.start s) ≡ part_at p s
-  part_short h = to_the_end p.start s ∙ sym (take_all p.size (drop p.start s) (omega (arith, length-drop p.start s)))
-
-  -- elsewhere there are all
-  pub part_whole : take (p.start + p.size - p.start) (drop p.start s) ≡ part_at p s
-  part_whole = let e : p.start + p.size - p.start ≡ p.size = omega arith in ap (λ (n : ℕ). take n (drop p.start s)) e
-
   -- a place within the line has all of its bytes
   pub part_length : p.start + p.size ≤ length s → length (part_at p s) ≡ p.size
   part_length h = length-take-le p.size (drop p.start s) (omega (arith, length-drop p.start s))

@@ -88,6 +88,7 @@ fn order_spot(k: usize) -> Spot
 }
 
 // The place of a line at an order, counted from 0; past the last, no place.
+#[tactic(auto, unfolding(crate::specs::Places::spots))]
 pub fn spot_at(t: LineType, k: usize) -> Spot
     ensures { result ≡ get_or (spots t) k no_spot }
 {
@@ -100,6 +101,7 @@ pub fn spot_at(t: LineType, k: usize) -> Spot
 }
 
 // How many places a line has.
+#[tactic(auto, unfolding(crate::specs::Places::spots))]
 pub fn count(t: LineType) -> usize
     ensures { result ≡ length (spots t) }
 {
@@ -112,6 +114,7 @@ pub fn count(t: LineType) -> usize
 }
 
 // The place of a field; an unknown number has none.
+#[tactic(auto, using(crate::proofs::Laws::find_on, crate::proofs::Laws::find_stops, crate::proofs::Laws::find_ends))]
 pub fn find(t: LineType, field: usize) -> Spot
     ensures { result ≡ spot_of t field }
 {
@@ -128,16 +131,8 @@ pub fn find(t: LineType, field: usize) -> Spot
 pub fn part(p: Spot, s: &[u8]) -> &[u8]
     ensures { result.now ≡ part_at p s.now }
 {
-    let start = p.start;
-    let size = p.size;
-    if s.len() < start {
-        return &s[..0];
-    }
-    if s.len() - start < size {
-        return &s[start..];
-    }
-    let end = start + size;
-    &s[start..end]
+    let rest = &s[p.start.min(s.len())..];
+    &rest[..p.size.min(rest.len())]
 }
 
 // The bytes of a place, by its order.
