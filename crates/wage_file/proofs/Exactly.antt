@@ -1,6 +1,8 @@
 -- What is promised of a whole wage file: accepted exactly when it is right, with its counts told, and its parts told by its lines.
 -- Assumes nothing.
 use Rattle.refusal.proofs.Basics.{◌≡◌, refl, sym, ap, ◌∙◌, arith, ℕ, suc, ◌+◌, zero-add, length, List, [], ◌∷◌, ◌++◌, append_assoc, true, ◌↔◌}
+use Rattle.verdict.proofs.Verdicts.{fault_no_pass}
+use Rattle.condition.specs.declared.Condition.TheVariants.{Fresh, Labelled}
 use Rattle.verdict.specs.Verdict.{passed}
 use Rattle.std.specs.Prelude.{Err, Ok, Result}
 use Rattle.refusal.specs.declared.Refusal.{Refusal}
@@ -64,12 +66,12 @@ module _ (day : ℕ) where
     label_told s ss e = let w = came n ss (fresh day) s e in go w.0.line w.0.typed w.0.stands w.0.fields w.1
       where
         go :
-            (t : LineType) → typed_of s ≡ Ok t → stand_verdict 0 (fresh day).group t ≡ passed → places_answer day 0 t s ≡ Ok tt → Ends n ss (after (fresh day) s t) →
+            (t : LineType) → typed_of s ≡ Ok t → stand_verdict Fresh (fresh day).group t ≡ passed → places_answer day 0 t s ≡ Ok tt → Ends n ss (after (fresh day) s t) →
             RightLine day 0 Label s × Ends n ss (after_label s)
         go Label f v p g = (record { typed = f; fields = p }, g)
-        go Group f v p g = absurd (omega arith)
-        go Order f v p g = absurd (omega arith)
-        go Closing f v p g = absurd (omega arith)
+        go Group f v p g = fault_no_pass _ v
+        go Order f v p g = fault_no_pass _ v
+        go Closing f v p g = fault_no_pass _ v
 
     -- and only a right 301 after it
     head_told : (label s : List ℕ) (ss : List (List ℕ)) → Ends n (s ∷ ss) (after_label label) → RightLine day (kind_of label) Group s × Ends n ss (in_group day (kind_of label) s two 0 0)
@@ -77,12 +79,12 @@ module _ (day : ℕ) where
     head_told label s ss e = let w = came n ss (after_label label) s e in go w.0.line w.0.typed w.0.stands w.0.fields w.1
       where
         go :
-            (t : LineType) → typed_of s ≡ Ok t → stand_verdict 1 (fresh day).group t ≡ passed → places_answer day (kind_of label) t s ≡ Ok tt → Ends n ss (after (after_label label) s t) →
+            (t : LineType) → typed_of s ≡ Ok t → stand_verdict Labelled (fresh day).group t ≡ passed → places_answer day (kind_of label) t s ≡ Ok tt → Ends n ss (after (after_label label) s t) →
             RightLine day (kind_of label) Group s × Ends n ss (in_group day (kind_of label) s two 0 0)
-        go Label f v p g = absurd (omega arith)
+        go Label f v p g = fault_no_pass _ v
         go Group f v p g = (record { typed = f; fields = p }, g)
-        go Order f v p g = absurd (omega arith)
-        go Closing f v p g = absurd (omega arith)
+        go Order f v p g = fault_no_pass _ v
+        go Closing f v p g = fault_no_pass _ v
 
 -- ---------------------------------------------------------------------------
 -- Accepted exactly when

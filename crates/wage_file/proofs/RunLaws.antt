@@ -4,7 +4,8 @@ use Rattle.refusal.proofs.Basics.{◌≡◌, refl, sym, ap, ◌∙◌, arith, �
 use Rattle.std.specs.Prelude.{Err, Ok}
 use Rattle.refusal.specs.declared.Refusal.{Refusal}
 use Rattle.verdict.specs.Verdict.{passed, only_if, and_then}
-use Rattle.verdict.proofs.Verdicts.{both_pass, test_holds}
+use Rattle.verdict.specs.declared.Fault.{Fault}
+use Rattle.verdict.proofs.Verdicts.{fault_no_pass, both_pass, test_holds}
 use Rattle.sums.specs.Sums.{limb, sum_of, fits, same_sum, number_of, number_in}
 use Rattle.sums.proofs.Laws.{added_on}
 use Rattle.sums.proofs.Theorems.{sum_fits, sums_told_apart, text_small}
@@ -89,13 +90,13 @@ told n j e = go (is_refused j.condition) (is_sound j) (eqb (stage_of j.condition
 nothing_after : (n : Counts) (ss : List (List ℕ)) (j : Judge) → stage_of j.condition ≡ 3 → Ends n ss j → ss ≡ []
 unfolding stand_verdict
 nothing_after n [] j f e = refl
-nothing_after n (s ∷ ss) j f e = let w = came n ss j s e in go w.0.line (rw f at w.0.stands)
+nothing_after n (s ∷ ss) j f e = let w = came n ss j s e in go w.0.line w.0.stands
   where
-    go : (t : LineType) → stand_verdict 3 j.group t ≡ passed → s ∷ ss ≡ []
-    go Label g = absurd (omega arith)
-    go Group g = absurd (omega arith)
-    go Order g = absurd (omega arith)
-    go Closing g = absurd (omega arith)
+    go : (t : LineType) → stand_verdict j.condition j.group t ≡ passed → s ∷ ss ≡ []
+    go Label g = fault_no_pass _ (rw f at g)
+    go Group g = fault_no_pass _ (rw f at g)
+    go Order g = fault_no_pass _ (rw f at g)
+    go Closing g = fault_no_pass _ (rw f at g)
 
 -- ---------------------------------------------------------------------------
 -- A step that is made
@@ -212,21 +213,21 @@ module _ (day kind : ℕ) where
     ordered_as s = rw (added_on 100 total (amount_in s), added_on 1000 m.tally.cents (amount_in s))
 
     -- a whole group may end
-    whole_made : Whole → whole_verdict 2 here.group ≡ passed
+    whole_made : Whole → whole_verdict Grouped here.group ≡ passed
     whole_made w =
         rw (lt-ltb 0 counted w.some, eq-eqb counted (declared_in head) w.number, (sums_told_apart 100 total (promised_in head) (promised_small head)).1 w.sum)
 
     -- and only a whole group
-    whole_told : whole_verdict 2 here.group ≡ passed → Whole
+    whole_told : whole_verdict Grouped here.group ≡ passed → Whole
     whole_told e =
         let number = eqb counted (declared_in head) in
         let same = same_sum (sum_of 100 total) (sum_of 100 (promised_in head)) in
-        let a = both_pass (only_if (ltb 0 counted) 10) (and_then (only_if number 12) (only_if same 13)) e in
-        let b = both_pass (only_if number 12) (only_if same 13) a.1 in
+        let a = both_pass (only_if (ltb 0 counted) Fault.Misplaced) (and_then (only_if number Fault.Orders) (only_if same Fault.Sum)) e in
+        let b = both_pass (only_if number Fault.Orders) (only_if same Fault.Sum) a.1 in
         record {
-          some = ltb-true 0 counted (test_holds (ltb 0 counted) 10 refl a.0);
-          number = eqb-true counted (declared_in head) (test_holds number 12 refl b.0);
-          sum = (sums_told_apart 100 total (promised_in head) (promised_small head)).0 (test_holds same 13 refl b.1);
+          some = ltb-true 0 counted (test_holds (ltb 0 counted) _ a.0);
+          number = eqb-true counted (declared_in head) (test_holds number _ b.0);
+          sum = (sums_told_apart 100 total (promised_in head) (promised_small head)).0 (test_holds same _ b.1);
         }
 
     module _ (a : m.lines < 1000000) (b : Fair m) where
@@ -402,11 +403,11 @@ module _ (day kind : ℕ) where
       go w.0.line w.0.typed w.0.stands w.0.fields w.1 (run_rest n ss)
     where
       go :
-          (t : LineType) → typed_of s ≡ Ok t → stand_verdict 2 (in_group head m counted total).group t ≡ passed → places_answer day kind t s ≡ Ok tt →
+          (t : LineType) → typed_of s ≡ Ok t → stand_verdict Grouped (in_group head m counted total).group t ≡ passed → places_answer day kind t s ≡ Ok tt →
           Ends n ss (after (in_group head m counted total) s t) →
           ((head : List ℕ) (m : Read) (counted total : ℕ) → Ends n ss (in_group head m counted total) → Rest head m counted total ss n) →
           Rest head m counted total (s ∷ ss) n
-      go Label w v p e f = absurd (omega arith)
+      go Label w v p e f = fault_no_pass _ v
       go Group w v p e f =
           rest_group head m counted total s ss n (record { typed = w; fields = p }) (whole_told head m counted total v) (f s (onward (growth_of Group s) m) 0 0 e)
       go Order w v p e f =
