@@ -6,12 +6,12 @@ use Rattle.slip_given.proofs.Laws.{refused_first, accepted_next}
 use Rattle.slip_given.proofs.judge_given.Goals as goal
 
 pub returns-in_err-judge_one : goal.returns-in_err-judge_one
-returns-in_err-judge_one c = refused_first c.args.fields.now c.loop-i.i _ _ (omega (arith, c.loop-i-test.true)) c.judge_one.ensures _ c.in_err-judge_one.is ∙ c.loop-i.invariant
+returns-in_err-judge_one c = refused_first c.args.fields.now c.loop-i.i _ _ (omega (arith, c.loop-i-test.true)) c.judge_one.ensures _ c.in_err-judge_one.was ∙ c.loop-i.invariant
 
 pub loop-i-preserved : goal.loop-i-preserved
 loop-i-preserved c =
     let z : c.loop-i.i + 1 + 4 ≡ c.loop-i.i + 4 + 1 = omega arith in
-    rw z (sym (accepted_next c.args.fields.now c.loop-i.i _ _ (omega (arith, c.loop-i-test.true)) c.judge_one.ensures c.in_ok-judge_one.is) ∙ c.loop-i.invariant)
+    rw z (sym (accepted_next c.args.fields.now c.loop-i.i _ _ (omega (arith, c.loop-i-test.true)) c.judge_one.ensures c.in_ok-judge_one.was) ∙ c.loop-i.invariant)
 
 pub returns : goal.returns
 unfolding given_answer

@@ -5,9 +5,9 @@ use Rattle.wage_draft.proofs.draft_aside.Goals as goal
 
 pub returns-in_err-draft_in : goal.returns-in_err-draft_in
 returns-in_err-draft_in c = let copied = c.put.ensures ∙ put_whole c.args.scratch.now c.args.line.now (c.requires.1 ∙ sym c.requires.0) in
-    scratch_refused _ _ c.requires.1 _ _ (rw copied at c.draft_in.ensures) _ c.in_err-draft_in.is
+    scratch_refused _ _ c.requires.1 _ _ (rw copied at c.draft_in.ensures) _ c.in_err-draft_in.was
 
 pub returns : goal.returns
 returns c = let copied = c.put.ensures ∙ put_whole c.args.scratch.now c.args.line.now (c.requires.1 ∙ sym c.requires.0) in
     let size = c.scratch-2-1.given ∙ c.scratch-1.given ∙ c.requires.0 in
-    scratch_accepted _ _ c.requires.1 _ _ (rw copied at c.draft_in.ensures) c.in_ok-draft_in.is size _ c.put-2.ensures
+    scratch_accepted _ _ c.requires.1 _ _ (rw copied at c.draft_in.ensures) c.in_ok-draft_in.was size _ c.put-2.ensures
