@@ -38,7 +38,7 @@ line_told n (Field p) = refl
 line_told n (Overfull p) = refl
 
 -- the refusal that is told of a line
-told_of_lem : (n : ℕ) (q r : Refusal) → Err (in_line n q) ≡ Err r → (refusal_place r).line ≡ n
+told_of_lem : (n : ℕ) (q r : Refusal) → ◌≡◌ {A = Answer} (Err (in_line n q)) (Err r) → (refusal_place r).line ≡ n
 told_of_lem n q r e = let g : in_line n q ≡ r = cc in rw (← g) (line_told n q)
 
 module _ (day kind : ℕ) (r : Refusal) where
@@ -51,7 +51,7 @@ module _ (day kind : ℕ) (r : Refusal) where
       places (Ok u) g = let z : ◌≡◌ {A = ℕ} 0 1 = cc in absurd (omega arith)
       places (Err q) g = told_of_lem n q r g
 
-      other : Err (Misplaced (record { line = n; field = 0; byte = 0 })) ≡ Err r → (refusal_place r).line ≡ n
+      other : ◌≡◌ {A = Answer} (Err (Misplaced (record { line = n; field = 0; byte = 0 }))) (Err r) → (refusal_place r).line ≡ n
       other g = told_of_lem n (Misplaced none) r g
 
       go : (t : Result LineType Refusal) → order_from day kind n s t ≡ Err r → (refusal_place r).line ≡ n

@@ -56,16 +56,7 @@ fn draft_group(
     ensures { DraftsRight (group_draft day kind (fields_of sizes.now text.now) orders.now) result line.new }
 {
     bare_line::dress(LineType::Group, line);
-    wage_draft::draft(
-        day,
-        kind,
-        LineType::Group,
-        0,
-        4,
-        text,
-        sizes,
-        line,
-    )?;
+    wage_draft::draft(day, kind, LineType::Group, 0, 4, text, sizes, line)?;
     draft_worked(day, kind, orders, line)?;
     let last = lent_fields::sizes_behind(sizes);
     wage_draft::draft(

@@ -1,5 +1,6 @@
 -- `group_writer::write_group` meets its contract: the sizes, the day, the kind, the orders, then the line. Assumes nothing.
 use Rattle.refusal.proofs.Basics.{sym, ◌∙◌, not-true, not-false}
+use Rattle.std.proofs.lemmas.Result.{err_from_is_err_and}
 use Rattle.wage_orders.proofs.Theorems.{accepted_small}
 use Rattle.line_room.proofs.Laws.{refused_first, accepted_first, day_wrong, day_right, kind_wrong, kind_right}
 use Rattle.wage_writer.proofs.Laws.{sizes_right}
@@ -19,10 +20,11 @@ returns-then-not-is_kind c = sizes_right _ _ _ _ _ _ _ _ (sym c.is_lent_whole.en
 
 pub returns-in_err-judge : goal.returns-in_err-judge
 unfolding group_answer
-returns-in_err-judge c = sizes_right _ _ _ _ _ _ _ _ (sym c.is_lent_whole.ensures ∙ not-false _ c.if-not-is_lent_whole.false-raw)
+returns-in_err-judge c = let p = err_from_is_err_and c.from_residual.result c.from_residual.ensures.1 in
+    rw (p.1, p.2) (sizes_right _ _ _ _ _ _ _ _ (sym c.is_lent_whole.ensures ∙ not-false _ c.if-not-is_lent_whole.false-raw)
     (day_right _ _ _ _ _ _ (sym c.is_date.ensures ∙ not-false _ c.if-not-is_date.false-raw)
     (kind_right _ _ c.args.kind _ _ _ (sym c.is_kind.ensures ∙ not-false _ c.if-not-is_kind.false-raw)
-    (refused_first _ _ _ _ _ (sym c.judge.ensures ∙ c.in_err-judge.was))))
+    (refused_first _ _ _ _ _ (sym c.judge.ensures ∙ c.in_err-judge.was)))))
 
 pub write_judged-requires : goal.write_judged-requires
 write_judged-requires c = accepted_small _ _ _ (sym c.judge.ensures ∙ c.in_ok-judge.was)
