@@ -2,7 +2,6 @@
 -- its parts.
 -- Assumes nothing.
 use Rattle.refusal.proofs.Basics.{◌≡◌, refl, sym, ap, ◌∙◌, arith, ℕ, zero, suc, ◌+◌, ◌-◌, ◌≤◌, ◌<◌, length, take, drop, get_or, length-append, length-take, length-drop, drop_of_length-le, ne_eqb, lt-ltb, ltb-true, ltb-false, List, [], ◌∷◌, ◌++◌, append_assoc, append-nil, Bool, true, false, cond, ◌||◌, eqb, ltb, eqb-suc-zero, take-append-add, get_or-append-add, append_snoc}
-use Rattle.std.specs.List.{list_all}
 use Rattle.text.specs.Digits.{digits_of}
 use Rattle.text.specs.Split.{joined}
 use Rattle.text.proofs.Laws.{digits_append}
@@ -10,7 +9,6 @@ use Rattle.check_digits.specs.declared.Rule.{Rule}
 use Rattle.check_digits.specs.CheckDigit.{check_digit, passes}
 use Rattle.models.specs.declared.Group.{Group}
 use Rattle.models.specs.declared.Model.{Model}
-use Rattle.models.specs.Every.{every}
 use Rattle.parts.specs.Parts.{parts_of, formed}
 use Rattle.parts.specs.Mirror.{ends_from, ends_of, end_of}
 use Rattle.parts.proofs.Pieces.{bound, span_of, Solid}
@@ -20,12 +18,6 @@ use Rattle.stretches.proofs.Laws.{stretch_parts, every_at}
 use Rattle.part_contents.proofs.Laws.{contents_at_lem}
 use Rattle.groups.specs.Groups.{present, group_right, groups_right, parts_right}
 use Rattle.groups.specs.Mirror.{group_at, groups_at, obeys_at}
-
--- whether all entries pass, in the word of a chain over them
-pub all_every : {A : Type 0} (f : A → Bool) (xs : List A) → list_all f xs ≡ every f xs
-unfolding every
-all_every f [] = refl
-all_every f (x ∷ xs) = rw (all_every f xs)
 
 solid_drop : (k : ℕ) (ps : List (List ℕ)) → Solid ps → Solid (drop k ps)
 solid_drop zero ps h = h

@@ -14,19 +14,14 @@ use models::{Group, Model};
 fn group_at(g: Group, ends: usize, s: &[u8]) -> bool
     ensures { result ≡ group_at g ends s.now }
 {
-    let skipped = parts::wide(g.skipped);
-    let joins = parts::wide(g.joins);
-    let rule = g.rule;
-    if joins == 0 {
-        return true;
-    }
-    if parts::end_of(skipped, ends) == 0 {
-        return true;
-    }
-    check_digits::ends_right(
-        rule,
-        stretches::stretch(skipped, skipped + joins - 1, ends, s),
-    )
+    let skipped = usize::from(g.skipped);
+    let joins = usize::from(g.joins);
+    joins == 0
+        || parts::end_of(skipped, ends) == 0
+        || check_digits::ends_right(
+            g.rule,
+            stretches::stretch(skipped, skipped + joins - 1, ends, s),
+        )
 }
 
 // Whether each group of a text, whose parts end so, ends in its check digit.
@@ -37,11 +32,9 @@ pub fn groups_at(model: Model, ends: usize, s: &[u8]) -> bool
 }
 
 // Whether a text, whose parts end so, has all that its model asks of a formed one: contents and check digits.
+#[tactic(auto, unfolding(crate::specs::Mirror::obeys_at))]
 pub fn obeys_at(model: Model, ends: usize, s: &[u8]) -> bool
     ensures { result ≡ obeys_at model ends s.now }
 {
-    if !part_contents::contents_at(model, ends, s) {
-        return false;
-    }
-    groups_at(model, ends, s)
+    part_contents::contents_at(model, ends, s) && groups_at(model, ends, s)
 }

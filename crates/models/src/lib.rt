@@ -44,6 +44,9 @@ pub struct Model {
     pub groups: [Group; 4],
 }
 
+// The least and most digits of each part, unless a model says otherwise.
+const USUAL: [u8; 8] = [1, 12, 1, 12, 1, 12, 1, 12];
+
 // The group of the parts from `first` to `last`, counted from 1; `last` below `first` is no group.
 fn joined(rule: Rule, first: u8, last: u8) -> Group
     requires { (0 < first) × ((first ≤ last + 1) × (last < 5)) }
@@ -88,16 +91,10 @@ fn ruled(fewest: u8, most: u8, lengths: [u8; 8], g: Group, h: Group, k: Group) -
 fn holding(from: u8, a: Asked, b: Asked, model: Model) -> Model
     ensures { result ≡ holding from a b model }
 {
-    let lengths = model.lengths;
-    let groups = model.groups;
     Model {
-        handled: model.handled,
-        fewest: model.fewest,
-        most: model.most,
-        lengths,
         from,
         asked: [a, b],
-        groups,
+        ..model
     }
 }
 
@@ -105,11 +102,12 @@ fn holding(from: u8, a: Asked, b: Asked, model: Model) -> Model
 fn common(g: Group, h: Group, k: Group) -> Model
     ensures { result ≡ plain g h k }
 {
-    ruled(1, 3, [1, 12, 1, 12, 1, 12, 1, 12], g, h, k)
+    ruled(1, 3, USUAL, g, h, k)
 }
 
 // The rules of a model's number. Those above 11 are asked first: the neighbours that are left the compiler takes from a table, where
 // for all numbers together it jumps, and the processor guesses wrong.
+#[tactic(auto, unfolding(crate::specs::Models::model_of))]
 pub fn rules(n: usize) -> Model
     ensures { result ≡ model_of n }
 {
@@ -138,6 +136,7 @@ pub fn rules(n: usize) -> Model
 }
 
 // The rules of the models with lengths, contents or a check of their own; another number is not handled.
+#[tactic(auto, unfolding(crate::specs::Models::special_of))]
 fn special(n: usize) -> Model
     ensures { result ≡ special_of n }
 {
@@ -161,18 +160,10 @@ fn special(n: usize) -> Model
             asking(Content::Code, 3),
             ruled(2, 3, [5, 5, 11, 11, 3, 3, 1, 12], one, two, none),
         ),
-        99 => ruled(0, 0, [1, 12, 1, 12, 1, 12, 1, 12], none, none, none),
-        _ => {
-            let nothing = asking(Content::Number(0), 1);
-            Model {
-                handled: false,
-                fewest: 0,
-                most: 0,
-                lengths: [1, 12, 1, 12, 1, 12, 1, 12],
-                from: 0,
-                asked: [nothing, nothing],
-                groups: [none, none, none, none],
-            }
-        }
+        99 => ruled(0, 0, USUAL, none, none, none),
+        _ => Model {
+            handled: false,
+            ..ruled(0, 0, USUAL, none, none, none)
+        },
     }
 }

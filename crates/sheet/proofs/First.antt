@@ -1,6 +1,6 @@
 -- "with the first such line": the line that a refused sheet tells is its first malformed one.
 -- Assumes nothing.
-use Rattle.refusal.proofs.Basics.{◌≡◌, refl, sym, ap, ◌∙◌, arith, ℕ, ◌+◌, length, get_or, length-append, ne_eqb, eqb-true, List, [], ◌∷◌, ◌++◌, append_assoc, Bool, true, false, cond, eqb, ltb, false≢true, and-false, both_true}
+use Rattle.refusal.proofs.Basics.{◌≡◌, refl, sym, ap, ◌∙◌, arith, ℕ, ◌+◌, length, get_or, length-append, ne_eqb, List, [], ◌∷◌, ◌++◌, append_assoc, Bool, true, false, cond, eqb, ltb, false≢true, and-false, both_true}
 use Rattle.classes.specs.Classes.{permits}
 use Rattle.classes.specs.declared.Class.TheVariants.{Line}
 use Rattle.text.specs.Bytes.{all_of}
@@ -14,7 +14,7 @@ use Rattle.sheet.specs.Sheet.{line_number, is_right, bad_from, bad_line}
 use Rattle.sheet.specs.Claims.{FieldLine, line_of, sheet_text, field_of, RightLines, none, more, FirstMalformed}
 use Rattle.sheet.proofs.Laws.{numbered}
 use Rattle.sheet.proofs.Tables.{right_above}
-use Rattle.sheet.proofs.Theorems.{number_free, line_right}
+use Rattle.sheet.proofs.Theorems.{number_free, line_right, obeyed}
 
 -- ---------------------------------------------------------------------------
 -- Pieces between line feeds have none
@@ -102,7 +102,7 @@ stops_later k last p q ps e w =
     record {
       before = field_of p ∷ w.before;
       rest = w.rest;
-      right = more a n.standing (eqb-true _ 0 (both_true (ltb last (line_number p)) _ e).1) w.right;
+      right = more a n.standing (obeyed _ (both_true (ltb last (line_number p)) _ e).1) w.right;
       counted = rw e (w.counted ∙ omega arith);
       whole = append_assoc p (10 ∷ join_lines (lines_among (q ∷ ps))) (last_piece (q ∷ ps)) ∙ (rw (w.whole, ← n.whole) (sym (append_assoc p (10 ∷ sheet_text w.before) w.rest)));
       there = w.there;

@@ -86,7 +86,7 @@ written_back ls w = rw (split_joined (each_free w), lines_closed (map (λ (l : F
 -- A right sheet is written from its fields, which are right
 
 -- a verdict that is not an error refuses nothing
-obeyed : (v : Verdict) → is_ok v ≡ true → v ≡ passed
+pub obeyed : (v : Verdict) → is_ok v ≡ true → v ≡ passed
 obeyed (Ok u) e = refl
 obeyed (Err f) e = absurd (false≢true e)
 

@@ -1,11 +1,10 @@
 -- How the loops go through a slip piece by piece.
 -- Assumes nothing.
-use Rattle.refusal.proofs.Basics.{◌≡◌, refl, sym, ap, ◌∙◌, arith, ℕ, ◌+◌, ◌-◌, ◌≤◌, ◌<◌, length, take, drop, get_or, length-drop, ne_eqb, eq-eqb, le-leb, lt-leb, List, [], ◌∷◌, true, false, eqb, leb, length-take-le, left, entered, and_first, and_second}
+use Rattle.refusal.proofs.Basics.{◌≡◌, refl, sym, ap, ◌∙◌, arith, ℕ, ◌+◌, ◌-◌, ◌≤◌, ◌<◌, length, take, drop, get_or, length-drop, ne_eqb, eq-eqb, le-leb, List, [], ◌∷◌, true, false, eqb, leb, length-take-le, entered, and_first, and_second}
 use Rattle.std.specs.Prelude.{Some, None, Ok, Err}
-use Rattle.refusal.specs.Refusal.{Answer, none, first_of}
+use Rattle.refusal.specs.Refusal.{Answer, first_of}
 use Rattle.verdict.specs.Verdict.{answer_at}
 use Rattle.refusal.specs.declared.Refusal.{Refusal}
-use Rattle.refusal.specs.declared.Refusal.TheVariants.{Size, Ends}
 use Rattle.text.specs.Bytes.{first_bad, count_of}
 use Rattle.classes.specs.declared.Class.TheVariants.{Line}
 use Rattle.text.specs.Split.{split}
@@ -106,17 +105,7 @@ module _ (c : Currency) (s : List ℕ) (n before end at : ℕ) (w : Reached c s 
 -- The slip, and a field of it
 
 module _ (c : Currency) (s : List ℕ) where
-  -- 1
-  pub too_long : 483 < length s → Err (Size none) ≡ slip_answer_in c s
-  unfolding slip_answer_in
-  too_long h = left (leb (length s) 483) _ _ _ (lt-leb (length s) 483 h) refl
-
-  -- then 2
-  pub ends_wrong : length s ≤ 483 → slip_ends s ≡ false → Err (Ends none) ≡ slip_answer_in c s
-  unfolding slip_answer_in
-  ends_wrong h e = entered (leb (length s) 483) _ _ _ (le-leb (length s) 483 h) (left (slip_ends s) _ _ _ e refl)
-
-  -- then the fields
+  -- 1, then 2, then the fields
   pub fields_judged : (r : Answer) → length s ≤ 483 → slip_ends s ≡ true → r ≡ fields_answer c 1 0 [] (split 10 s) → r ≡ slip_answer_in c s
   unfolding slip_answer_in
   fields_judged r h e f = entered (leb (length s) 483) _ _ _ (le-leb (length s) 483 h) (entered (slip_ends s) _ _ _ e f)

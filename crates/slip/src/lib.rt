@@ -46,30 +46,19 @@ fn judge_fields(currency: Currency, s: &[u8]) -> Answer
     let mut before: usize = 0;
     let mut end: usize = 0;
     let mut at: usize = 0;
-    loop {
-        match text::first_bad(Class::Line, &s[at..]) {
-            Some(i) => {
-                let stop = at + i;
-                match judge_one(currency, n, at, &s[before..end], &s[at..stop]) {
-                    Ok(()) => {
-                        before = at;
-                        end = stop;
-                        at = stop + 1;
-                        n += 1;
-                    }
-                    Err(r) => {
-                        return Err(r);
-                    }
-                }
-            }
-            None => {
-                return Ok(());
-            }
-        }
+    while let Some(i) = text::first_bad(Class::Line, &s[at..]) {
+        let stop = at + i;
+        judge_one(currency, n, at, &s[before..end], &s[at..stop])?;
+        before = at;
+        end = stop;
+        at = stop + 1;
+        n += 1;
     }
+    Ok(())
 }
 
 // A slip in a currency: 1, 2, then its fields in order, each refusal with its field and byte.
+#[tactic(auto, unfolding(crate::specs::Slip::slip_answer_in))]
 pub fn read_in(currency: Currency, s: &[u8]) -> Answer
     ensures { result ≡ slip_answer_in currency s.now }
 {

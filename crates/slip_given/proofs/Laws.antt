@@ -1,53 +1,48 @@
 -- Fields judged one after the other.
 -- Assumes nothing.
-use Rattle.refusal.proofs.Basics.{◌≡◌, refl, sym, ap, ◌∙◌, arith, ℕ, zero, suc, ◌+◌, ◌≤◌, ◌<◌, length, get_or, List, [], ◌∷◌, ◌++◌, ◌⊎◌, inl, inr, ⊎_elim, add-zero}
-use Rattle.std.specs.Prelude.{Ok, Err}
+use Rattle.refusal.proofs.Basics.{◌≡◌, refl, sym, ap, ◌∙◌, arith, ℕ, zero, suc, ◌+◌, ◌≤◌, ◌<◌, length, get_or, List, [], ◌∷◌, ◌⊎◌, inl, inr, ⊎_elim, add-zero}
+use Rattle.std.specs.Prelude.{Ok, Err, drop}
 use Rattle.refusal.specs.Refusal.{Answer, refusal_place, first_of}
 use Rattle.refusal.specs.declared.Place.{Place}
 use Rattle.refusal.specs.declared.Refusal.{Refusal}
 use Rattle.refusal.proofs.Theorems.{refused_not_accepted}
 use Rattle.verdict.specs.Verdict.{passed, verdict_byte, answer_in}
-use Rattle.verdict.proofs.Verdicts.{first_joined, accepted_answer, told_place_lem}
+use Rattle.verdict.proofs.Verdicts.{accepted_answer, told_place_lem}
 use Rattle.slip_fields.specs.declared.Currency.TheVariants.{Euro}
 use Rattle.slip_fields.specs.Fields.{field_verdict}
-use Rattle.slip_given.specs.Given.{given_answer}
+use Rattle.std.specs.Borrow.{Bor}
+use Rattle.std.proofs.lemmas.List.{drop_more}
+use Rattle.slip_given.specs.Given.{given_answer, texts}
 
 -- ---------------------------------------------------------------------------
 -- Answers one after another
 
--- the last of the fields, or the one before them
-abbrev pub last_of : List ℕ → List (List ℕ) → List ℕ
-last_of m [] = m
-last_of m (p ∷ ps) = last_of p ps
+-- where no field is: nothing lent
+abbrev pub nothing_lent : Bor (List ℕ)
+nothing_lent = record { ref_ptr = (0, 0); now = [] }
 
--- fields after fields
-pub given_append :
-    (n : ℕ) (m : List ℕ) (ps qs : List (List ℕ))
-    → given_answer n m (ps ++ qs) ≡ first_of (given_answer n m ps) (given_answer (n + length ps) (last_of m ps) qs)
-unfolding given_answer
-given_append n m [] qs = rw add-zero
-given_append n m (p ∷ ps) qs =
-    let e : n + suc (length ps) ≡ n + 1 + length ps = omega arith in
-    rw (given_append (n + 1) p ps qs, e) (first_joined (answer_in n (field_verdict Euro n m p)) _ _)
+-- an answer, and nothing behind it
+first_alone : (a : Answer) → a ≡ first_of a (Ok tt)
+first_alone (Ok u) = refl
+first_alone (Err r) = refl
 
 -- one field
 pub one_given : (n : ℕ) (m s : List ℕ) (x : Answer) → x ≡ answer_in n (field_verdict Euro n m s) → x ≡ given_answer n m (s ∷ [])
 unfolding given_answer
-one_given n m s x e = e ∙ alone (answer_in n (field_verdict Euro n m s))
-  where
-    alone : (a : Answer) → a ≡ first_of a (Ok tt)
-    alone (Ok u) = refl
-    alone (Err r) = refl
+one_given n m s x e = e ∙ first_alone (answer_in n (field_verdict Euro n m s))
 
-module _ (n : ℕ) (m : List ℕ) {x : Answer} where
-  module _ (ps qs : List (List ℕ)) (e : x ≡ given_answer n m ps) where
-    -- refused among the first
-    pub refused_first : (r : Refusal) → x ≡ Err r → Err r ≡ given_answer n m (ps ++ qs)
-    refused_first r g = rw (given_append n m ps qs, sym e ∙ g)
+-- the lent fields from place i on: the first of them, then those behind it
+module _ (fields : List (Bor (List ℕ))) (i n : ℕ) (m : List ℕ) (h : i < length fields) {x : Answer} where
+  module _ (e : x ≡ given_answer n m ((get_or fields i nothing_lent).now ∷ [])) where
+    -- it is refused
+    pub refused_first : (r : Refusal) → x ≡ Err r → Err r ≡ given_answer n m (texts (drop i fields))
+    unfolding given_answer
+    refused_first r g = rw (drop_more fields i nothing_lent h, first_alone (answer_in n (field_verdict Euro n m (get_or fields i nothing_lent).now)), sym e ∙ g)
 
-    -- the first accepted: the answer of the others
-    pub accepted_next : (y : Answer) → x ≡ Ok tt → y ≡ given_answer (n + length ps) (last_of m ps) qs → y ≡ given_answer n m (ps ++ qs)
-    accepted_next y g h = rw (given_append n m ps qs, sym e ∙ g) h
+    -- it is accepted
+    pub accepted_next : x ≡ Ok tt → given_answer n m (texts (drop i fields)) ≡ given_answer (n + 1) (get_or fields i nothing_lent).now (texts (drop (i + 1) fields))
+    unfolding given_answer
+    accepted_next g = rw (drop_more fields i nothing_lent h, first_alone (answer_in n (field_verdict Euro n m (get_or fields i nothing_lent).now)), sym e ∙ g)
 
 -- ---------------------------------------------------------------------------
 -- A refusal is told of a field that is not right

@@ -1,6 +1,7 @@
 -- Document 01, "The slip's fourteen fields": what a writer of slips answers of the fields that it is given.
-use Rattle.std.specs.Prelude.{ℕ, ◌+◌, List, [], ◌∷◌, Ok}
+use Rattle.std.specs.Prelude.{ℕ, ◌+◌, List, [], ◌∷◌, map, Ok}
 use Rattle.refusal.specs.Refusal.{Answer, first_of}
+use Rattle.std.specs.Borrow.{Bor}
 use Rattle.verdict.specs.Verdict.{answer_in}
 use Rattle.slip_fields.specs.declared.Currency.TheVariants.{Euro}
 use Rattle.slip_fields.specs.Fields.{field_verdict}
@@ -15,6 +16,10 @@ four a b c d = a ∷ three b c d
 -- the fields 4 to 14
 abbrev pub eleven : List ℕ → List ℕ → List ℕ → List ℕ → List ℕ → List ℕ → List ℕ → List ℕ → List ℕ → List ℕ → List ℕ → List (List ℕ)
 eleven a b c d e f g h i j k = a ∷ (b ∷ (c ∷ (d ∷ (e ∷ (f ∷ (g ∷ four h i j k))))))
+
+-- the texts of some lent slices
+abbrev pub texts : List (Bor (List ℕ)) → List (List ℕ)
+texts fields = map (λ f. f.now) fields
 
 -- "It refuses as the reader does, in field order, the byte of a 3 counted within its field and 0 otherwise": from field n on, after m
 unfoldable pub given_answer : ℕ → List ℕ → List (List ℕ) → Answer

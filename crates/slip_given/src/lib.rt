@@ -4,8 +4,8 @@
 // name, `slip_fields::judge_field`; a refusal is told of the field, the byte of a 3 counted within it.
 #![tactic(auto)]
 
-ghost use Rattle.std.specs.Prelude.{◌≡◌, [], ◌∷◌, ◌≤◌};
-ghost use Rattle.slip_given.specs.Given.{given_answer, three, four, eleven};
+ghost use Rattle.std.specs.Prelude.{◌≡◌, [], ◌∷◌};
+ghost use Rattle.slip_given.specs.Given.{given_answer, texts};
 
 use refusal::Answer;
 use slip_fields::Currency;
@@ -17,42 +17,14 @@ fn judge_one(n: usize, before: &[u8], s: &[u8]) -> Answer
     verdict::answer_in(slip_fields::judge_field(Currency::Euro, n, before, s), n)
 }
 
-// Three fields from field n on.
-fn judge_three(n: usize, before: &[u8], a: &[u8], b: &[u8], c: &[u8]) -> Answer
-    requires { n ≤ 14 }
-    ensures { result ≡ given_answer n before.now (three a.now b.now c.now) }
+// The fields 4 to 14, each after the one before it.
+pub fn judge_given(fields: &[&[u8]; 11]) -> Answer
+    ensures { result ≡ given_answer 4 [] (texts fields.now) }
 {
-    judge_one(n, before, a)?;
-    judge_one(n + 1, a, b)?;
-    judge_one(n + 2, b, c)
-}
-
-// Four fields from field n on.
-fn judge_four(n: usize, before: &[u8], a: &[u8], b: &[u8], c: &[u8], d: &[u8]) -> Answer
-    requires { n ≤ 13 }
-    ensures { result ≡ given_answer n before.now (four a.now b.now c.now d.now) }
-{
-    judge_one(n, before, a)?;
-    judge_three(n + 1, a, b, c, d)
-}
-
-// The fields 4 to 14.
-pub fn judge_given(
-    f4: &[u8],
-    f5: &[u8],
-    f6: &[u8],
-    f7: &[u8],
-    f8: &[u8],
-    f9: &[u8],
-    f10: &[u8],
-    f11: &[u8],
-    f12: &[u8],
-    f13: &[u8],
-    f14: &[u8],
-) -> Answer
-    ensures { result ≡ given_answer 4 [] (eleven f4.now f5.now f6.now f7.now f8.now f9.now f10.now f11.now f12.now f13.now f14.now) }
-{
-    judge_four(4, b"", f4, f5, f6, f7)?;
-    judge_three(8, f7, f8, f9, f10)?;
-    judge_four(11, f10, f11, f12, f13, f14)
+    let mut before: &[u8] = b"";
+    for (i, s) in fields.iter().enumerate() {
+        judge_one(i + 4, before, s)?;
+        before = s;
+    }
+    Ok(())
 }

@@ -1,15 +1,14 @@
 -- Where the pieces of a text stand between its line feeds, and the fields that a slip hands back.
 -- Assumes nothing.
-use Rattle.refusal.proofs.Basics.{◌≡◌, refl, sym, ap, ◌∙◌, arith, ℕ, zero, suc, ◌+◌, ◌-◌, ◌≤◌, ◌<◌, length, take, drop, length-drop, le-leb, List, [], ◌∷◌, Bool, true, false, cond, drop-drop, length-take-le, take_all, zero-add, add-zero, entered}
+use Rattle.refusal.proofs.Basics.{◌≡◌, refl, sym, ap, ◌∙◌, arith, ℕ, zero, suc, ◌+◌, ◌-◌, ◌≤◌, ◌<◌, length, take, drop, length-drop, List, [], ◌∷◌, Bool, true, false, cond, drop-drop, length-take-le, take_all, zero-add, add-zero}
 use Rattle.std.specs.Prelude.{Option, Some, None}
-use Rattle.refusal.specs.Refusal.{is_accepted}
 use Rattle.text.specs.Bytes.{first_bad}
 use Rattle.classes.specs.declared.Class.TheVariants.{Line}
 use Rattle.text.specs.declared.Part.{Part}
 use Rattle.text.specs.Split.{split}
 use Rattle.text.proofs.Laws.{to_the_end}
 use Rattle.slip_fields.specs.declared.Currency.{Currency}
-use Rattle.slip.specs.Slip.{slip_answer_in, piece_of}
+use Rattle.slip.specs.Slip.{piece_of}
 use Rattle.text.proofs.Pieces.{first_piece, split_at, split_whole}
 use Rattle.slip_handed.specs.Handed.{piece_start, piece_part, is_handed, field_part_in, field_in}
 
@@ -95,14 +94,6 @@ piece_stands (suc k) s = go (first_bad Line s) refl (λ t. piece_stands k t)
 -- Fields
 
 module _ (c : Currency) (s : List ℕ) (n : ℕ) where
-  pub not_handed : is_handed c s n ≡ false → record { start = 0; length = 0 } ≡ field_part_in c s n
-  unfolding field_part_in
-  not_handed e = rw e
-
-  pub handed : (p : Part) → 4 ≤ n → n ≤ 14 → is_accepted (slip_answer_in c s) ≡ true → p ≡ piece_part (n - 1) (split 10 s) → p ≡ field_part_in c s n
-  unfolding field_part_in
-  handed p g h e f = entered (is_handed c s n) _ _ p (rw (le-leb 4 n g, le-leb n 14 h, e)) f
-
   -- it is the field
   pub field_stands : Stands s (field_in c s n) (field_part_in c s n)
   unfolding field_part_in field_in

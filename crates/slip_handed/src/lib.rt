@@ -22,7 +22,7 @@ use text::Part;
 fn is_accepted(currency: Currency, s: &[u8]) -> bool
     ensures { result ≡ is_accepted (slip_answer_in currency s.now) }
 {
-    refusal::is_accepted(slip::read_in(currency, s))
+    slip::read_in(currency, s).is_ok()
 }
 
 // How many bytes the first piece of a text has: up to its first line feed, or all of them.
@@ -76,6 +76,7 @@ pub fn piece_text(s: &[u8], k: usize) -> &[u8]
 }
 
 // Where a field of an accepted slip in a currency stands, 4 to 14; else no part.
+#[tactic(auto, unfolding(crate::specs::Handed::field_part_in))]
 pub fn part_in(currency: Currency, s: &[u8], n: usize) -> Part
     ensures { result ≡ field_part_in currency s.now n }
 {
@@ -120,11 +121,10 @@ pub fn field(s: &[u8], n: usize) -> &[u8]
 // Its amount
 
 // The amount of a euro slip in cents.
+#[tactic(auto, using(crate::proofs::Amounts::cents_read))]
 pub fn cents(s: &[u8]) -> Result<u64, Refusal>
     ensures { result ≡ slip_cents s.now }
 {
-    match slip::read(s) {
-        Ok(()) => Ok(sums::number(piece_text(s, 2))),
-        Err(r) => Err(r),
-    }
+    slip::read(s)?;
+    Ok(sums::number(piece_text(s, 2)))
 }

@@ -1,6 +1,6 @@
 -- Laws of texts written one behind another, of fields judged one after another, and of what the writer answers. Assumes nothing.
-use Rattle.refusal.proofs.Basics.{◌≡◌, refl, sym, ◌∙◌, arith, ℕ, ◌+◌, ◌≤◌, ◌<◌, length, set, length-append, lt-ltb, le-ltb, List, [], ◌∷◌, ◌++◌, append_assoc}
-use Rattle.std.specs.Prelude.{Result, Ok, Err}
+use Rattle.refusal.proofs.Basics.{◌≡◌, refl, sym, ap, ◌∙◌, arith, ℕ, ◌+◌, ◌≤◌, ◌<◌, length, get_or, set, length-append, lt-ltb, le-ltb, List, [], ◌∷◌, ◌++◌, append_assoc}
+use Rattle.std.specs.Prelude.{Result, Ok, Err, drop, take, sum_by}
 use Rattle.refusal.specs.Refusal.{Answer, none}
 use Rattle.refusal.specs.declared.Place.{Place}
 use Rattle.refusal.specs.declared.Refusal.{Refusal}
@@ -8,10 +8,15 @@ use Rattle.refusal.specs.declared.Refusal.TheVariants.{Length, Room}
 use Rattle.text.specs.Bytes.{eur}
 use Rattle.text.specs.Digits.{digits_text}
 use Rattle.text.specs.Stands.{Stands}
-use Rattle.text.proofs.Stands.{stands_append, stands_length}
+use Rattle.text.proofs.Stands.{front_stands, stands_append, stands_length}
 use Rattle.slip_fields.specs.Fields.{hrvhub30}
 use Rattle.room.proofs.Digits.{digits_length}
-use Rattle.slip_given.specs.Given.{given_answer, three}
+use Rattle.std.specs.Borrow.{Bor}
+use Rattle.std.proofs.lemmas.List.{take-append-drop, map-append, append-nil, drop_all, drop_more, take_more}
+use Rattle.std.proofs.lemmas.List.Sums.{sum_by-cons}
+use Rattle.std.proofs.lemmas.List.Edits.{sets}
+use Rattle.slip_given.specs.Given.{given_answer, three, texts}
+use Rattle.slip_given.proofs.Laws.{nothing_lent}
 use Rattle.text.specs.Lines.{join_lines}
 use Rattle.slip_writer.specs.Writer.{slip_text, written_in_room, write_answer}
 use Rattle.slip_writer.specs.Steps.{WritesSlip, WritesAccepted}
@@ -69,12 +74,40 @@ room_next ps qs h w = omega (arith, both_length ps qs, w.counted, stands_length 
 pub room_feed : (s : List ℕ) {b after : List ℕ} {at next : ℕ} → at + length (join_lines (s ∷ [])) ≤ length b → Stands b at s next after → next < length after
 room_feed s h w = omega (arith, line_length s, w.counted, stands_length w)
 
+-- the lent lines up to place i, then the line there, then those behind it
+module _ (lines : List (Bor (List ℕ))) (i : ℕ) (h : i < length lines) where
+  abbrev pub this : List ℕ
+  this = (get_or lines i nothing_lent).now
+
+  lines_split : texts lines ≡ texts (take i lines) ++ (this ∷ texts (drop (i + 1) lines))
+  lines_split = sym (ap texts (take-append-drop i lines)) ∙ map-append _ _ _ ∙ ap (λ ls. texts (take i lines) ++ texts ls) (drop_more lines i nothing_lent h)
+
+  -- there is room for the line there
+  pub room_there : {b after : List ℕ} {at next : ℕ} → at + length (join_lines (texts lines)) ≤ length b → Stands b at (join_lines (texts (take i lines))) next after → next + length (join_lines (this ∷ [])) ≤ length after
+  room_there r w = room_first (this ∷ []) (texts (drop (i + 1) lines)) _ _ (room_next (texts (take i lines)) (this ∷ texts (drop (i + 1) lines)) (rw lines_split at r) w)
+
+  -- behind the lines up to there stands the line there
+  pub lines_more : {b b₁ b₂ : List ℕ} {at n₁ n₂ : ℕ} → Stands b at (join_lines (texts (take i lines))) n₁ b₁ → Stands b₁ n₁ (join_lines (this ∷ [])) n₂ b₂ → Stands b at (join_lines (texts (take (i + 1) lines))) n₂ b₂
+  lines_more v w = rw (take_more lines i nothing_lent h, map-append) (lines_stand (texts (take i lines)) (this ∷ []) v w)
+
+-- the size of lent lines is the sum of theirs
+pub lines_sum : (lines : List (Bor (List ℕ))) → length (join_lines (texts lines)) ≡ sum_by (λ s. length s.now + 1) lines
+unfolding join_lines
+lines_sum [] = refl
+lines_sum (p ∷ ps) = lines_length p.now (texts ps) ∙ rw (lines_sum ps, sum_by-cons)
+
 -- ---------------------------------------------------------------------------
--- The slip in four parts: its head, and its fields in three
+-- The slip in two parts: its head, and its fields
 
 -- the fields 1 to 3
 abbrev pub head_of : ℕ → List (List ℕ)
 head_of cents = three hrvhub30 eur (digits_text 15 cents)
+
+-- the amount, put into fifteen bytes
+pub amount_digits : (cents : ℕ) (b : List ℕ) {s : List ℕ} → length b ≡ 15 → s ≡ sets b 0 (digits_text 15 cents) → s ≡ digits_text 15 cents
+amount_digits cents b {s} h e =
+    let n = digits_length 15 cents in
+    front_stands b s (digits_text 15 cents) _ (record { counted = refl; content = e }) (omega (arith, n, h)) ∙ rw (drop_all (length (digits_text 15 cents)) b (omega (arith, n, h)), append-nil)
 
 -- their size
 pub head_length : (cents : ℕ) → length (join_lines (head_of cents)) ≡ 29
@@ -85,23 +118,15 @@ pub slip_length : (cents : ℕ) (ps : List (List ℕ)) → length (slip_text cen
 unfolding slip_text
 slip_length cents ps = omega (arith, both_length (head_of cents) ps, head_length cents)
 
-module _ (cents : ℕ) (ps qs rs : List (List ℕ)) where
-  -- by its parts
-  pub slip_size : length (slip_text cents (ps ++ (qs ++ rs))) ≡ 29 + length (join_lines ps) + length (join_lines qs) + length (join_lines rs)
-  slip_size = omega (arith, slip_length cents (ps ++ (qs ++ rs)), both_length ps (qs ++ rs), both_length qs rs)
-
+module _ (cents : ℕ) (ps : List (List ℕ)) where
   -- room for the slip
-  pub slip_room :
-      (room : ℕ) → 29 + length (join_lines ps) + length (join_lines qs) + length (join_lines rs) ≤ room
-      → 0 + length (join_lines (head_of cents ++ (ps ++ (qs ++ rs)))) ≤ room
-  slip_room room h = omega (arith, both_length (head_of cents) (ps ++ (qs ++ rs)), head_length cents, both_length ps (qs ++ rs), both_length qs rs)
+  pub slip_room : (room : ℕ) → 29 + length (join_lines ps) ≤ room → 0 + length (join_lines (head_of cents ++ ps)) ≤ room
+  slip_room room h = omega (arith, both_length (head_of cents) ps, head_length cents)
 
   -- the slip stands at the front
-  pub slip_stands :
-      {b b₁ b₂ b₃ b₄ : List ℕ} {n₁ n₂ n₃ n₄ : ℕ} → Stands b 0 (join_lines (head_of cents)) n₁ b₁ → Stands b₁ n₁ (join_lines ps) n₂ b₂
-      → Stands b₂ n₂ (join_lines qs) n₃ b₃ → Stands b₃ n₃ (join_lines rs) n₄ b₄ → Stands b 0 (slip_text cents (ps ++ (qs ++ rs))) n₄ b₄
+  pub slip_stands : {b b₁ b₂ : List ℕ} {n₁ n₂ : ℕ} → Stands b 0 (join_lines (head_of cents)) n₁ b₁ → Stands b₁ n₁ (join_lines ps) n₂ b₂ → Stands b 0 (slip_text cents ps) n₂ b₂
   unfolding slip_text
-  slip_stands v w x y = lines_stand (head_of cents) (ps ++ (qs ++ rs)) v (lines_stand ps (qs ++ rs) w (lines_stand qs rs x y))
+  slip_stands v w = lines_stand (head_of cents) ps v w
 
 -- more than there is room for: refused
 pub room_refused :

@@ -8,7 +8,7 @@ use Rattle.slip_fields.specs.declared.Currency.TheVariants.{Euro}
 use Rattle.slip_fields.specs.Fields.{field_verdict}
 use Rattle.slip_fields.specs.Sizes.{size_of}
 use Rattle.slip_fields.proofs.Theorems.{field_size}
-use Rattle.slip_given.specs.Given.{given_answer, eleven}
+use Rattle.slip_given.specs.Given.{given_answer}
 use Rattle.text.specs.Lines.{join_lines}
 use Rattle.slip_writer.specs.Writer.{slip_text}
 use Rattle.slip_writer.proofs.Laws.{lines_length, slip_length}
@@ -38,7 +38,6 @@ sizes_eleven = refl
 
 -- the slip of accepted fields
 pub accepted_small :
-    (cents : ℕ) (a b c d e f g h i j k : List ℕ) {x : Answer} → x ≡ given_answer 4 [] (eleven a b c d e f g h i j k) → x ≡ Ok tt
-    → length (slip_text cents (eleven a b c d e f g h i j k)) ≤ 483
-accepted_small cents a b c d e f g h i j k v w =
-    omega (arith, slip_length cents (eleven a b c d e f g h i j k), given_size 4 [] (eleven a b c d e f g h i j k) (sym v ∙ w), sizes_eleven)
+    (cents : ℕ) (fields : List (List ℕ)) {x : Answer} → length fields ≡ 11 → x ≡ given_answer 4 [] fields → x ≡ Ok tt
+    → length (slip_text cents fields) ≤ 483
+accepted_small cents fields e v w = omega (arith, slip_length cents fields, rw e at (given_size 4 [] fields (sym v ∙ w)), sizes_eleven)

@@ -9,7 +9,7 @@ ghost use Rattle.text.specs.Bytes.{eur};
 ghost use Rattle.text.specs.Digits.{digits_text};
 ghost use Rattle.text.specs.Lines.{join_lines};
 ghost use Rattle.slip_writer.specs.Writer.{slip_text};
-ghost use Rattle.slip_given.specs.Given.{three, four, eleven};
+ghost use Rattle.slip_given.specs.Given.{three, texts};
 ghost use Rattle.text.specs.Stands.{Stands};
 ghost use Rattle.slip_writer.specs.Steps.{WritesSlip, WritesAccepted};
 
@@ -37,23 +37,16 @@ fn put_line(out: &mut [u8], at: usize, s: &[u8]) -> usize
     next + 1
 }
 
-// Fifteen digits of an amount.
-fn put_amount(out: &mut [u8], at: usize, cents: u64) -> usize
-    requires { at + 15 ≤ length out.old }
-    ensures { Stands out.old at (digits_text 15 cents) result out.new }
+// Some texts, a line each.
+fn put_lines(out: &mut [u8], at: usize, lines: &[&[u8]]) -> usize
+    requires { at + length (join_lines (texts lines.now)) ≤ length out.old }
+    ensures { Stands out.old at (join_lines (texts lines.now)) result out.new }
 {
-    room::put_digits(out, at, 15, cents);
-    at + 15
-}
-
-// Fifteen digits of an amount, and a line feed.
-fn put_amount_line(out: &mut [u8], at: usize, cents: u64) -> usize
-    requires { at + length (join_lines (digits_text 15 cents ∷ [])) ≤ length out.old }
-    ensures { Stands out.old at (join_lines (digits_text 15 cents ∷ [])) result out.new }
-{
-    let next = put_amount(out, at, cents);
-    out[next] = 10;
-    next + 1
+    let mut next = at;
+    for s in lines {
+        next = put_line(out, next, s);
+    }
+    next
 }
 
 // The fields 1 to 3, at the front.
@@ -61,102 +54,41 @@ fn put_head(out: &mut [u8], cents: u64) -> usize
     requires { 0 + length (join_lines (three hrvhub30 eur (digits_text 15 cents))) ≤ length out.old }
     ensures { Stands out.old 0 (join_lines (three hrvhub30 eur (digits_text 15 cents))) result out.new }
 {
-    let first = put_line(out, 0, b"HRVHUB30");
-    let second = put_line(out, first, b"EUR");
-    put_amount_line(out, second, cents)
-}
-
-// Three fields.
-fn put_three(out: &mut [u8], at: usize, a: &[u8], b: &[u8], c: &[u8]) -> usize
-    requires { at + length (join_lines (three a.now b.now c.now)) ≤ length out.old }
-    ensures { Stands out.old at (join_lines (three a.now b.now c.now)) result out.new }
-{
-    let first = put_line(out, at, a);
-    let second = put_line(out, first, b);
-    put_line(out, second, c)
-}
-
-// Four fields.
-fn put_four(out: &mut [u8], at: usize, a: &[u8], b: &[u8], c: &[u8], d: &[u8]) -> usize
-    requires { at + length (join_lines (four a.now b.now c.now d.now)) ≤ length out.old }
-    ensures { Stands out.old at (join_lines (four a.now b.now c.now d.now)) result out.new }
-{
-    let first = put_line(out, at, a);
-    put_three(out, first, b, c, d)
-}
-
-// ---------------------------------------------------------------------------
-// Sizes, with the line feeds
-
-// Of three fields.
-fn size_three(a: &[u8], b: &[u8], c: &[u8]) -> usize
-    requires { length (join_lines (three a.now b.now c.now)) ≤ 483 }
-    ensures { result ≡ length (join_lines (three a.now b.now c.now)) }
-{
-    a.len() + b.len() + c.len() + 3
-}
-
-// Of four fields.
-fn size_four(a: &[u8], b: &[u8], c: &[u8], d: &[u8]) -> usize
-    requires { length (join_lines (four a.now b.now c.now d.now)) ≤ 483 }
-    ensures { result ≡ length (join_lines (four a.now b.now c.now d.now)) }
-{
-    a.len() + 1 + size_three(b, c, d)
+    let mut amount = [0; 15];
+    room::put_digits(&mut amount, 0, 15, cents);
+    put_lines(out, 0, &[b"HRVHUB30", b"EUR", &amount])
 }
 
 // ---------------------------------------------------------------------------
 // The slip
 
-// Writes the slip of accepted fields, if there is room.
-fn write_accepted(
-    cents: u64,
-    f4: &[u8],
-    f5: &[u8],
-    f6: &[u8],
-    f7: &[u8],
-    f8: &[u8],
-    f9: &[u8],
-    f10: &[u8],
-    f11: &[u8],
-    f12: &[u8],
-    f13: &[u8],
-    f14: &[u8],
-    out: &mut [u8],
-) -> Result<usize, Refusal>
-    requires { length (slip_text cents (eleven f4.now f5.now f6.now f7.now f8.now f9.now f10.now f11.now f12.now f13.now f14.now)) ≤ 483 }
-    ensures { WritesAccepted cents (eleven f4.now f5.now f6.now f7.now f8.now f9.now f10.now f11.now f12.now f13.now f14.now) out.old result out.new }
+// The size of some lines, with the line feeds.
+#[tactic(auto, using(crate::proofs::Laws::lines_sum))]
+fn size_of(lines: &[&[u8]]) -> usize
+    requires { length (join_lines (texts lines.now)) ≤ 483 }
+    ensures { result ≡ length (join_lines (texts lines.now)) }
 {
-    let front = 29 + size_four(f4, f5, f6, f7);
-    let middle = front + size_three(f8, f9, f10);
-    let size = middle + size_four(f11, f12, f13, f14);
+    lines.iter().map(|s| s.len() + 1).sum()
+}
+
+// Writes the slip of accepted fields, if there is room.
+fn write_accepted(cents: u64, fields: &[&[u8]; 11], out: &mut [u8]) -> Result<usize, Refusal>
+    requires { length (slip_text cents (texts fields.now)) ≤ 483 }
+    ensures { WritesAccepted cents (texts fields.now) out.old result out.new }
+{
+    let size = 29 + size_of(fields);
     if out.len() < size {
         return Err(Refusal::Room(refusal::nowhere(), size));
     }
     let at = put_head(out, cents);
-    let at8 = put_four(out, at, f4, f5, f6, f7);
-    let at11 = put_three(out, at8, f8, f9, f10);
-    put_four(out, at11, f11, f12, f13, f14);
+    put_lines(out, at, fields);
     Ok(size)
 }
 
 // Writes the slip of an amount in cents and the fields 4 to 14 at the front of `out`; the bytes beyond it stay. Refusals: those of
 // the amount and of the fields, in their order, then 15.
-pub fn write(
-    cents: u64,
-    f4: &[u8],
-    f5: &[u8],
-    f6: &[u8],
-    f7: &[u8],
-    f8: &[u8],
-    f9: &[u8],
-    f10: &[u8],
-    f11: &[u8],
-    f12: &[u8],
-    f13: &[u8],
-    f14: &[u8],
-    out: &mut [u8],
-) -> Result<usize, Refusal>
-    ensures { WritesSlip cents (eleven f4.now f5.now f6.now f7.now f8.now f9.now f10.now f11.now f12.now f13.now f14.now) out.old result out.new }
+pub fn write(cents: u64, fields: &[&[u8]; 11], out: &mut [u8]) -> Result<usize, Refusal>
+    ensures { WritesSlip cents (texts fields.now) out.old result out.new }
 {
     if 1000000000000000 <= cents {
         return Err(Refusal::Length(Place {
@@ -165,8 +97,6 @@ pub fn write(
             byte: 0,
         }));
     }
-    slip_given::judge_given(
-        f4, f5, f6, f7, f8, f9, f10, f11, f12, f13, f14,
-    )?;
-    write_accepted(cents, f4, f5, f6, f7, f8, f9, f10, f11, f12, f13, f14, out)
+    slip_given::judge_given(fields)?;
+    write_accepted(cents, fields, out)
 }

@@ -57,8 +57,7 @@ fn write_filled<'a>(
 ) -> Result<usize, Refusal>
     ensures { WritesSlip cents (fields_by sizes.now text.now f a farm.now association.now) out.old result out.new }
 {
-    slip_writer::write(
-        cents,
+    let fields = [
         field(4, text, sizes, farm, association, f, a),
         field(5, text, sizes, farm, association, f, a),
         field(6, text, sizes, farm, association, f, a),
@@ -70,8 +69,8 @@ fn write_filled<'a>(
         field(12, text, sizes, farm, association, f, a),
         field(13, text, sizes, farm, association, f, a),
         field(14, text, sizes, farm, association, f, a),
-        out,
-    )
+    ];
+    slip_writer::write(cents, &fields, out)
 }
 
 // Writes a slip of an amount in cents and the fields 4 to 14, which stand one behind the other in `text`, at the front of

@@ -51,10 +51,8 @@ fn draft_in(
             break 'places;
         }
         let end = lent_fields::end_of(text, at, lent_fields::size_at(sizes, k - first));
-        match place(day, kind, t, k, &text[at..end], line) {
-            Ok(()) => at = end,
-            Err(r) => return Err(r),
-        }
+        place(day, kind, t, k, &text[at..end], line)?;
+        at = end;
     }
     Ok(())
 }

@@ -22,14 +22,14 @@ unfolding group_answer
 returns-in_err-judge c = sizes_right _ _ _ _ _ _ _ _ (sym c.is_lent_whole.ensures ∙ not-false _ c.if-not-is_lent_whole.false-raw)
     (day_right _ _ _ _ _ _ (sym c.is_date.ensures ∙ not-false _ c.if-not-is_date.false-raw)
     (kind_right _ _ c.args.kind _ _ _ (sym c.is_kind.ensures ∙ not-false _ c.if-not-is_kind.false-raw)
-    (refused_first _ _ _ _ _ (sym c.judge.ensures ∙ c.in_err-judge.is))))
+    (refused_first _ _ _ _ _ (sym c.judge.ensures ∙ c.in_err-judge.was))))
 
 pub write_judged-requires : goal.write_judged-requires
-write_judged-requires c = accepted_small _ _ _ (sym c.judge.ensures ∙ c.in_ok-judge.is)
+write_judged-requires c = accepted_small _ _ _ (sym c.judge.ensures ∙ c.in_ok-judge.was)
 
 pub returns : goal.returns
 unfolding group_answer
 returns c = sizes_right _ _ _ _ _ _ _ _ (sym c.is_lent_whole.ensures ∙ not-false _ c.if-not-is_lent_whole.false-raw)
     (day_right _ _ _ _ _ _ (sym c.is_date.ensures ∙ not-false _ c.if-not-is_date.false-raw)
     (kind_right _ _ c.args.kind _ _ _ (sym c.is_kind.ensures ∙ not-false _ c.if-not-is_kind.false-raw)
-    (accepted_first _ _ _ _ _ _ (sym c.judge.ensures ∙ c.in_ok-judge.is) c.write_judged.ensures)))
+    (accepted_first _ _ _ _ _ _ (sym c.judge.ensures ∙ c.in_ok-judge.was) c.write_judged.ensures)))

@@ -4,8 +4,8 @@ use Rattle.std.proofs.Common.{tests}
 use Rattle.std.proofs.lemmas.Iterator.{YieldsList-from_slice}
 use Rattle.std.proofs.lemmas.Iterator.Search.{all_from_yields_List}
 use Rattle.models.specs.declared.Group.{Group}
+use Rattle.models.proofs.Every.{all_every}
 use Rattle.groups.specs.Mirror.{group_at}
-use Rattle.groups.proofs.Laws.{all_every}
 use Rattle.groups.proofs.groups_at.Goals as goal
 
 pub returns : goal.returns

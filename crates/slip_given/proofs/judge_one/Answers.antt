@@ -1,4 +1,4 @@
--- `slip_writer::judge_one` meets its contract: a 3 keeps its byte. Assumes nothing.
+-- `slip_given::judge_one` meets its contract: a 3 keeps its byte. Assumes nothing.
 use Rattle.refusal.proofs.Basics.{◌∙◌}
 use Rattle.slip_given.proofs.Laws.{one_given}
 use Rattle.slip_given.proofs.judge_one.Goals as goal

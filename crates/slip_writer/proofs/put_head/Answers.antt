@@ -1,19 +1,10 @@
--- `slip_writer::put_head` meets its contract: one line behind another. Assumes nothing.
-use Rattle.refusal.proofs.Basics.{[], ◌∷◌}
-use Rattle.text.specs.Bytes.{eur}
-use Rattle.text.specs.Digits.{digits_text}
-use Rattle.slip_fields.specs.Fields.{hrvhub30}
-use Rattle.slip_writer.proofs.Laws.{room_first, room_next, lines_stand}
+-- `slip_writer::put_head` meets its contract: three lines, the amount the last. Assumes nothing.
+use Rattle.refusal.proofs.Basics.{refl}
+use Rattle.slip_writer.proofs.Laws.{amount_digits}
 use Rattle.slip_writer.proofs.put_head.Goals as goal
 
-pub put_line-first-requires : goal.put_line-first-requires
-put_line-first-requires c = room_first (hrvhub30 ∷ []) (eur ∷ (digits_text 15 c.args.cents ∷ [])) 0 _ c.requires
-
-pub put_line-second-requires : goal.put_line-second-requires
-put_line-second-requires c = room_first (eur ∷ []) (digits_text 15 c.args.cents ∷ []) _ _ (room_next (hrvhub30 ∷ []) (eur ∷ (digits_text 15 c.args.cents ∷ [])) c.requires c.put_line-first.ensures)
-
-pub put_amount_line-requires : goal.put_amount_line-requires
-put_amount_line-requires c = room_next (eur ∷ []) (digits_text 15 c.args.cents ∷ []) (room_next (hrvhub30 ∷ []) (eur ∷ (digits_text 15 c.args.cents ∷ [])) c.requires c.put_line-first.ensures) c.put_line-second.ensures
+pub put_lines-requires : goal.put_lines-requires
+put_lines-requires c = rw (amount_digits _ _ refl c.put_digits.ensures) c.requires
 
 pub returns : goal.returns
-returns c = lines_stand (hrvhub30 ∷ []) (eur ∷ (digits_text 15 c.args.cents ∷ [])) c.put_line-first.ensures (lines_stand (eur ∷ []) (digits_text 15 c.args.cents ∷ []) c.put_line-second.ensures c.put_amount_line.ensures)
+returns c = rw (← amount_digits _ _ refl c.put_digits.ensures) c.put_lines.ensures
