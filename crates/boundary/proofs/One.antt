@@ -20,3 +20,6 @@ accept_value_one κs a z z' w w' p q = p ∙ sym q
 
 pub refuse_value_one : One _ here.refuse_value.Kinds.ps here.refuse_value.Kinds.r here.refuse_value.Reads.Post
 refuse_value_one κs a z z' w w' p q = p ∙ sym q
+
+pub tell_valued_one : One _ here.tell_valued.Kinds.ps here.tell_valued.Kinds.r here.tell_valued.Reads.Post
+tell_valued_one κs a z z' w w' p q = p ∙ sym q

@@ -1,6 +1,6 @@
 -- How answers stand at the boundary: document 01's number, line, field and byte, the needed number, and what an acceptance tells. Number 0 is
 -- acceptance; then all else but what it tells is 0.
-use Rattle.std.specs.Prelude.{ℕ, Err, Ok}
+use Rattle.std.specs.Prelude.{ℕ, Result, Err, Ok}
 use Rattle.refusal.specs.Refusal.{Answer, none, refusal_number, refusal_place, needed_of}
 use Rattle.verdict.specs.Verdict.{Verdict, answer_in}
 use Rattle.refusal.specs.declared.Place.{Place}
@@ -28,6 +28,10 @@ verdict_told v = told_of (answer_in 0 v)
 -- an answer with a value: 0 where it is a refusal
 abbrev pub valued : Told → ℕ → Valued
 valued t v = record { told = t; value = v }
+
+unfoldable pub value_told : Result ℕ Refusal → Valued
+value_told (Ok n) = valued accepted n
+value_told (Err r) = valued (refusal r) 0
 
 -- a rule that there is not: 5
 abbrev pub no_rule : Told

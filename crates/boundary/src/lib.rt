@@ -5,7 +5,7 @@
 #![tactic(auto)]
 
 ghost use Rattle.std.specs.Prelude.{◌≡◌};
-ghost use Rattle.boundary.specs.Told.{accepted, refusal, told_of, verdict_told, valued};
+ghost use Rattle.boundary.specs.Told.{accepted, refusal, told_of, value_told, verdict_told, valued};
 
 use refusal::{Answer, Refusal};
 use verdict::Verdict;
@@ -61,6 +61,7 @@ pub fn refuse(r: Refusal) -> Told
 }
 
 // An answer.
+#[tactic(auto, unfolding(crate::specs::Told::told_of))]
 pub fn tell(a: Answer) -> Told
     ensures { result ≡ told_of a }
 {
@@ -94,5 +95,16 @@ pub fn refuse_value(r: Refusal) -> Valued
     Valued {
         told: refuse(r),
         value: 0,
+    }
+}
+
+// A value, or the refusal where there is none.
+#[tactic(auto, unfolding(crate::specs::Told::value_told))]
+pub fn tell_valued(value: Result<usize, Refusal>) -> Valued
+    ensures { result ≡ value_told value }
+{
+    match value {
+        Ok(n) => accept_value(n),
+        Err(r) => refuse_value(r),
     }
 }

@@ -4,8 +4,7 @@ ghost use Rattle.std.specs.Prelude.{◌≡◌, cond, eqb};
 ghost use Rattle.check_digits.specs.Answers.{check_answer, make_answer};
 ghost use Rattle.account.specs.Answers.{iban_verdict, oib_verdict};
 ghost use Rattle.reference.specs.Answers.{reference_verdict};
-ghost use Rattle.boundary.specs.Told.{told_of, verdict_told, no_rule, valued};
-ghost use Rattle.desk_checks.specs.Made.{made_of};
+ghost use Rattle.boundary.specs.Told.{told_of, value_told, verdict_told, no_rule, valued};
 
 use boundary::{Told, Valued};
 use check_digits::Rule;
@@ -21,7 +20,7 @@ pub extern "C" fn lanecockle_check_digits(rule: u32, digits: &[u8]) -> Told
 // Makes the check digit of one to nineteen digits, by rule 0 (INI) or 1 (MOD 11,10); another rule is 5.
 #[unsafe(no_mangle)]
 pub extern "C" fn lanecockle_make_digit(rule: u32, digits: &[u8]) -> Valued
-    ensures { result ≡ cond (eqb rule 0) (made_of (make_answer Rule.Ini digits.now)) (cond (eqb rule 1) (made_of (make_answer Rule.Mod1110 digits.now)) (valued no_rule 0)) }
+    ensures { result ≡ cond (eqb rule 0) (value_told (make_answer Rule.Ini digits.now)) (cond (eqb rule 1) (value_told (make_answer Rule.Mod1110 digits.now)) (valued no_rule 0)) }
 {
     desk_checks::lanecockle_make_digit(rule, digits)
 }

@@ -3,8 +3,8 @@
 ghost use Rattle.std.specs.Prelude.{◌≡◌};
 ghost use Rattle.slip.specs.Slip.{slip_answer};
 ghost use Rattle.slip_handed.specs.Handed.{field_part, slip_cents};
-ghost use Rattle.boundary.specs.Told.{told_of};
-ghost use Rattle.desk_slips.specs.Slips.{cents_told, WritesSlipGiven};
+ghost use Rattle.boundary.specs.Told.{told_of, value_told};
+ghost use Rattle.desk_slips.specs.Slips.{WritesSlipGiven};
 
 use boundary::{Told, Valued};
 use text::Part;
@@ -28,7 +28,7 @@ pub extern "C" fn lanecockle_slip_field(slip: &[u8], number: usize) -> Part
 // The amount of an accepted slip in cents.
 #[unsafe(no_mangle)]
 pub extern "C" fn lanecockle_slip_cents(slip: &[u8]) -> Valued
-    ensures { result ≡ cents_told (slip_cents slip.now) }
+    ensures { result ≡ value_told (slip_cents slip.now) }
 {
     desk_slips::lanecockle_slip_cents(slip)
 }

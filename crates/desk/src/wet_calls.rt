@@ -6,15 +6,14 @@ ghost use Rattle.fillings.specs.Fillings.{fillings};
 ghost use Rattle.wet.specs.Wet.{iban_listing, reference_listing, reference_fillings};
 ghost use Rattle.fillings.specs.Answers.{left_by_listing};
 ghost use Rattle.filling.specs.Filling.{filled_answer, filled_by};
-ghost use Rattle.boundary.specs.Told.{told_of};
-ghost use Rattle.desk_wet.specs.Listed.{listed_of};
+ghost use Rattle.boundary.specs.Told.{told_of, value_told};
 
 use boundary::{Told, Valued};
 
 // Lists the fillings of an IBAN; the value is their count.
 #[unsafe(no_mangle)]
 pub extern "C" fn lanecockle_list_iban(text: &[u8], out: &mut [u16]) -> Valued
-    ensures { (result ≡ listed_of (iban_listing text.now (length out.old))) × (out.new ≡ left_by_listing (iban_listing text.now (length out.old)) (fillings is_iban text.now) out.old) }
+    ensures { (result ≡ value_told (iban_listing text.now (length out.old))) × (out.new ≡ left_by_listing (iban_listing text.now (length out.old)) (fillings is_iban text.now) out.old) }
 {
     desk_wet::lanecockle_list_iban(text, out)
 }
@@ -22,7 +21,7 @@ pub extern "C" fn lanecockle_list_iban(text: &[u8], out: &mut [u16]) -> Valued
 // Lists the fillings of a reference under its model; the value is their count.
 #[unsafe(no_mangle)]
 pub extern "C" fn lanecockle_list_reference(model: &[u8], text: &[u8], out: &mut [u16]) -> Valued
-    ensures { (result ≡ listed_of (reference_listing model.now text.now (length out.old))) × (out.new ≡ left_by_listing (reference_listing model.now text.now (length out.old)) (reference_fillings model.now text.now) out.old) }
+    ensures { (result ≡ value_told (reference_listing model.now text.now (length out.old))) × (out.new ≡ left_by_listing (reference_listing model.now text.now (length out.old)) (reference_fillings model.now text.now) out.old) }
 {
     desk_wet::lanecockle_list_reference(model, text, out)
 }

@@ -1,3 +1,2 @@
 -- The laws of the crate `desk_checks`.
-pub mod Laws
 pub mod One

@@ -8,22 +8,11 @@ ghost use Rattle.std.specs.Prelude.{◌≡◌, cond, eqb};
 ghost use Rattle.check_digits.specs.Answers.{check_answer, make_answer};
 ghost use Rattle.account.specs.Answers.{iban_verdict, oib_verdict};
 ghost use Rattle.reference.specs.Answers.{reference_verdict};
-ghost use Rattle.boundary.specs.Told.{told_of, verdict_told, no_rule, valued};
-ghost use Rattle.desk_checks.specs.Made.{made_of};
+ghost use Rattle.boundary.specs.Told.{told_of, value_told, verdict_told, no_rule, valued};
 
 use boundary::{Told, Valued};
 use check_digits::Rule;
 use refusal::Refusal;
-
-// A check digit made.
-fn tell_made(m: Result<u8, Refusal>) -> Valued
-    ensures { result ≡ made_of m }
-{
-    match m {
-        Ok(d) => boundary::accept_value(d as usize),
-        Err(r) => boundary::refuse_value(r),
-    }
-}
 
 // Checks digits that end in their check digit, by rule 0 (INI) or 1 (MOD 11,10); another rule is 5.
 pub fn lanecockle_check_digits(rule: u32, digits: &[u8]) -> Told
@@ -40,13 +29,13 @@ pub fn lanecockle_check_digits(rule: u32, digits: &[u8]) -> Told
 
 // Makes the check digit of one to nineteen digits, by rule 0 (INI) or 1 (MOD 11,10); another rule is 5.
 pub fn lanecockle_make_digit(rule: u32, digits: &[u8]) -> Valued
-    ensures { result ≡ cond (eqb rule 0) (made_of (make_answer Rule.Ini digits.now)) (cond (eqb rule 1) (made_of (make_answer Rule.Mod1110 digits.now)) (valued no_rule 0)) }
+    ensures { result ≡ cond (eqb rule 0) (value_told (make_answer Rule.Ini digits.now)) (cond (eqb rule 1) (value_told (make_answer Rule.Mod1110 digits.now)) (valued no_rule 0)) }
 {
     if rule == 0 {
-        return tell_made(check_digits::make(Rule::Ini, digits));
+        return boundary::tell_valued(check_digits::make(Rule::Ini, digits).map(usize::from));
     }
     if rule == 1 {
-        return tell_made(check_digits::make(Rule::Mod1110, digits));
+        return boundary::tell_valued(check_digits::make(Rule::Mod1110, digits).map(usize::from));
     }
     boundary::refuse_value(Refusal::Form(refusal::nowhere()))
 }

@@ -66,6 +66,7 @@ fn condition_from(n: usize, t: Told) -> Condition
 }
 
 // The judge that a record stands for.
+#[tactic(auto, unfolding(crate::specs::Record::judge_of))]
 pub fn judge_from(r: Record) -> Judge
     ensures { result ≡ judge_of r }
 {
@@ -109,6 +110,7 @@ fn condition_told(c: Condition) -> Told
 }
 
 // The record of a judge.
+#[tactic(auto, unfolding(crate::specs::Record::record_of))]
 pub fn record_from(j: Judge) -> Record
     ensures { result ≡ record_of j }
 {

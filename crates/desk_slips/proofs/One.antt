@@ -3,9 +3,6 @@ use Rattle.refusal.proofs.Basics.{sym, ◌∙◌}
 use Rattle.refusal.specs.One.{One}
 use Rattle.desk_slips.proofs as here
 
-pub tell_written_one : One _ here.tell_written.Kinds.ps here.tell_written.Kinds.r here.tell_written.Reads.Post
-tell_written_one κs a z z' w w' p q = p ∙ sym q
-
 pub slip_read_one : One _ here.lanecockle_slip_read.Kinds.ps here.lanecockle_slip_read.Kinds.r here.lanecockle_slip_read.Reads.Post
 slip_read_one κs a z z' w w' p q = p ∙ sym q
 

@@ -7,32 +7,11 @@
 ghost use Rattle.std.specs.Prelude.{◌≡◌};
 ghost use Rattle.slip.specs.Slip.{slip_answer};
 ghost use Rattle.slip_handed.specs.Handed.{field_part, slip_cents};
-ghost use Rattle.boundary.specs.Told.{told_of};
-ghost use Rattle.desk_slips.specs.Slips.{cents_told, written_of, WritesSlipGiven};
+ghost use Rattle.boundary.specs.Told.{told_of, value_told};
+ghost use Rattle.desk_slips.specs.Slips.{WritesSlipGiven};
 
 use boundary::{Told, Valued};
 use text::Part;
-use refusal::Refusal;
-
-// A slip's amount.
-fn tell_amount(a: Result<u64, Refusal>) -> Valued
-    ensures { result ≡ cents_told a }
-{
-    match a {
-        Ok(n) => boundary::accept_value(n as usize),
-        Err(r) => boundary::refuse_value(r),
-    }
-}
-
-// How many bytes a slip was written with.
-pub fn tell_written(w: Result<usize, Refusal>) -> Valued
-    ensures { result ≡ written_of w }
-{
-    match w {
-        Ok(n) => boundary::accept_value(n),
-        Err(r) => boundary::refuse_value(r),
-    }
-}
 
 // Reads a slip.
 pub fn lanecockle_slip_read(slip: &[u8]) -> Told
@@ -50,9 +29,9 @@ pub fn lanecockle_slip_field(slip: &[u8], number: usize) -> Part
 
 // The amount of an accepted slip in cents.
 pub fn lanecockle_slip_cents(slip: &[u8]) -> Valued
-    ensures { result ≡ cents_told (slip_cents slip.now) }
+    ensures { result ≡ value_told (slip_cents slip.now) }
 {
-    tell_amount(slip_handed::cents(slip))
+    boundary::tell_valued(slip_handed::cents(slip).map(|n| n as usize))
 }
 
 // Writes a slip of an amount in cents and the fields 4 to 14, which stand one behind the other in `text`; the value is how
@@ -62,6 +41,5 @@ pub fn lanecockle_slip_write(cents: u64, text: &[u8], sizes: &[usize], out: &mut
     ensures { WritesSlipGiven cents sizes.now text.now out.old result out.new }
 {
     let slip = standing_slip::write(cents, text, sizes, b"", b"", out);
-    let written = slip.written;
-    tell_written(written)
+    boundary::tell_valued(slip.written)
 }

@@ -6,8 +6,7 @@ use Rattle.standing_text.specs.declared.Sheet.TheVariants.{Neither, Farm, Associ
 use Rattle.standing_text.specs.declared.Standing.{Standing}
 use Rattle.standing_slip.specs.declared.StandingSlip.{StandingSlip}
 use Rattle.standing_slip.specs.Filled.{standing_slip, filled_fields}
-use Rattle.boundary.specs.Told.{told_of}
-use Rattle.desk_slips.specs.Slips.{written_of}
+use Rattle.boundary.specs.Told.{told_of, value_told}
 use Rattle.desk_standing.specs.declared.StandingTold.{StandingTold}
 use Rattle.desk_standing.specs.declared.StandingWritten.{StandingWritten}
 
@@ -23,7 +22,7 @@ standing_told s = record { told = told_of s.answer; sheet = sheet_number s.sheet
 
 -- a slip written with standing text
 unfoldable pub written_told : StandingSlip → StandingWritten
-written_told s = record { told = (written_of s.written).told; value = (written_of s.written).value; sheet = sheet_number s.sheet }
+written_told s = record { told = (value_told s.written).told; value = (value_told s.written).value; sheet = sheet_number s.sheet }
 
 -- what the call answers, and what it leaves in the lent room
 pub record WritesStandingTold (cents : ℕ) (sizes text farm association out : List ℕ) (r : StandingWritten) (after : List ℕ) : Type 0 where

@@ -65,8 +65,7 @@ fn tell_slip(s: StandingSlip) -> StandingWritten
     ensures { result ≡ written_told s }
 {
     let sheet = s.sheet;
-    let written = s.written;
-    let v = desk_slips::tell_written(written);
+    let v = boundary::tell_valued(s.written);
     let told = v.told;
     let value = v.value;
     StandingWritten {

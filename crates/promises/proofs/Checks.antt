@@ -27,7 +27,7 @@ use Rattle.boundary.specs.declared.Told.{Told}
 use Rattle.boundary.specs.declared.Valued.{Valued}
 use Rattle.boundary.specs.Told.{valued, no_rule, told_of, verdict_told}
 use Rattle.boundary.proofs.Theorems.{number_not_zero}
-use Rattle.desk_checks.specs.Made.{made_of}
+use Rattle.desk_checks.specs.Made.{value_told}
 use Rattle.promises.proofs.Laws.{told_zero, verdict_zero}
 use Rattle.promises.specs.Calls.{EveryCheckDigits, EveryMakeDigit, EveryIban, EveryOib, EveryReference}
 
@@ -138,9 +138,9 @@ reference_byte_within κs a z w call = byte_told _ _ z call (number_tells a.1.0.
 
 -- by one rule
 made_checked :
-    (rule : Rule) (s : List ℕ) (m : Result ℕ Refusal) → make_answer rule s ≡ m → (z : Valued) → z ≡ made_of m → z.told.number ≡ 0
+    (rule : Rule) (s : List ℕ) (m : Result ℕ Refusal) → make_answer rule s ≡ m → (z : Valued) → z ≡ value_told m → z.told.number ≡ 0
     → (c : ℕ) (r : Told) → r ≡ told_of (check_answer rule (s ++ (c ∷ []))) → (r.number ≡ 0) ↔ (c ≡ 48 + z.value)
-unfolding made_of
+unfolding value_told
 made_checked rule s (Ok d) m z e h c r q =
     let exactly = made_is_checked rule s d m c in
     let zero = told_zero _ r q in
@@ -149,7 +149,7 @@ made_checked rule s (Err x) m z e h c r q = let k : refusal_number x ≡ 0 = rw 
 
 -- by the rule of a number
 rule_checked :
-    (b₀ b₁ : Bool) (s : List ℕ) (z : Valued) → z ≡ cond b₀ (made_of (make_answer Ini s)) (cond b₁ (made_of (make_answer Mod1110 s)) (valued no_rule 0)) → z.told.number ≡ 0
+    (b₀ b₁ : Bool) (s : List ℕ) (z : Valued) → z ≡ cond b₀ (value_told (make_answer Ini s)) (cond b₁ (value_told (make_answer Mod1110 s)) (valued no_rule 0)) → z.told.number ≡ 0
     → (c : ℕ) (r : Told) → r ≡ cond b₀ (told_of (check_answer Ini (s ++ (c ∷ [])))) (cond b₁ (told_of (check_answer Mod1110 (s ++ (c ∷ [])))) no_rule)
     → (r.number ≡ 0) ↔ (c ≡ 48 + z.value)
 rule_checked true b₁ s z e h c r q = made_checked Ini s (make_answer Ini s) refl z e h c r q

@@ -18,7 +18,7 @@ use Rattle.ledger_slip.specs.Ledger.{currency_of, amount_in, ledger_from, ledger
 use Rattle.ledger_slip.proofs.Theorems.{never_both, plain_currency, ledger_exactly, euro_fields, kuna_refused}
 use Rattle.boundary.specs.declared.Valued.{Valued}
 use Rattle.boundary.specs.Told.{accepted, refusal, told_of, valued}
-use Rattle.desk_slips.specs.Slips.{cents_told}
+use Rattle.desk_slips.specs.Slips.{value_told}
 use Rattle.desk_ledger.specs.declared.Ledger.{Ledger}
 use Rattle.desk_ledger.specs.Ledgers.{ledger_told}
 use Rattle.promises.specs.Calls.{EverySlipRead, EverySlipField, EverySlipCents, EveryLedgerRead, EveryLedgerField, EveryLipaInCents}
@@ -128,8 +128,8 @@ ledger_field_handed κs a z w call = rw call (field_stands (currency_of a.0.now)
 -- The euro calls
 
 -- the answer that the euro call for cents tells is the euro reader's
-cents_answer : (s : List ℕ) (x : Answer) → (cents_told (cents_from s x)).told ≡ told_of x
-unfolding cents_told told_of
+cents_answer : (s : List ℕ) (x : Answer) → (value_told (cents_from s x)).told ≡ told_of x
+unfolding value_told told_of
 cents_answer s (Ok u) = refl
 cents_answer s (Err r) = refl
 
@@ -158,10 +158,10 @@ kuna_refused_at_2 κs a z w call h κs' a' z' w' call' same =
 
 -- and the euro call for cents too: it never gives a converted number
 pub kuna_no_cents : EveryLedgerRead (λ slip l. l.currency ≡ 2 → EverySlipCents (λ slip' c. slip' ≡ slip → c ≡ valued (refusal (Form (record { line = 0; field = 2; byte = 9 }))) 0))
-unfolding cents_told
+unfolding value_told
 kuna_no_cents κs a z w call h κs' a' z' w' call' same =
     let s = a.0.now in
-    call' ∙ (ap (λ (x : List ℕ). cents_told (slip_cents x)) same ∙ ap (λ (x : Answer). cents_told (cents_from s x)) (kuna_refused s (told_plain Kuna s z call h)))
+    call' ∙ (ap (λ (x : List ℕ). value_told (slip_cents x)) same ∙ ap (λ (x : Answer). value_told (cents_from s x)) (kuna_refused s (told_plain Kuna s z call h)))
 
 -- ---------------------------------------------------------------------------
 -- Lipa in cents

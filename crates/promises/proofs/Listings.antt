@@ -20,7 +20,7 @@ use Rattle.fillings.proofs.Theorems.{complete, sound, ascending, once, counted}
 use Rattle.wet.specs.Wet.{wet_iban, iban_listing, reference_listing, model_listing}
 use Rattle.boundary.specs.declared.Valued.{Valued}
 use Rattle.boundary.proofs.Theorems.{number_not_zero}
-use Rattle.desk_wet.specs.Listed.{listed_of}
+use Rattle.desk_wet.specs.Listed.{value_told}
 use Rattle.promises.proofs.Laws.{told_zero}
 use Rattle.promises.specs.Calls.{EveryListIban, EveryListReference, EveryFilled}
 use Rattle.promises.specs.Listings.{accepted_fillings, Lists, Listing}
@@ -50,8 +50,8 @@ module _ (p : List ℕ → Bool) (text out : List ℕ) where
   Answers l = (l ≡ listed_in_room xs (length out)) ⊎ ((q : Refusal) × ((l ≡ Err q) × (refusal_number q ≡ 15 → ⊥)))
 
   module _ (r : Valued) (after : List ℕ) where
-    accepted_listing : length xs ≤ length out → r ≡ listed_of (Ok (length xs)) → after ≡ left_by_listing (Ok (length xs)) xs out → Listing p text out r after
-    unfolding listed_of
+    accepted_listing : length xs ≤ length out → r ≡ value_told (Ok (length xs)) → after ≡ left_by_listing (Ok (length xs)) xs out → Listing p text out r after
+    unfolding value_told
     accepted_listing fits e w =
         record {
           lists = λ h. rw e (front after fits w);
@@ -61,8 +61,8 @@ module _ (p : List ℕ → Bool) (text out : List ℕ) where
 
     refused_listing :
         (q : Refusal) → (refusal_number q ≡ 15 → (length out < length xs) × (needed_of q ≡ length xs))
-        → r ≡ listed_of (Err q) → after ≡ left_by_listing (Err q) xs out → Listing p text out r after
-    unfolding listed_of
+        → r ≡ value_told (Err q) → after ≡ left_by_listing (Err q) xs out → Listing p text out r after
+    unfolding value_told
     refused_listing q told e w =
         record {
           lists = λ h. let z : refusal_number q ≡ 0 = rw e at h in absurd (omega (arith, number_not_zero q));
@@ -70,20 +70,20 @@ module _ (p : List ℕ → Bool) (text out : List ℕ) where
           untouched = λ h. w;
         }
 
-    in_room : (b : Bool) → ltb (length out) (length xs) ≡ b → (l : Result ℕ Refusal) → l ≡ cond b (Err (refused.Room none (length xs))) (Ok (length xs)) → r ≡ listed_of l → after ≡ left_by_listing l xs out → Listing p text out r after
-    in_room true g l z e w = refused_listing (refused.Room none (length xs)) (λ h. (ltb-true (length out) (length xs) g, refl)) (e ∙ ap listed_of z) (w ∙ ap (λ (m : Result ℕ Refusal). left_by_listing m xs out) z)
-    in_room false g l z e w = accepted_listing (ltb-false (length out) (length xs) g) (e ∙ ap listed_of z) (w ∙ ap (λ (m : Result ℕ Refusal). left_by_listing m xs out) z)
+    in_room : (b : Bool) → ltb (length out) (length xs) ≡ b → (l : Result ℕ Refusal) → l ≡ cond b (Err (refused.Room none (length xs))) (Ok (length xs)) → r ≡ value_told l → after ≡ left_by_listing l xs out → Listing p text out r after
+    in_room true g l z e w = refused_listing (refused.Room none (length xs)) (λ h. (ltb-true (length out) (length xs) g, refl)) (e ∙ ap value_told z) (w ∙ ap (λ (m : Result ℕ Refusal). left_by_listing m xs out) z)
+    in_room false g l z e w = accepted_listing (ltb-false (length out) (length xs) g) (e ∙ ap value_told z) (w ∙ ap (λ (m : Result ℕ Refusal). left_by_listing m xs out) z)
 
-    listing : (l : Result ℕ Refusal) → Answers l → r ≡ listed_of l → after ≡ left_by_listing l xs out → Listing p text out r after
+    listing : (l : Result ℕ Refusal) → Answers l → r ≡ value_told l → after ≡ left_by_listing l xs out → Listing p text out r after
     listing l (inl z) e w = in_room (ltb (length out) (length xs)) refl l z e w
-    listing l (inr (q, (z, n))) e w = refused_listing q (λ h. absurd (n h)) (e ∙ ap listed_of z) (w ∙ ap (λ (m : Result ℕ Refusal). left_by_listing m xs out) z)
+    listing l (inr (q, (z, n))) e w = refused_listing q (λ h. absurd (n h)) (e ∙ ap value_told z) (w ∙ ap (λ (m : Result ℕ Refusal). left_by_listing m xs out) z)
 
   -- what is told where the rest is right
-  answered : (z : Valued) (l : Result ℕ Refusal) → z ≡ listed_of l → l ≡ listed_in_room xs (length out) → z.told.number ≡ cond (ltb (length out) (accepted_fillings p text)) 15 0
-  unfolding listed_of
-  answered z l e q = rw (← counted p text) (go (ltb (length out) (length xs)) (ap (λ (v : Valued). v.told.number) (e ∙ ap listed_of q)))
+  answered : (z : Valued) (l : Result ℕ Refusal) → z ≡ value_told l → l ≡ listed_in_room xs (length out) → z.told.number ≡ cond (ltb (length out) (accepted_fillings p text)) 15 0
+  unfolding value_told
+  answered z l e q = rw (← counted p text) (go (ltb (length out) (length xs)) (ap (λ (v : Valued). v.told.number) (e ∙ ap value_told q)))
     where
-      go : (b : Bool) → z.told.number ≡ (listed_of (cond b (Err (refused.Room none (length xs))) (Ok (length xs)))).told.number → z.told.number ≡ cond b 15 0
+      go : (b : Bool) → z.told.number ≡ (value_told (cond b (Err (refused.Room none (length xs))) (Ok (length xs)))).told.number → z.told.number ≡ cond b 15 0
       go true h = h
       go false h = h
 
@@ -177,8 +177,8 @@ list_reference_answers κs a z w call m short wet few =
 -- A refusal writes nothing
 
 -- what a listing leaves
-listing_kept : (l : Result ℕ Refusal) (xs out after : List ℕ) (z : Valued) → z ≡ listed_of l → after ≡ left_by_listing l xs out → (z.told.number ≡ 0 → ⊥) → after ≡ out
-unfolding listed_of
+listing_kept : (l : Result ℕ Refusal) (xs out after : List ℕ) (z : Valued) → z ≡ value_told l → after ≡ left_by_listing l xs out → (z.told.number ≡ 0 → ⊥) → after ≡ out
+unfolding value_told
 listing_kept (Ok n) xs out after z e w h = absurd (h (ap (λ (v : Valued). v.told.number) e))
 listing_kept (Err r) xs out after z e w h = w
 

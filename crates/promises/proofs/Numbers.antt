@@ -13,9 +13,9 @@ use Rattle.lent_fields.specs.Fields.{lent_whole}
 use Rattle.boundary.specs.declared.Told.{Told}
 use Rattle.boundary.specs.Told.{refusal, told_of, valued, no_rule}
 use Rattle.boundary.proofs.Theorems.{number_in_table}
-use Rattle.desk_checks.specs.Made.{made_of}
-use Rattle.desk_wet.specs.Listed.{listed_of}
-use Rattle.desk_slips.specs.Slips.{cents_told, written_of}
+use Rattle.desk_checks.specs.Made.{value_told}
+use Rattle.desk_wet.specs.Listed.{value_told}
+use Rattle.desk_slips.specs.Slips.{value_told, value_told}
 use Rattle.desk_standing.specs.Standings.{standing_told, written_told}
 use Rattle.desk_ledger.specs.Ledgers.{ledger_told}
 use Rattle.desk_record.specs.Record.{record_of}
@@ -40,18 +40,18 @@ unfolding told_of
 answer_known (Ok u) = inl refl
 answer_known (Err r) = refusal_known r
 
-made_known : (x : Result ℕ Refusal) → Known (made_of x).told
-unfolding made_of
+made_known : (x : Result ℕ Refusal) → Known (value_told x).told
+unfolding value_told
 made_known (Ok d) = inl refl
 made_known (Err r) = refusal_known r
 
-listed_known : (x : Result ℕ Refusal) → Known (listed_of x).told
-unfolding listed_of
+listed_known : (x : Result ℕ Refusal) → Known (value_told x).told
+unfolding value_told
 listed_known (Ok n) = inl refl
 listed_known (Err r) = refusal_known r
 
-cents_known : (x : Result ℕ Refusal) → Known (cents_told x).told
-unfolding cents_told
+cents_known : (x : Result ℕ Refusal) → Known (value_told x).told
+unfolding value_told
 cents_known (Ok n) = inl refl
 cents_known (Err r) = refusal_known r
 
@@ -61,8 +61,8 @@ ledger_known (ledger.Euro c) = inl refl
 ledger_known (ledger.Kuna l) = inl refl
 ledger_known (ledger.Refused r) = refusal_known r
 
-written_known : (x : Result ℕ Refusal) → Known (written_of x).told
-unfolding written_of
+written_known : (x : Result ℕ Refusal) → Known (value_told x).told
+unfolding value_told
 written_known (Ok n) = inl refl
 written_known (Err r) = refusal_known r
 
@@ -82,7 +82,7 @@ pub check_digits_known : EveryCheckDigits (λ rule digits r. Known r)
 check_digits_known κs a z w call = rw call (either_known (eqb a.0 0) _ _ (answer_known _) (either_known (eqb a.0 1) _ _ (answer_known _) (refusal_known (Form none))))
 
 -- by the rule of a number
-rule_known : (b₀ b₁ : Bool) (x y : Result ℕ Refusal) → Known (cond b₀ (made_of x) (cond b₁ (made_of y) (valued no_rule 0))).told
+rule_known : (b₀ b₁ : Bool) (x y : Result ℕ Refusal) → Known (cond b₀ (value_told x) (cond b₁ (value_told y) (valued no_rule 0))).told
 rule_known true b₁ x y = made_known x
 rule_known false true x y = made_known y
 rule_known false false x y = refusal_known (Form none)
@@ -118,7 +118,7 @@ pub ledger_read_known : EveryLedgerRead (λ slip l. Known l.told)
 ledger_read_known κs a z w call = rw call (ledger_known _)
 
 -- where it is asked first whether the fields are lent whole
-sized_known : (b : Bool) (x : Result ℕ Refusal) → Known (cond b (written_of x) (valued (refusal (Size none)) 0)).told
+sized_known : (b : Bool) (x : Result ℕ Refusal) → Known (cond b (value_told x) (valued (refusal (Size none)) 0)).told
 sized_known true x = written_known x
 sized_known false x = refusal_known (Size none)
 

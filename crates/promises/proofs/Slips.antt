@@ -26,7 +26,7 @@ use Rattle.boundary.specs.declared.Valued.{Valued}
 use Rattle.boundary.specs.Told.{accepted, refusal, valued}
 use Rattle.boundary.proofs.Theorems.{number_not_zero}
 use Rattle.standing_slip.specs.Filled.{eleven_of}
-use Rattle.desk_slips.specs.Slips.{cents_told, written_of, WritesSlipGiven}
+use Rattle.desk_slips.specs.Slips.{value_told, value_told, WritesSlipGiven}
 use Rattle.desk_slips.proofs.Theorems.{part_is_field}
 use Rattle.promises.specs.Calls.{EverySlipRead, EverySlipField, EverySlipCents, EverySlipWrite}
 use Rattle.promises.proofs.Laws.{told_zero}
@@ -52,8 +52,8 @@ pub slip_field_handed : EverySlipField (λ slip n part. take part.length (drop p
 slip_field_handed κs a z w call = rw call (part_is_field a.0.now a.1.0)
 
 -- the amount that is told of an accepted slip
-pub cents_told_lem : (s : List ℕ) → slip_answer s ≡ Ok tt → cents_told (slip_cents s) ≡ valued accepted (amount_of s)
-unfolding cents_told
+pub cents_told_lem : (s : List ℕ) → slip_answer s ≡ Ok tt → value_told (slip_cents s) ≡ valued accepted (amount_of s)
+unfolding value_told
 cents_told_lem s e = rw e
 
 -- ---------------------------------------------------------------------------
@@ -78,13 +78,13 @@ module _ (cents : ℕ) (fields : List (List ℕ)) (all : length fields ≡ 11) (
         rest = rw (b.size, w) (drop-append_seam s (drop (length s) out));
       }
 
-  pub answer_wrote : (x : Result ℕ Refusal) → write_answer cents fields (length out) ≡ x → z ≡ written_of x → after ≡ left_by_slip x (slip_text cents fields) out → Wrote cents fields out z.value after
-  unfolding written_of
+  pub answer_wrote : (x : Result ℕ Refusal) → write_answer cents fields (length out) ≡ x → z ≡ value_told x → after ≡ left_by_slip x (slip_text cents fields) out → Wrote cents fields out z.value after
+  unfolding value_told
   answer_wrote (Ok n) q e w = rw e (bytes_wrote n q w)
   answer_wrote (Err r) q e w = let k : refusal_number r ≡ 0 = rw e at h in absurd (omega (arith, number_not_zero r))
 
   whole_wrote :
-      (b : Bool) → z ≡ cond b (written_of (write_answer cents fields (length out))) (valued (refusal (Size none)) 0)
+      (b : Bool) → z ≡ cond b (value_told (write_answer cents fields (length out))) (valued (refusal (Size none)) 0)
       → after ≡ cond b (left_by_slip (write_answer cents fields (length out)) (slip_text cents fields) out) out → Wrote cents fields out z.value after
   whole_wrote true e w = answer_wrote (write_answer cents fields (length out)) refl e w
   whole_wrote false e w = let k : ◌≡◌ {A = ℕ} 1 0 = rw e at h in absurd (omega arith)
@@ -104,7 +104,7 @@ module _ {cents : ℕ} {fields : List (List ℕ)} {out : List ℕ} {n : ℕ} {af
 
   pub reads_cents : EverySlipCents (λ slip q. slip ≡ take n after → q ≡ valued accepted cents)
   reads_cents κs a z w call e =
-      call ∙ (ap (λ (x : List ℕ). cents_told (slip_cents x)) (e ∙ s.front) ∙ (cents_told_lem _ s.back.accepted ∙ ap (λ (k : ℕ). valued accepted k) s.back.amount))
+      call ∙ (ap (λ (x : List ℕ). value_told (slip_cents x)) (e ∙ s.front) ∙ (cents_told_lem _ s.back.accepted ∙ ap (λ (k : ℕ). valued accepted k) s.back.amount))
 
   pub reads_field : EverySlipField (λ slip k part. slip ≡ take n after → 4 ≤ k → k ≤ 14 → take part.length (drop part.start slip) ≡ get_or fields (k - 4) [])
   reads_field κs a z w call e l u =
@@ -154,7 +154,7 @@ fields_again slip = rw (fields_joined (slip_fields slip))
 written_again :
     (slip out : List ℕ) (z : Valued) (after : List ℕ) → slip_answer slip ≡ Ok tt → length slip ≤ length out
     → WritesSlipGiven (amount_of slip) (map length (slip_fields slip)) (joined (slip_fields slip)) out z after → (z ≡ valued accepted (length slip)) × (take (length slip) after ≡ slip)
-unfolding written_of
+unfolding value_told
 written_again slip out z after e fits call =
     let whole = joined_lent_whole (slip_fields slip) in
     let again = accepted_is_written slip (length out) e fits in
@@ -171,6 +171,6 @@ pub slip_written_again :
 slip_written_again κs a z w call h κs' a' z' w' call' same κs'' a'' z'' w'' call'' cents text sizes fits =
     let slip = a.0.now in
     let e = (told_zero _ z call).0 h in
-    let told : z' ≡ valued accepted (amount_of slip) = call' ∙ (ap (λ (x : List ℕ). cents_told (slip_cents x)) same ∙ cents_told_lem slip e) in
+    let told : z' ≡ valued accepted (amount_of slip) = call' ∙ (ap (λ (x : List ℕ). value_told (slip_cents x)) same ∙ cents_told_lem slip e) in
     let amount : a''.0 ≡ amount_of slip = cents ∙ ap (λ (v : Valued). v.value) told in
     written_again slip a''.1.1.1.0.now z'' w''.1.1.1.0 e fits (rw (amount, text, sizes) at call'')

@@ -35,7 +35,7 @@ use Rattle.boundary.specs.declared.Told.{Told}
 use Rattle.boundary.specs.declared.Valued.{Valued}
 use Rattle.boundary.specs.Told.{accepted, refusal, told_of, valued}
 use Rattle.boundary.proofs.Theorems.{number_not_zero}
-use Rattle.desk_slips.specs.Slips.{written_of}
+use Rattle.desk_slips.specs.Slips.{value_told}
 use Rattle.desk_standing.specs.declared.StandingTold.{StandingTold}
 use Rattle.desk_standing.specs.declared.StandingWritten.{StandingWritten}
 use Rattle.desk_standing.specs.Standings.{sheet_number, standing_told, written_told, WritesStandingTold}
@@ -193,20 +193,20 @@ standing_text_refused_empty κs a z w call h = (refused_told a.0 a.1.0.now a.1.1
 -- no refusal of the writer is told of a field that is right whatever stands before it
 written_elsewhere :
     (cents : ℕ) (fields : List (List ℕ)) (room n : ℕ) → 4 ≤ n → n ≤ 14 → length fields ≡ 11 → ((m : List ℕ) → field_verdict Euro n m (get_or fields (n - 4) []) ≡ passed)
-    → (written_of (write_answer cents fields room)).told.field ≡ n → ⊥
-unfolding write_answer written_of
+    → (value_told (write_answer cents fields room)).told.field ≡ n → ⊥
+unfolding write_answer value_told
 written_elsewhere cents fields room n l u all right = go (ltb cents (10 ^ 15)) (given_answer 4 [] fields) refl
   where
     there : 4 + (n - 4) ≡ n
     there = omega arith
 
-    room_told : (b : Bool) → (written_of (cond b (Err (Room none (length (slip_text cents fields)))) (Ok (length (slip_text cents fields))))).told.field ≡ n → ⊥
+    room_told : (b : Bool) → (value_told (cond b (Err (Room none (length (slip_text cents fields)))) (Ok (length (slip_text cents fields))))).told.field ≡ n → ⊥
     room_told true e = omega (arith, e)
     room_told false e = omega (arith, e)
 
     go :
         (t : Bool) (x : Answer) → given_answer 4 [] fields ≡ x
-        → (written_of (cond t (after_fields x (slip_text cents fields) room) (Err (Length (record { line = 0; field = 3; byte = 0 }))))).told.field ≡ n → ⊥
+        → (value_told (cond t (after_fields x (slip_text cents fields) room) (Err (Length (record { line = 0; field = 3; byte = 0 }))))).told.field ≡ n → ⊥
     go false x g e = omega (arith, e)
     go true (Ok u) g e = room_told (ltb room (length (slip_text cents fields))) e
     go true (Err r) g e = not_there 4 [] fields r (n - 4) g (omega arith) (rw there right) (e ∙ sym there)
@@ -266,7 +266,7 @@ right_answered cents sizes text farm association room h f a = rw (h, f, a)
 pub slip_write_standing_refused_first :
     EverySlipWriteStanding (λ cents text sizes farm association out r after. (r.told.number ≡ 0 → ⊥) →
     SlipStandingRefused sizes text farm association (write_answer cents (filled_fields sizes text farm association) (length out)) r.told r.sheet)
-unfolding written_told written_of sheet_number
+unfolding written_told value_told sheet_number
 slip_write_standing_refused_first κs a z w call h = go (answered cents given text farm association (length out))
   where
     cents : ℕ
@@ -318,7 +318,7 @@ slip_write_standing_is_slip_write κs a z w call h f g κs' a' z' w' call' cents
     let c = call.answers ∙ ap written_told s in
     let whole : lent_whole 11 (map length fields) (joined fields) ≡ true = joined_lent_whole fields in
     let again : eleven_of (map length fields) (joined fields) ≡ fields = rw (fields_joined fields) in
-    let d : z' ≡ written_of (write_answer a.0 fields room) = rw (cents, text, sizes, out, whole, again) at call'.answers in
+    let d : z' ≡ value_told (write_answer a.0 fields room) = rw (cents, text, sizes, out, whole, again) at call'.answers in
     let l : w'.1.1.1.0 ≡ left_by_slip (write_answer a.0 fields room) (slip_text a.0 fields) a.1.1.1.1.1.0.now = rw (cents, text, sizes, out, whole, again) at call'.leaves in (
       ap (λ (t : StandingWritten). t.told) c ∙ sym (ap (λ (v : Valued). v.told) d),
       (
@@ -332,7 +332,7 @@ pub slip_write_standing_of_empty_sheets :
     EverySlipWriteStanding (λ cents text sizes farm association out r after. farm ≡ [] → association ≡ [] →
     EverySlipWrite (λ cents' text' sizes' out' q after'. cents' ≡ cents → text' ≡ text → sizes' ≡ sizes → out' ≡ out →
     (r.told ≡ q.told) × ((r.value ≡ q.value) × (after ≡ after'))))
-unfolding written_told written_of
+unfolding written_told value_told
 slip_write_standing_of_empty_sheets κs a z w call f g κs' a' z' w' call' cents text sizes out =
     let given = a.1.1.0.now in
     let lent = a.1.0.now in
@@ -347,7 +347,7 @@ slip_write_standing_of_empty_sheets κs a z w call f g κs' a' z' w' call' cents
         (t : Bool) (x : Result ℕ Refusal) (slip old : List ℕ)
         → z ≡ written_told (cond {A = StandingSlip} t (record { sheet = Neither; written = x }) (record { sheet = Neither; written = Err (Size none) }))
         → w.1.1.1.1.1.0 ≡ left_by_slip (cond {A = StandingSlip} t (record { sheet = Neither; written = x }) (record { sheet = Neither; written = Err (Size none) })).written slip old
-        → z' ≡ cond t (written_of x) (valued (refusal (Size none)) 0) → w'.1.1.1.0 ≡ cond t (left_by_slip x slip old) old
+        → z' ≡ cond t (value_told x) (valued (refusal (Size none)) 0) → w'.1.1.1.0 ≡ cond t (left_by_slip x slip old) old
         → (z.told ≡ z'.told) × ((z.value ≡ z'.value) × (w.1.1.1.1.1.0 ≡ w'.1.1.1.0))
     go true x slip old c l d m = (ap (λ (y : StandingWritten). y.told) c ∙ sym (ap (λ (v : Valued). v.told) d), (ap (λ (y : StandingWritten). y.value) c ∙ sym (ap (λ (v : Valued). v.value) d), l ∙ sym m))
     go false x slip old c l d m = (ap (λ (y : StandingWritten). y.told) c ∙ sym (ap (λ (v : Valued). v.told) d), (ap (λ (y : StandingWritten). y.value) c ∙ sym (ap (λ (v : Valued). v.value) d), l ∙ sym m))
@@ -356,7 +356,7 @@ slip_write_standing_of_empty_sheets κs a z w call f g κs' a' z' w' call' cents
 wrote_standing :
     {cents : ℕ} {sizes text farm association out : List ℕ} {z : StandingWritten} {after : List ℕ} → WritesStandingTold cents sizes text farm association out z after → z.told.number ≡ 0
     → Wrote cents (filled_fields sizes text farm association) out z.value after
-unfolding written_told written_of
+unfolding written_told value_told
 wrote_standing {cents} {sizes} {text} {farm} {association} {out} {z} {after} call h = go (answered cents sizes text farm association (length out))
   where
     go : Answered cents sizes text farm association (length out) (standing_slip cents sizes text farm association (length out)) → Wrote cents (filled_fields sizes text farm association) out z.value after
@@ -366,7 +366,7 @@ wrote_standing {cents} {sizes} {text} {farm} {association} {out} {z} {after} cal
         let x = write_answer cents (filled_fields sizes text farm association) (length out) in
         let c = call.answers ∙ ap written_told e in
         rw (ap (λ (t : StandingWritten). t.value) c)
-        (answer_wrote cents (filled_fields sizes text farm association) refl out (written_of x) after (sym (ap (λ (t : StandingWritten). t.told.number) c) ∙ h) x refl refl
+        (answer_wrote cents (filled_fields sizes text farm association) refl out (value_told x) after (sym (ap (λ (t : StandingWritten). t.told.number) c) ∙ h) x refl refl
         (call.leaves ∙ ap (λ (y : StandingSlip). left_by_slip y.written (slip_text cents (filled_fields sizes text farm association)) out) e))
 
 -- the slip that was written: at the front of the room, and all behind it as it was

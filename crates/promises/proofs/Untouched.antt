@@ -12,7 +12,7 @@ use Rattle.line_room.specs.LineRoom.{left_by_line}
 use Rattle.boundary.specs.declared.Told.{Told}
 use Rattle.boundary.specs.declared.Valued.{Valued}
 use Rattle.boundary.specs.Told.{refusal, valued, told_of}
-use Rattle.desk_slips.specs.Slips.{written_of}
+use Rattle.desk_slips.specs.Slips.{value_told}
 use Rattle.standing_slip.specs.Filled.{eleven_of, standing_slip}
 use Rattle.desk_standing.specs.declared.StandingWritten.{StandingWritten}
 use Rattle.desk_standing.specs.Standings.{sheet_number, written_told}
@@ -38,14 +38,14 @@ filled_untouched κs a z w call =
 -- Slips
 
 -- what a slip leaves
-slip_kept : (x : Result ℕ Refusal) (s out after : List ℕ) (z : Valued) → z ≡ written_of x → after ≡ left_by_slip x s out → (z.told.number ≡ 0 → ⊥) → after ≡ out
-unfolding written_of
+slip_kept : (x : Result ℕ Refusal) (s out after : List ℕ) (z : Valued) → z ≡ value_told x → after ≡ left_by_slip x s out → (z.told.number ≡ 0 → ⊥) → after ≡ out
+unfolding value_told
 slip_kept (Ok n) s out after z e w h = absurd (h (ap (λ (v : Valued). v.told.number) e))
 slip_kept (Err r) s out after z e w h = w
 
 -- where it is asked first whether the fields are lent whole
 whole_kept :
-    (b : Bool) (x : Result ℕ Refusal) (s out after : List ℕ) (z : Valued) → z ≡ cond b (written_of x) (valued (refusal (Size none)) 0) → after ≡ cond b (left_by_slip x s out) out
+    (b : Bool) (x : Result ℕ Refusal) (s out after : List ℕ) (z : Valued) → z ≡ cond b (value_told x) (valued (refusal (Size none)) 0) → after ≡ cond b (left_by_slip x s out) out
     → (z.told.number ≡ 0 → ⊥) → after ≡ out
 whole_kept true x s out after z e w h = slip_kept x s out after z e w h
 whole_kept false x s out after z e w h = w
@@ -61,7 +61,7 @@ unfolding written_told
 slip_write_standing_untouched κs a z w call h =
     let out = a.1.1.1.1.1.0.now in
     let s = standing_slip a.0 a.1.1.0.now a.1.0.now a.1.1.1.0.now a.1.1.1.1.0.now (length out) in
-    slip_kept s.written _ out w.1.1.1.1.1.0 (written_of s.written) refl call.leaves (λ e. h (ap (λ (t : StandingWritten). t.told.number) call.answers ∙ e))
+    slip_kept s.written _ out w.1.1.1.1.1.0 (value_told s.written) refl call.leaves (λ e. h (ap (λ (t : StandingWritten). t.told.number) call.answers ∙ e))
 
 -- ---------------------------------------------------------------------------
 -- Wage lines
@@ -96,7 +96,7 @@ slip_write_lent_whole κs a z w call h = let n = not_whole 11 a.1.1.0.now a.1.0.
 pub slip_write_standing_lent_whole :
     EverySlipWriteStanding (λ cents text sizes farm association out r after. (together (take 11 sizes) ≡ length text → ⊥) →
     (r.told ≡ refusal (Size none)) × ((r.value ≡ 0) × ((r.sheet ≡ 0) × (after ≡ out))))
-unfolding written_told standing_slip sheet_number written_of
+unfolding written_told standing_slip sheet_number value_told
 slip_write_standing_lent_whole κs a z w call h =
     let n = not_whole 11 a.1.1.0.now a.1.0.now h in
     (rw (call.answers, n), (rw (call.answers, n), (rw (call.answers, n), rw n at call.leaves)))

@@ -4,4 +4,4 @@ use Rattle.desk_standing.proofs.tell_slip.Goals as goal
 
 pub returns : goal.returns
 unfolding written_told
-returns c = rw (c.sheet_number.ensures, c.tell_written-v.ensures)
+returns c = rw (c.sheet_number.ensures, c.tell_valued-v.ensures)

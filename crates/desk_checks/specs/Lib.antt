@@ -1,2 +1,0 @@
--- The definitions of the crate `desk_checks`.
-pub mod Made

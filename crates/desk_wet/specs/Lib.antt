@@ -1,2 +1,0 @@
--- The definitions of the crate `desk_wet`.
-pub mod Listed
