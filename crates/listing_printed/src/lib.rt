@@ -13,6 +13,7 @@ use refusal::{Answer, Refusal};
 use text::front;
 
 // The text of a kept line that is filled: behind its first space, or all of it.
+#[tactic(auto, unfolding(crate::specs::Mirror::kept_text))]
 pub fn text<'a>(seen: Seen, head: &'a [u8], tail: &'a [u8]) -> &'a [u8]
     ensures { result.now ≡ kept_text seen head.now tail.now }
 {
