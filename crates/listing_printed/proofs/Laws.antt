@@ -1,7 +1,7 @@
 -- Laws of what is listed of a line, and of a filled text put into room. Assumes nothing.
 use Rattle.refusal.proofs.Basics.{◌≡◌, refl, sym, ◌∙◌, arith, ℕ, ◌≤◌, length, drop, eqb-true, leb-true, ltb-false, List, [], ◌∷◌, ◌++◌, Bool, true, false, cond, eqb, leb, ltb, zero-add}
 use Rattle.std.specs.Prelude.{Option, Some, None, Result, Ok, Err}
-use Rattle.refusal.specs.Refusal.{Answer, none}
+use Rattle.refusal.specs.Refusal.{none}
 use Rattle.refusal.specs.declared.Refusal.{Refusal}
 use Rattle.refusal.specs.declared.Refusal.TheVariants.{Size, Room}
 use Rattle.classes.specs.declared.Class.TheVariants.{WetReference}

@@ -13,6 +13,7 @@ use refusal::{Answer, Refusal};
 use text::front;
 
 // The text of a kept line that is filled: behind its first space, or all of it.
+#[tactic(auto, unfolding(crate::specs::Mirror::kept_text))]
 pub fn text<'a>(seen: Seen, head: &'a [u8], tail: &'a [u8]) -> &'a [u8]
     ensures { result.now ≡ kept_text seen head.now tail.now }
 {
@@ -25,6 +26,7 @@ pub fn text<'a>(seen: Seen, head: &'a [u8], tail: &'a [u8]) -> &'a [u8]
 }
 
 // The answer to a kept line, the numbers of its fillings at the front of `numbers`: no line feed is 1.
+#[tactic(auto, unfolding(crate::specs::Mirror::kept_listing, crate::specs::Mirror::kept_fillings))]
 pub fn list(seen: Seen, head: &[u8], tail: &[u8], numbers: &mut [u16]) -> Result<usize, Refusal>
     ensures { (result ≡ kept_listing seen head.now tail.now (length numbers.old)) × (numbers.new ≡ left_by_listing result (kept_fillings seen head.now tail.now) numbers.old) }
 {

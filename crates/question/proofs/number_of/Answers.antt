@@ -8,11 +8,11 @@ use Rattle.question.proofs.number_of.Goals as goal
 pub overflow_add-n : goal.overflow_add-n
 overflow_add-n c = omega (arith, c.count-n.ensures, count_within 124 c.args.verbs.now)
 
-pub returns-then-is_same : goal.returns-then-is_same
-returns-then-is_same c =
+pub returns-then-eq : goal.returns-then-eq
+returns-then-eq c =
     place_here c.args.verb.now (split 124 c.args.verbs.now) c.loop-k.k
     (omega (arith, c.count-n.ensures, pieces_counted 124 c.args.verbs.now))
-    (rw c.field.ensures at (sym c.is_same.ensures ∙ c.if-is_same.true))
+    (rw c.field.ensures at (sym c.eq.ensures ∙ c.if-eq.true))
     ∙ sym c.loop-k.invariant
 
 pub loop-k-preserved : goal.loop-k-preserved
@@ -20,7 +20,7 @@ loop-k-preserved c =
     c.loop-k.invariant
     ∙ place_on c.args.verb.now (split 124 c.args.verbs.now) c.loop-k.k
     (omega (arith, c.count-n.ensures, pieces_counted 124 c.args.verbs.now))
-    (rw c.field.ensures at (sym c.is_same.ensures ∙ c.if-is_same.false))
+    (rw c.field.ensures at (sym c.eq.ensures ∙ c.if-eq.false))
 
 pub returns : goal.returns
 returns c =
