@@ -3,9 +3,7 @@
 use Rattle.refusal.proofs.Basics.{◌≡◌, refl, sym, ap, ◌∙◌, arith, ℕ, ◌≤◌, length, get_or, le-leb, List, [], ◌∷◌, ◌↔◌}
 use Rattle.std.specs.Prelude.{Err, Ok}
 use Rattle.refusal.specs.Refusal.{Answer}
-use Rattle.refusal.specs.declared.Refusal.{Refusal}
 use Rattle.refusal.specs.declared.Refusal.TheVariants.{Form}
-use Rattle.text.specs.Bytes.{same}
 use Rattle.text.specs.Split.{split}
 use Rattle.text.proofs.Pieces.{pieces_counted}
 use Rattle.slip_fields.specs.declared.Currency.{Currency}
@@ -24,7 +22,7 @@ use Rattle.ledger_slip.specs.Ledger.{currency_of, amount_in, ledger_from, ledger
 
 -- a slip that is right in a currency is judged in it
 pub plain_currency : (c : Currency) (s : List ℕ) → PlainSlip c s → currency_of s ≡ c
-unfolding currency_of same
+unfolding currency_of
 plain_currency currency.Euro s w = rw w.second
 plain_currency currency.Kuna s w = rw w.second
 

@@ -19,17 +19,19 @@ pub enum Amount {
 }
 
 // The currency in which a slip is judged: kuna where field 2 says so.
+#[tactic(auto, unfolding(crate::specs::Ledger::currency_of))]
 pub fn currency(s: &[u8]) -> Currency
     ensures { result ≡ currency_of s.now }
 {
-    if slip_handed::piece_text(s, 1) == b"HRK" {
-        return Currency::Kuna;
+    match slip_handed::piece_text(s, 1) {
+        b"HRK" => Currency::Kuna,
+        _ => Currency::Euro,
     }
-    Currency::Euro
 }
 
 // An accepted slip's amount, in the unit of its currency.
-fn amount(currency: Currency, number: u64) -> Amount
+#[tactic(auto, unfolding(crate::specs::Ledger::amount_in))]
+fn in_unit(currency: Currency, number: u64) -> Amount
     ensures { result ≡ amount_in currency number }
 {
     match currency {
@@ -39,12 +41,13 @@ fn amount(currency: Currency, number: u64) -> Amount
 }
 
 // A slip of either currency: as `slip::read_in` in the currency that its field 2 names.
+#[tactic(auto, unfolding(crate::specs::Ledger::ledger_of), using(slip_handed::proofs::Amounts::amount_read))]
 pub fn read(s: &[u8]) -> Result<Amount, Refusal>
     ensures { result ≡ ledger_of s.now }
 {
     let currency = currency(s);
     slip::read_in(currency, s)?;
-    Ok(amount(currency, sums::number(slip_handed::piece_text(s, 2))))
+    Ok(in_unit(currency, sums::number(slip_handed::piece_text(s, 2))))
 }
 
 // Where a field of an accepted slip stands, 4 to 14; else no part.
