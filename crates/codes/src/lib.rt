@@ -26,12 +26,10 @@ fn wide(n: u16) -> u64
 fn place_in(list: &[u16], code: u64) -> Option<usize>
     ensures { result ≡ first_in code list.now }
 {
-    let mut i = 0;
-    while i < list.len() {
-        if code == wide(list[i]) {
+    for (i, c) in list.iter().enumerate() {
+        if code == wide(*c) {
             return Some(i);
         }
-        i += 1;
     }
     None
 }
