@@ -6,66 +6,38 @@
 #![tactic(auto)]
 
 use line::Seen;
+use refusal::Refusal;
 use std::io::Read;
 use text::front;
-use refusal::Refusal;
-
-// A line as far as it was read: whether there may be more of it, and whether a read failed.
-#[derive(Clone, Copy)]
-struct Progress {
-    seen: Seen,
-    more: bool,
-    failed: bool,
-}
 
 fn main(rt: HostRuntime) {
     let mut head = [0u8; 22];
     let mut tail = [0u8; 23];
-    let read = read_line(&mut rt.stdin(), &mut head, &mut tail);
-    if read.failed {
-        words::unread(&rt);
-        return;
+    match read_line(&mut rt.stdin(), &mut head, &mut tail) {
+        Some(seen) => respond(&rt, seen, &head, &tail),
+        None => words::unread(&rt),
     }
-    respond(&rt, read.seen, &head, &tail);
 }
 
-// Reads once.
-fn read_some<R: Read>(input: &mut R, seen: Seen, head: &mut [u8], tail: &mut [u8]) -> Progress {
+// Reads until the line or the input ends; nothing where a read fails. A proved loop has to end, and nothing says that an
+// input does: so the loop has a last turn, which no run comes to.
+fn read_line<R: Read>(input: &mut R, head: &mut [u8], tail: &mut [u8]) -> Option<Seen> {
     let mut chunk = [0u8; 4096];
-    let got = words::read_once(input, &mut chunk);
-    let n = got.size;
-    if n == 0 {
-        return Progress {
-            seen,
-            more: false,
-            failed: got.failed,
-        };
-    }
-    let next = line::fed(seen, &chunk[..n], head, tail);
-    let ended = next.ended;
-    Progress {
-        seen: next,
-        more: !ended,
-        failed: false,
-    }
-}
-
-// Reads until the line or the input ends, or a read fails. A proved loop has to end, and nothing says that an input
-// does: so the loop has a last turn, which no run comes to.
-fn read_line<R: Read>(input: &mut R, head: &mut [u8], tail: &mut [u8]) -> Progress {
     let mut seen = line::fresh();
     for _ in 0..u64::MAX {
-        let p = read_some(input, seen, head, tail);
-        if !p.more {
-            return p;
+        let got = words::read_once(input, &mut chunk);
+        if got.failed {
+            return None;
         }
-        seen = p.seen;
+        if got.size == 0 {
+            return Some(seen);
+        }
+        seen = line::fed(seen, &chunk[..got.size], head, tail);
+        if seen.ended {
+            return Some(seen);
+        }
     }
-    Progress {
-        seen,
-        more: true,
-        failed: true,
-    }
+    None
 }
 
 // Lends the room for ten thousand numbers.
@@ -86,9 +58,8 @@ fn write_listing<'a>(
     if !write_first(rt, r) {
         return;
     }
-    match r {
-        Ok(n) => write_lines(rt, listing_printed::text(seen, head, tail), numbers, n),
-        Err(_) => {}
+    if let Ok(n) = r {
+        write_lines(rt, listing_printed::text(seen, head, tail), numbers, n);
     }
 }
 
