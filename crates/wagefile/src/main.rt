@@ -7,17 +7,9 @@
 #![tactic(auto)]
 
 use condition::{Counts, Judge};
+use refusal::Refusal;
 use std::io::Read;
 use text::front;
-use refusal::Refusal;
-
-// The record after a read, whether there may be more, and whether the read failed.
-#[derive(Clone, Copy)]
-struct Progress {
-    judge: Judge,
-    more: bool,
-    failed: bool,
-}
 
 fn main(rt: HostRuntime) {
     let mut stdin = rt.stdin();
@@ -27,49 +19,29 @@ fn main(rt: HostRuntime) {
         words::unread(&rt);
         return;
     }
+    let day = wage_printed::day(front(&head, got.size));
     let mut buffer = [0u8; 64128];
-    let p = read_lines(
-        &mut stdin,
-        condition::begin(wage_printed::day(front(&head, got.size))),
-        &mut buffer,
-    );
-    if p.failed {
-        words::unread(&rt);
-        return;
-    }
-    respond(&rt, condition::end(p.judge));
-}
-
-// Reads once, and judges what was read. What stands before a failed read is judged too, and not answered.
-fn read_some<R: Read>(input: &mut R, j: Judge, buffer: &mut [u8]) -> Progress {
-    let got = words::read_full(input, buffer);
-    let n = got.size;
-    let failed = got.failed;
-    let next = wage_file::lines(j, front(buffer, n));
-    let condition = next.condition;
-    Progress {
-        judge: next,
-        more: !condition::is_refused(condition) && !failed && n == buffer.len(),
-        failed,
+    match read_lines(&mut stdin, condition::begin(day), &mut buffer) {
+        Some(judge) => respond(&rt, condition::end(judge)),
+        None => words::unread(&rt),
     }
 }
 
-// Reads until the input ends, a line is refused or a read fails. A proved loop has to end: so it has a last turn, which no
-// run comes to.
-fn read_lines<R: Read>(input: &mut R, from: Judge, buffer: &mut [u8]) -> Progress {
-    let mut p = Progress {
-        judge: from,
-        more: true,
-        failed: false,
-    };
+// Reads until the input ends, a line is refused or a read fails: then what stands before is not answered. A proved loop
+// has to end: so it has a last turn, which no run comes to.
+fn read_lines<R: Read>(input: &mut R, from: Judge, buffer: &mut [u8]) -> Option<Judge> {
+    let mut judge = from;
     for _ in 0..u64::MAX {
-        let j = p.judge;
-        p = read_some(input, j, buffer);
-        if !p.more {
-            return p;
+        let got = words::read_full(input, buffer);
+        if got.failed {
+            return None;
+        }
+        judge = wage_file::lines(judge, front(buffer, got.size));
+        if condition::is_refused(judge.condition) || got.size < buffer.len() {
+            return Some(judge);
         }
     }
-    p
+    Some(judge)
 }
 
 // Writes what is printed of the answer: at most 108 bytes.
