@@ -1,4 +1,3 @@
--- The laws of the crate `wage_printed`.
-pub mod Laws
+-- The theorems of the crate `wage_printed`.
 pub mod Theorems
 pub mod One

@@ -12,6 +12,7 @@ use condition::Counts;
 use refusal::Refusal;
 
 // The day that the first line tells; 0, which is no date, if it is not eight digits and a line feed.
+#[tactic(auto, unfolding(crate::specs::FilePrinted::day_told))]
 pub fn day(s: &[u8]) -> u64
     ensures { result ≡ day_told s.now }
 {
@@ -42,6 +43,7 @@ fn put_counts(c: Counts, out: &mut [u8]) -> usize
 }
 
 // What is printed of a file's answer; the answer is how many bytes it has, as far as there is room.
+#[tactic(auto, unfolding(crate::specs::FilePrinted::ending_printed))]
 pub fn print(e: Result<Counts, Refusal>, out: &mut [u8]) -> usize
     ensures { Puts (ending_printed e) 0 out.old result out.new }
 {
