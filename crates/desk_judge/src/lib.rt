@@ -13,11 +13,11 @@ ghost use Rattle.desk_record.specs.Record.{judge_of, record_of};
 ghost use Rattle.desk_judge.specs.Wages.{ended_of, place_part};
 
 use boundary::Told;
+use condition::Counts;
 use desk_record::Record;
+use refusal::Refusal;
 use sums::Sum;
 use text::Part;
-use refusal::Refusal;
-use condition::Counts;
 
 // What the end of a wage file tells.
 #[repr(C)]
@@ -31,6 +31,7 @@ pub struct Ended {
 }
 
 // What a wage file comes to.
+#[tactic(auto, unfolding(crate::specs::Wages::ended_of))]
 fn tell_ending(e: Result<Counts, Refusal>) -> Ended
     ensures { result ≡ ended_of e }
 {
@@ -57,6 +58,7 @@ fn tell_ending(e: Result<Counts, Refusal>) -> Ended
 }
 
 // Where a place of a wage line stands; else no part.
+#[tactic(auto, unfolding(crate::specs::Wages::place_part))]
 fn place_part(line: &[u8], field: usize) -> Part
     ensures { result ≡ place_part line.now field }
 {

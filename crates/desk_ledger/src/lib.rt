@@ -28,6 +28,7 @@ pub struct Ledger {
 }
 
 // So many lipa in cents.
+#[tactic(auto, using(units::proofs::Theorems::nearest_is))]
 fn converted(lipa: u64) -> u64
     ensures { result ≡ lipa_in_cents lipa }
 {
@@ -36,6 +37,7 @@ fn converted(lipa: u64) -> u64
 }
 
 // A slip of either currency.
+#[tactic(auto, unfolding(crate::specs::Ledgers::ledger_told))]
 fn tell(slip: Result<Amount, Refusal>) -> Ledger
     ensures { result ≡ ledger_told slip }
 {

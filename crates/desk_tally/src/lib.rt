@@ -20,6 +20,7 @@ pub struct Tallied {
 }
 
 // One line, with the tally by value.
+#[tactic(auto, unfolding(crate::specs::Tallied::tallied_of))]
 fn by_value(record: Record, line: &[u8], t: Tally) -> Tallied
     ensures { result ≡ tallied_of «record» line.now t }
 {

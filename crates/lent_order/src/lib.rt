@@ -27,23 +27,17 @@ fn no_order(n: usize) -> Answer
 fn judge_fields(day: u64, kind: u64, n: usize, s: &[u8]) -> Answer
     ensures { result ≡ answer_of_line n (places_answer day kind LineType.Order s.now) }
 {
-    match wage_fields::judge_places(day, kind, LineType::Order, s) {
-        Ok(()) => Ok(()),
-        Err(r) => Err(refusal::in_line(n, r)),
-    }
+    wage_fields::judge_places(day, kind, LineType::Order, s).map_err(|r| refusal::in_line(n, r))
 }
 
 // One line of a group's orders.
+#[tactic(auto, unfolding(crate::specs::Order::lent_order_answer))]
 pub fn judge_order(day: u64, kind: u64, n: usize, s: &[u8]) -> Answer
     ensures { result ≡ lent_order_answer day kind n s.now }
 {
     match wage_line::read_type(s) {
-        Ok(t) => match t {
-            LineType::Label => no_order(n),
-            LineType::Group => no_order(n),
-            LineType::Order => judge_fields(day, kind, n, s),
-            LineType::Closing => no_order(n),
-        },
+        Ok(LineType::Order) => judge_fields(day, kind, n, s),
+        Ok(_) => no_order(n),
         Err(r) => Err(refusal::in_line(n, r)),
     }
 }

@@ -41,6 +41,7 @@ fn put_accepted(words: &[u8], s: &[u8], out: &mut [u8]) -> usize
 }
 
 // What `slipfile` prints of a slip; the answer is how many bytes it has, as far as there is room.
+#[tactic(auto, unfolding(crate::specs::SlipPrinted::slip_printed))]
 pub fn print(s: &[u8], out: &mut [u8]) -> usize
     ensures { Puts (slip_printed s.now) 0 out.old result out.new }
 {
