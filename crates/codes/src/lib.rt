@@ -7,7 +7,6 @@
 ghost use Rattle.std.specs.Prelude.{◌≡◌};
 ghost use Rattle.codes.specs.Codes.{first_in, code_place, is_code};
 
-
 // The codes, in the order of the list.
 const CODES: [u16; 55] = [
     100, 110, 120, 130, 140, 150, 160, 170, 180, 190, 191, 200, 210, 220, 230, 240, 250, 260, 270,

@@ -26,10 +26,7 @@ fn judge_whole(c: Condition, g: Open) -> Verdict
     let declared = g.declared;
     let total = g.total;
     let promised = g.promised;
-    verdict::only_if(
-        (condition::stage(c) == 2) & (0 < counted),
-        Fault::Misplaced,
-    )?;
+    verdict::only_if((condition::stage(c) == 2) & (0 < counted), Fault::Misplaced)?;
     verdict::only_if(counted == declared, Fault::Orders)?;
     verdict::only_if(sums::is_same(total, promised), Fault::Sum)
 }
