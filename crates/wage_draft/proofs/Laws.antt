@@ -1,11 +1,10 @@
 -- Laws of a line being drafted: the fields put at their places; what a rule looks at besides its own field; and what a draft changes and leaves.
 -- Assumes nothing.
-use Rattle.refusal.proofs.Basics.{◌≡◌, refl, sym, ap, ◌∙◌, arith, ℕ, zero, suc, ◌+◌, ◌-◌, ◌≤◌, ◌<◌, length, length-replicate, replicate, take, drop, get_or, drop_of_length-le, eq-eqb, ne_eqb, eqb-true, eqb-false, leb-true, ltb-true, ltb-false, List, [], ◌∷◌, ◌++◌, map, append-nil, Bool, true, false, ◌&&◌, eqb, leb, ltb, sets, drop-cons, drop-length, take-nil, take-take, inr, add-one, both_true}
-use Rattle.std.specs.Prelude.{Ok, Err}
-use Rattle.refusal.specs.Refusal.{Answer, none}
-use Rattle.refusal.specs.declared.Place.{Place}
+use Rattle.refusal.proofs.Basics.{◌≡◌, refl, sym, ap, ◌∙◌, arith, ℕ, zero, suc, ◌+◌, ◌-◌, ◌≤◌, ◌<◌, length, length-replicate, length-take, length-drop, replicate, take, drop, get_or, eq-eqb, ne_eqb, eqb-true, eqb-false, leb-true, ltb-true, ltb-false, List, [], ◌∷◌, ◌++◌, map, append-nil, Bool, true, false, ◌&&◌, eqb, leb, ltb, sets, drop-cons, drop-length, take-nil, take-take, inr, add-one, both_true}
+use Rattle.std.specs.Prelude.{Ok, Err, min}
+use Rattle.std.proofs.lemmas.List.{nil_from_length}
+use Rattle.refusal.specs.Refusal.{Answer}
 use Rattle.refusal.specs.declared.Refusal.{Refusal}
-use Rattle.refusal.specs.declared.Refusal.TheVariants.{Size}
 use Rattle.verdict.proofs.Verdicts.{first_both}
 use Rattle.room.proofs.Places.{sets_length, front, take_sets, drop_sets, place_filled, set_own, sets_over, sets_apart}
 use Rattle.wage_places.specs.declared.LineType.{LineType}
@@ -20,20 +19,6 @@ use Rattle.wage_fields.proofs.Laws.{accept_both}
 use Rattle.lent_fields.specs.Fields.{fields_of, FieldEnd}
 use Rattle.lent_fields.proofs.Laws.{field_from, fields_on}
 use Rattle.wage_draft.specs.Draft.{Draft, wrong_length, placed, going_on, drafted, in_scratch, blanked, Drafts, DraftsRight}
-
--- ---------------------------------------------------------------------------
--- One place
-
-module _ (day kind : ℕ) (t : LineType) (p : Spot) (f line : List ℕ) where
-  -- a field of another length is not put
-  pub placed_wrong : (length f ≡ p.size → ⊥) → Drafts (placed day kind t p f line) (wrong_length p) line
-  placed_wrong g = rw (ne_eqb (length f) p.size g) (record { answers = refl; leaves = refl })
-
-  -- one of the right length is put and judged
-  pub placed_right :
-      length f ≡ p.size → (r : Answer) (after : List ℕ) → after ≡ sets line p.start f → r ≡ place_answer day kind t p after
-      → Drafts (placed day kind t p f line) r after
-  placed_right g r after e w = rw (eq-eqb (length f) p.size g, ← e) (record { answers = w; leaves = refl })
 
 -- ---------------------------------------------------------------------------
 -- Places from one on
@@ -52,15 +37,12 @@ module _ (day kind : ℕ) (t : LineType) (ps : List Spot) (last k : ℕ) (sizes 
   abbrev pub Left : Draft
   Left = drafted day kind t (take (last - k) (drop k ps)) (fields_of (drop i sizes) (drop at text)) line
 
-  -- no place is left: what stands is the draft
-  pub draft_last : last ≤ k → Drafts Left (Ok tt) line
+  -- no place is left, or the line has no more: what stands is the draft
+  pub draft_done : min last (length ps) ≤ k → Drafts Left (Ok tt) line
   unfolding drafted
-  draft_last h = let e : last - k ≡ 0 = omega arith in rw e (record { answers = refl; leaves = refl })
-
-  -- the line has no more places
-  pub draft_past : length ps ≤ k → Drafts Left (Ok tt) line
-  unfolding drafted
-  draft_past h = rw (drop_of_length-le ps h, take-nil (last - k)) (record { answers = refl; leaves = refl })
+  draft_done h =
+      let l : length (take (last - k) (drop k ps)) ≡ 0 = simp (length-take, length-drop) (omega arith) in
+      rw (nil_from_length (take (last - k) (drop k ps)) l) (record { answers = refl; leaves = refl })
 
   module _ (end : ℕ) (ended : FieldEnd text at (get_or sizes i 0) end) (more : k < last) (known : k < length ps) where
     -- the next place
@@ -96,44 +78,22 @@ draft_on day kind t ps last k sizes i text at line end ended more known r after 
 pub put_whole : (s f : List ℕ) → length f ≡ length s → sets s 0 f ≡ f
 put_whole s f e = front s f (omega arith) ∙ rw (e, drop-length s) (append-nil f)
 
-module _ (line : List ℕ) (d : Draft) where
-  -- the line has not 1,002 bytes
-  pub scratch_short : (length line ≡ 1002 → ⊥) → (p : Place) → p ≡ none → Drafts (in_scratch line d) (Err (Size p)) line
+module _ (line : List ℕ) (d : Draft) (whole : length line ≡ 1002) (r : Answer) (after : List ℕ) where
+  -- what the caller of a draft goes by
+  pub drafts_right : Drafts (in_scratch line d) r after → DraftsRight d r after
   unfolding in_scratch
-  scratch_short h p n = rw (ne_eqb (length line) 1002 h, n) (record { answers = refl; leaves = refl })
+  drafts_right w = go d.answer refl (rw (eq-eqb (length line) 1002 whole) at w)
+    where
+      other : {q : Refusal} → r ≡ Ok tt → r ≡ Err q → after ≡ d.line
+      other h g = let z : ◌≡◌ {A = ℕ} 0 1 = cc in absurd (omega arith)
 
-  module _ (whole : length line ≡ 1002) (r : Answer) (after : List ℕ) where
-    -- a refused draft leaves the line as it was
-    pub scratch_refused : Drafts d r after → (q : Refusal) → r ≡ Err q → Drafts (in_scratch line d) (Err q) line
-    unfolding in_scratch
-    scratch_refused w q e =
-        let f : d.answer ≡ Err q = sym w.answers ∙ e in
-        rw (eq-eqb (length line) 1002 whole, f) (record { answers = refl; leaves = refl })
-
-    -- an accepted one is put back
-    pub scratch_accepted :
-        Drafts d r after → r ≡ Ok tt → length after ≡ 1002 → (back : List ℕ) → back ≡ sets line 0 after → Drafts (in_scratch line d) (Ok tt) back
-    unfolding in_scratch
-    scratch_accepted w e l back b =
-        let f : d.answer ≡ (Ok tt) = sym w.answers ∙ e in
-        let g : back ≡ d.line = b ∙ put_whole line after (omega arith) ∙ w.leaves in
-        rw (eq-eqb (length line) 1002 whole, f) (record { answers = refl; leaves = g })
-
-    -- what the caller of a draft goes by
-    pub drafts_right : Drafts (in_scratch line d) r after → DraftsRight d r after
-    unfolding in_scratch
-    drafts_right w = go d.answer refl (rw (eq-eqb (length line) 1002 whole) at w)
-      where
-        other : {q : Refusal} → r ≡ Ok tt → r ≡ Err q → after ≡ d.line
-        other h g = let z : ◌≡◌ {A = ℕ} 0 1 = cc in absurd (omega arith)
-
-        go : (a : Answer) → d.answer ≡ a → Drafts (going_on d.answer (record { answer = d.answer; line = line }) d) r after → DraftsRight d r after
-        go (Ok u) e v =
-            let u : Drafts (record { answer = Ok tt; line = d.line }) r after = rw e at v in
-            record { answers = u.answers ∙ sym e; leaves = λ (h : r ≡ Ok tt). u.leaves }
-        go (Err q) e v =
-            let u : Drafts (record { answer = Err q; line = line }) r after = rw e at v in
-            record { answers = u.answers ∙ sym e; leaves = λ (h : r ≡ Ok tt). other h u.answers }
+      go : (a : Answer) → d.answer ≡ a → Drafts (going_on d.answer (record { answer = d.answer; line = line }) d) r after → DraftsRight d r after
+      go (Ok u) e v =
+          let u : Drafts (record { answer = Ok tt; line = d.line }) r after = rw e at v in
+          record { answers = u.answers ∙ sym e; leaves = λ (h : r ≡ Ok tt). u.leaves }
+      go (Err q) e v =
+          let u : Drafts (record { answer = Err q; line = line }) r after = rw e at v in
+          record { answers = u.answers ∙ sym e; leaves = λ (h : r ≡ Ok tt). other h u.answers }
 
 -- ---------------------------------------------------------------------------
 -- Going on, and the fields that a draft reads

@@ -17,21 +17,19 @@ fn place(day: u64, kind: u64, t: LineType, k: usize, f: &[u8], line: &mut [u8]) 
     ensures { Drafts (placed day kind t (get_or (spots t) k no_spot) f.now line.old) result line.new }
 {
     let p = wage_places::spot_at(t, k);
-    let field = p.field;
-    let start = p.start;
-    let size = p.size;
-    if f.len() != size {
+    if f.len() != p.size {
         return Err(Refusal::Length(Place {
             line: 0,
-            field,
-            byte: start,
+            field: p.field,
+            byte: p.start,
         }));
     }
-    room::put(line, start, f);
+    room::put(line, p.start, f);
     wage_fields::judge_place(day, kind, t, k, line)
 }
 
 // The places from one order up to another, their fields one behind the other.
+#[tactic(auto, using(crate::proofs::Laws::draft_done))]
 fn draft_in(
     day: u64,
     kind: u64,
@@ -46,10 +44,7 @@ fn draft_in(
 {
     let count = wage_places::count(t);
     let mut at: usize = 0;
-    'places: for k in first..last {
-        if count <= k {
-            break 'places;
-        }
+    for k in first..last.min(count) {
         let end = lent_fields::end_of(text, at, lent_fields::size_at(sizes, k - first));
         place(day, kind, t, k, &text[at..end], line)?;
         at = end;
@@ -58,6 +53,7 @@ fn draft_in(
 }
 
 // Those places in scratch room that has the line's size; only a draft that is accepted is put back.
+#[tactic(auto, unfolding(crate::specs::Draft::in_scratch), using(crate::proofs::Laws::put_whole))]
 fn draft_aside(
     day: u64,
     kind: u64,
@@ -79,6 +75,7 @@ fn draft_aside(
 }
 
 // The places from one order up to another on a lent line of 1,002 bytes, which a refusal leaves as it was.
+#[tactic(auto, unfolding(crate::specs::Draft::in_scratch))]
 pub fn draft(
     day: u64,
     kind: u64,

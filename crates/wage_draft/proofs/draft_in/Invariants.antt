@@ -6,5 +6,5 @@ use Rattle.wage_draft.specs.Draft.{drafted}
 use Rattle.wage_draft.proofs.Laws.{Left}
 use Rattle.wage_draft.proofs.draft_in.Given as goal
 
-abbrev pub invariant-places : goal.invariant-places
-invariant-places l = (l.at ≤ length l.text) × ((length l.line ≡ length l.initial.line) × (drafted l.day l.kind l.t (take (l.last - l.first) (drop l.first (spots l.t))) (fields_of l.sizes l.text) l.initial.line ≡ Left l.day l.kind l.t (spots l.t) l.last l.k l.sizes (l.k - l.first) l.text l.at l.line))
+abbrev pub invariant-loop-k : goal.invariant-loop-k
+invariant-loop-k l = (l.at ≤ length l.text) × (drafted l.day l.kind l.t (take (l.last - l.first) (drop l.first (spots l.t))) (fields_of l.sizes l.text) l.initial.line ≡ Left l.day l.kind l.t (spots l.t) l.last l.k l.sizes (l.k - l.first) l.text l.at l.line)
