@@ -1,55 +1,20 @@
--- Laws of a line put into lent room: what each refusal and the line itself leave, and what stands before the refusal of the room.
+-- Laws of a line put into lent room: what the line leaves there, and what stands before the refusal of the room.
 -- Assumes nothing.
-use Rattle.refusal.proofs.Basics.{◌≡◌, refl, ap, ◌∙◌, arith, ℕ, ◌≤◌, ◌<◌, length, drop, lt-leb, le-leb, leb-false, List, ◌++◌, true, false, ◌||◌, Bool, cond, eqb, leb, sets}
+use Rattle.refusal.proofs.Basics.{◌≡◌, refl, ap, ◌∙◌, arith, ℕ, ◌≤◌, ◌<◌, length, drop, le-leb, leb-false, List, ◌++◌, true, false, ◌||◌, Bool, cond, eqb, leb, sets}
 use Rattle.std.specs.Prelude.{Ok, Err}
 use Rattle.refusal.specs.Refusal.{Answer, none, first_of}
-use Rattle.refusal.specs.declared.Place.{Place}
-use Rattle.refusal.specs.declared.Refusal.{Refusal}
 use Rattle.refusal.specs.declared.Refusal.TheVariants.{Form, Date, Room}
 use Rattle.dates.specs.Dates.{is_date}
 use Rattle.room.proofs.Places.{front}
 use Rattle.line_room.specs.LineRoom.{for_day, for_kind, for_room, Writes}
 
--- ---------------------------------------------------------------------------
--- Refusals in their order
-
-module _ (line out : List ℕ) where
-  -- a refusal of the first answer is that of both, and leaves the room as it was
-  pub refused_first : (a rest : Answer) (q : Refusal) → a ≡ Err q → Writes (first_of a rest) line out (Err q) out
-  refused_first a rest q e = rw e (record { answers = refl; leaves = refl })
-
-  -- where the first answer accepts, the second counts
-  pub accepted_first : (a rest r : Answer) (after : List ℕ) → a ≡ Ok tt → Writes rest line out r after → Writes (first_of a rest) line out r after
-  accepted_first a rest r after e w = rw e w
-
-  -- the day is no date
-  pub day_wrong : (day : ℕ) (rest : Answer) (p : Place) → is_date day ≡ false → p ≡ none → Writes (for_day day rest) line out (Err (Date p)) out
-  day_wrong day rest p e n = rw (e, n) (record { answers = refl; leaves = refl })
-
-  -- the day is a date
-  pub day_right : (day : ℕ) (rest r : Answer) (after : List ℕ) → is_date day ≡ true → Writes rest line out r after → Writes (for_day day rest) line out r after
-  day_right day rest r after e w = rw e w
-
-  -- the kind is neither 4 nor 5
-  pub kind_wrong :
-      (kind : ℕ) (rest : Answer) (p : Place) → (eqb kind 4 || eqb kind 5) ≡ false → p ≡ none → Writes (for_kind kind rest) line out (Err (Form p)) out
-  kind_wrong kind rest p e n = rw (e, n) (record { answers = refl; leaves = refl })
-
-  -- the kind is one of them
-  pub kind_right :
-      (kind : ℕ) (rest r : Answer) (after : List ℕ) → (eqb kind 4 || eqb kind 5) ≡ true → Writes rest line out r after
-      → Writes (for_kind kind rest) line out r after
-  kind_right kind rest r after e w = rw e w
-
-  -- there is too little room
-  pub room_short : (p : Place) → length out < 1002 → p ≡ none → Writes (for_room (length out)) line out (Err (Room p 1002)) out
-  room_short p h n = rw (lt-leb 1002 (length out) h, n) (record { answers = refl; leaves = refl })
-
-  -- there is room for the line
-  pub room_enough : (after : List ℕ) → length line ≡ 1002 → 1002 ≤ length out → after ≡ sets out 0 line → Writes (for_room (length out)) line out (Ok tt) after
-  room_enough after e h w =
-      let f : after ≡ line ++ drop 1002 out = w ∙ front out line (omega arith) ∙ ap (λ (n : ℕ). line ++ drop n out) e in
-      rw (le-leb 1002 (length out) h) (record { answers = refl; leaves = f })
+-- there is room for the line
+pub room_enough :
+    (line out after : List ℕ) → length line ≡ 1002 → 1002 ≤ length out → after ≡ sets out 0 line
+    → Writes (for_room (length out)) line out (Ok tt) after
+room_enough line out after e h w =
+    let f : after ≡ line ++ drop 1002 out = w ∙ front out line (omega arith) ∙ ap (λ (n : ℕ). line ++ drop n out) e in
+    rw (le-leb 1002 (length out) h) (record { answers = refl; leaves = f })
 
 -- ---------------------------------------------------------------------------
 -- What stands before the refusal of the room

@@ -25,13 +25,11 @@ pub fn put_line(line: &[u8; 1002], out: &mut [u8]) -> Answer
 pub fn is_kind(kind: u64) -> bool
     ensures { result ≡ (eqb kind 4 || eqb kind 5) }
 {
-    if kind == 4 {
-        return true;
-    }
-    kind == 5
+    kind == 4 || kind == 5
 }
 
 // Writes a 399, for a day.
+#[tactic(auto, unfolding(crate::specs::LineRoom::closing_answer), using(bare_line::proofs::Theorems::bare))]
 pub fn write_closing(day: u64, out: &mut [u8]) -> Answer
     ensures { Writes (closing_answer day (length out.old)) (bare_line LineType.Closing) out.old result out.new }
 {

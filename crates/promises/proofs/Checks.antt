@@ -4,30 +4,23 @@ use Rattle.refusal.proofs.Basics.{◌≡◌, refl, arith, ℕ, ◌+◌, ◌-◌,
 use Rattle.std.specs.Prelude.{Err, Ok, Option, Some, None, Result}
 use Rattle.refusal.specs.declared.Refusal.{Refusal}
 use Rattle.refusal.specs.Refusal.{refusal_number}
-use Rattle.verdict.specs.Verdict.{passed, only_if, and_then}
-use Rattle.classes.specs.declared.Class.{Class}
+use Rattle.verdict.specs.Verdict.{Verdict, passed, Within}
+use Rattle.verdict.specs.declared.Fault.TheVariants.{Byte, Length, Form, Check, Model, Parts, Digit, Misplaced, Date, Orders, Sum}
 use Rattle.classes.specs.declared.Class.TheVariants.{Digits, Account, Reference}
-use Rattle.text.specs.Bytes.{all_of, found, first_bad, bytes_verdict}
-use Rattle.text.proofs.Laws.{Below, bad_below}
+use Rattle.text.specs.Bytes.{all_of}
 use Rattle.check_digits.specs.declared.Rule.{Rule}
 use Rattle.check_digits.specs.declared.Rule.TheVariants.{Ini, Mod1110}
 use Rattle.check_digits.specs.Answers.{check_answer, make_answer}
 use Rattle.check_digits.proofs.Theorems.{made_is_checked}
 use Rattle.account.specs.Account.{iban_formed, iban_passes, oib_passes}
 use Rattle.account.specs.Answers.{is_iban, iban_verdict, oib_verdict}
-use Rattle.account.proofs.Theorems.{iban_field_exactly, oib_accepted_exactly, with_digits, no_iban_of_00_01_99}
-use Rattle.models.specs.Models.{model_of}
-use Rattle.model_text.specs.Texts.{model_number}
-use Rattle.parts.specs.Parts.{parts_of, formed}
-use Rattle.part_contents.specs.Contents.{contents_right}
-use Rattle.groups.specs.Groups.{groups_right}
-use Rattle.reference.specs.Answers.{number_verdict, reference_verdict}
-use Rattle.reference.proofs.Theorems.{RightReference, reference_accepted_exactly}
+use Rattle.account.proofs.Theorems.{iban_field_exactly, oib_accepted_exactly, with_digits, no_iban_of_00_01_99, iban_within, oib_within}
+use Rattle.reference.specs.Answers.{reference_verdict}
+use Rattle.reference.proofs.Theorems.{RightReference, reference_accepted_exactly, reference_within}
 use Rattle.boundary.specs.declared.Told.{Told}
 use Rattle.boundary.specs.declared.Valued.{Valued}
-use Rattle.boundary.specs.Told.{valued, no_rule, told_of, verdict_told}
+use Rattle.boundary.specs.Told.{valued, no_rule, told_of, value_told, verdict_told}
 use Rattle.boundary.proofs.Theorems.{number_not_zero}
-use Rattle.desk_checks.specs.Made.{value_told}
 use Rattle.promises.proofs.Laws.{told_zero, verdict_zero}
 use Rattle.promises.specs.Calls.{EveryCheckDigits, EveryMakeDigit, EveryIban, EveryOib, EveryReference}
 
@@ -60,81 +53,37 @@ reference_exactly κs a z w call =
 -- ---------------------------------------------------------------------------
 -- A 3 tells a byte of the text
 
--- told, a verdict of 3 has its byte among n
-unfoldable Tells : ℕ → ℕ → Type 0
-Tells n v = (verdict_told v).number ≡ 3 → (verdict_told v).byte < n
-
-module _ (n : ℕ) where
-  choice_tells : (b : Bool) (v w : ℕ) → Tells n v → Tells n w → Tells n (cond b v w)
-  choice_tells true v w g h = g
-  choice_tells false v w g h = h
-
-  then_tells : (v w : ℕ) → Tells n v → Tells n w → Tells n (and_then v w)
-  then_tells v w g h = choice_tells (eqb v 0) w v h g
-
-  -- a number other than 3
-  other_tells : (v : ℕ) → eqb (verdict_told v).number 3 ≡ false → Tells n v
-  unfolding Tells
-  other_tells v h e = absurd (eqb-false _ 3 h e)
-
-  -- a test that refuses with one
-  only_tells : (b : Bool) (k : ℕ) → eqb (verdict_told k).number 3 ≡ false → Tells n (only_if b k)
-  unfolding told_of
-  only_tells b k h = choice_tells b 0 k (other_tells 0 refl) (other_tells k h)
-
-  -- a scan tells the byte that it found
-  found_tells : (f : Option ℕ) → Below n f → Tells n (found f)
-  unfolding Tells told_of
-  found_tells (Some i) h = λ e. let z : 32 + i - 32 ≡ i = omega arith in rw (ne_eqb (32 + i) 0 (λ q. omega arith), le-leb 32 (32 + i) (omega arith), z) h
-  found_tells None h = other_tells 0 refl
-
-bytes_tell : (k : Class) (s : List ℕ) → Tells (length s) (bytes_verdict k s)
-unfolding bytes_verdict
-bytes_tell k s = found_tells (length s) (first_bad k s) (bad_below k s)
-
-iban_tells : (s : List ℕ) → Tells (length s) (iban_verdict s)
+-- a verdict that is told as 3 has its byte among n
+byte_told : (n : ℕ) (v : Verdict) (z : Told) → z ≡ verdict_told v → Within n v → z.number ≡ 3 → z.byte < n
 unfolding told_of
-iban_tells s =
-    let n = length s in
-    then_tells n _ _ (bytes_tell Account s)
-    (then_tells n _ _ (only_tells n (eqb n 21) 4 refl)
-    (then_tells n _ _ (only_tells n (iban_formed s) 5 refl) (only_tells n (iban_passes s) 6 refl)))
-
-oib_tells : (s : List ℕ) → Tells (length s) (oib_verdict s)
-unfolding told_of
-oib_tells s =
-    let n = length s in
-    then_tells n _ _ (bytes_tell Digits s) (then_tells n _ _ (only_tells n (eqb n 11) 4 refl) (only_tells n (oib_passes s) 6 refl))
-
-number_tells : (s : List ℕ) (f : Option ℕ) → Tells (length s) (number_verdict s f)
-unfolding told_of
-number_tells s (Some k) =
-    let n = length s in
-    let model = model_of k in
-    then_tells n _ _ (only_tells n model.handled 7 refl)
-    (then_tells n _ _ (bytes_tell Reference s)
-    (then_tells n _ _ (only_tells n (leb n 22) 4 refl)
-    (then_tells n _ _ (only_tells n (formed model s) 8 refl)
-    (then_tells n _ _ (only_tells n (contents_right model (parts_of s)) 5 refl) (only_tells n (groups_right model.groups (parts_of s)) 9 refl)))))
-number_tells s None = other_tells (length s) 5 refl
-
--- the answer that tells it
-byte_told : (n v : ℕ) (z : Told) → z ≡ verdict_told v → Tells n v → z.number ≡ 3 → z.byte < n
-unfolding Tells
-byte_told n v z e tells h = rw e (tells (rw e at h))
+byte_told n v z e within h = rw e (go v within (rw e at h))
+  where
+    go : (x : Verdict) → Within n x → (verdict_told x).number ≡ 3 → (verdict_told x).byte < n
+    go (Ok u) w g = absurd (omega arith)
+    go (Err (Byte i)) w g = w i refl
+    go (Err Length) w g = absurd (omega arith)
+    go (Err Form) w g = absurd (omega arith)
+    go (Err Check) w g = absurd (omega arith)
+    go (Err Model) w g = absurd (omega arith)
+    go (Err Parts) w g = absurd (omega arith)
+    go (Err Digit) w g = absurd (omega arith)
+    go (Err Misplaced) w g = absurd (omega arith)
+    go (Err Date) w g = absurd (omega arith)
+    go (Err Orders) w g = absurd (omega arith)
+    go (Err Sum) w g = absurd (omega arith)
 
 -- of an IBAN, of an OIB and of a reference
 pub iban_byte_within : EveryIban (λ text r. r.number ≡ 3 → r.byte < length text)
-iban_byte_within κs a z w call = byte_told _ _ z call (iban_tells a.0.now)
+iban_byte_within κs a z w call = byte_told _ _ z call (iban_within a.0.now)
 
 pub oib_byte_within : EveryOib (λ text r. r.number ≡ 3 → r.byte < length text)
-oib_byte_within κs a z w call = byte_told _ _ z call (oib_tells a.0.now)
+oib_byte_within κs a z w call = byte_told _ _ z call (oib_within a.0.now)
 
 pub reference_byte_within : EveryReference (λ model text r. r.number ≡ 3 → r.byte < length text)
-reference_byte_within κs a z w call = byte_told _ _ z call (number_tells a.1.0.now (model_number a.0.now))
+reference_byte_within κs a z w call = byte_told _ _ z call (reference_within a.0.now a.1.0.now)
 
 -- ---------------------------------------------------------------------------
--- Result ℕ Refusal and checked
+-- Made and checked
 
 -- by one rule
 made_checked :

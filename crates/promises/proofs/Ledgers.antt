@@ -1,8 +1,9 @@
 -- Document 02, W1, said of the calls for the ledgers: accepted exactly when, for both currencies; the euro calls beside them; lipa in cents.
 -- Assumes nothing.
 use Rattle.refusal.proofs.Basics.{◌≡◌, refl, sym, ap, ◌∙◌, arith, ℕ, ◌≤◌, take, drop, List, ◌↔◌, ◌⊎◌, inl, inr, ⊎_elim}
-use Rattle.std.specs.Prelude.{Err, Ok}
+use Rattle.std.specs.Prelude.{Err, Ok, Result}
 use Rattle.refusal.specs.Refusal.{Answer}
+use Rattle.refusal.specs.declared.Refusal.{Refusal}
 use Rattle.refusal.specs.declared.Refusal.TheVariants.{Form}
 use Rattle.slip_fields.specs.declared.Currency.{Currency}
 use Rattle.slip_fields.specs.declared.Currency.TheVariants.{Euro, Kuna}
@@ -12,13 +13,12 @@ use Rattle.slip_handed.specs.Handed.{amount_of, cents_from, slip_cents}
 use Rattle.slip_handed.proofs.Laws.{field_stands}
 use Rattle.units.specs.Units.{Nearest}
 use Rattle.units.proofs.Theorems.{cents_nearest, nearest_alone, nearest_rises}
-use Rattle.ledger_slip.specs.declared.LedgerSlip.{LedgerSlip}
-use Rattle.ledger_slip.specs.declared.LedgerSlip.TheVariants as ledger
+use Rattle.ledger_slip.specs.declared.Amount.{Amount}
+use Rattle.ledger_slip.specs.declared.Amount.TheVariants as amount
 use Rattle.ledger_slip.specs.Ledger.{currency_of, amount_in, ledger_from, ledger_of, ledger_field}
 use Rattle.ledger_slip.proofs.Theorems.{never_both, plain_currency, ledger_exactly, euro_fields, kuna_refused}
 use Rattle.boundary.specs.declared.Valued.{Valued}
-use Rattle.boundary.specs.Told.{accepted, refusal, told_of, valued}
-use Rattle.desk_slips.specs.Slips.{value_told}
+use Rattle.boundary.specs.Told.{accepted, refusal, told_of, value_told, valued}
 use Rattle.desk_ledger.specs.declared.Ledger.{Ledger}
 use Rattle.desk_ledger.specs.Ledgers.{ledger_told}
 use Rattle.promises.specs.Calls.{EverySlipRead, EverySlipField, EverySlipCents, EveryLedgerRead, EveryLedgerField, EveryLipaInCents}
@@ -36,23 +36,23 @@ currency_number Euro = 1
 currency_number Kuna = 2
 
 -- it is that of an amount in it
-amount_currency : (c : Currency) (n : ℕ) → (ledger_told (amount_in c n)).currency ≡ currency_number c
+amount_currency : (c : Currency) (n : ℕ) → (ledger_told (Ok (amount_in c n))).currency ≡ currency_number c
 unfolding ledger_told amount_in
 amount_currency Euro n = refl
 amount_currency Kuna n = refl
 
 -- and what is told to be of a currency is an amount in it
-told_amount : (c : Currency) (x : LedgerSlip) → (ledger_told x).currency ≡ currency_number c → (n : ℕ) × (x ≡ amount_in c n)
+told_amount : (c : Currency) (x : Result Amount Refusal) → (ledger_told x).currency ≡ currency_number c → (n : ℕ) × (x ≡ Ok (amount_in c n))
 unfolding ledger_told amount_in
-told_amount Euro (ledger.Euro cents) e = (cents.number, refl)
-told_amount Euro (ledger.Kuna lipa) e = absurd (omega arith)
-told_amount Euro (ledger.Refused r) e = absurd (omega arith)
-told_amount Kuna (ledger.Euro cents) e = absurd (omega arith)
-told_amount Kuna (ledger.Kuna lipa) e = (lipa.number, refl)
-told_amount Kuna (ledger.Refused r) e = absurd (omega arith)
+told_amount Euro (Ok (amount.Euro cents)) e = (cents.number, refl)
+told_amount Euro (Ok (amount.Kuna lipa)) e = absurd (omega arith)
+told_amount Euro (Err r) e = absurd (omega arith)
+told_amount Kuna (Ok (amount.Euro cents)) e = absurd (omega arith)
+told_amount Kuna (Ok (amount.Kuna lipa)) e = (lipa.number, refl)
+told_amount Kuna (Err r) e = absurd (omega arith)
 
 -- what is told of a slip that is as the documents ask in a currency
-plain_told : (c : Currency) (s : List ℕ) (l : Ledger) → l ≡ ledger_told (ledger_of s) → PlainSlip c s → l ≡ ledger_told (amount_in c (amount_of s))
+plain_told : (c : Currency) (s : List ℕ) (l : Ledger) → l ≡ ledger_told (ledger_of s) → PlainSlip c s → l ≡ ledger_told (Ok (amount_in c (amount_of s)))
 plain_told c s l call p = call ∙ ap ledger_told ((ledger_exactly c s (amount_of s)).1 (p, refl))
 
 -- a slip that is told to be of a currency is as the documents ask in it
@@ -96,7 +96,7 @@ ledger_accepted_exactly κs a z w call =
     (λ h. either_plain (currency_of s) s ((accepted_plainly (currency_of s) s).0 (zero.0 h)), λ p. zero.1 (⊎_elim (plain_accepted Euro s) (plain_accepted Kuna s) p))
 
 -- what is told of one that is: its amount in its own unit, and lipa in cents beside it
-pub ledger_told_lem : EveryLedgerRead (λ slip l. (c : Currency) → PlainSlip c slip → l ≡ ledger_told (amount_in c (amount_of slip)))
+pub ledger_told_lem : EveryLedgerRead (λ slip l. (c : Currency) → PlainSlip c slip → l ≡ ledger_told (Ok (amount_in c (amount_of slip))))
 ledger_told_lem κs a z w call c p = plain_told c a.0.now z call p
 
 -- a slip is never of both
@@ -111,11 +111,11 @@ ledger_refused_first κs a z w call h =
     rw told (slip_refused (currency_of s) s (λ e. h ((told_zero _ z.told told).1 e)))
 
 -- a refusal tells no currency and no amount
-refused_empty : (x : LedgerSlip) → ((ledger_told x).told.number ≡ 0 → ⊥) → ledger_told x ≡ record { told = (ledger_told x).told; currency = 0; cents = 0; lipa = 0; converted = 0 }
+refused_empty : (x : Result Amount Refusal) → ((ledger_told x).told.number ≡ 0 → ⊥) → ledger_told x ≡ record { told = (ledger_told x).told; currency = 0; cents = 0; lipa = 0; converted = 0 }
 unfolding ledger_told
-refused_empty (ledger.Euro cents) h = absurd (h refl)
-refused_empty (ledger.Kuna lipa) h = absurd (h refl)
-refused_empty (ledger.Refused r) h = refl
+refused_empty (Ok (amount.Euro cents)) h = absurd (h refl)
+refused_empty (Ok (amount.Kuna lipa)) h = absurd (h refl)
+refused_empty (Err r) h = refl
 
 pub ledger_refused_empty : EveryLedgerRead (λ slip l. (l.told.number ≡ 0 → ⊥) → l ≡ record { told = l.told; currency = 0; cents = 0; lipa = 0; converted = 0 })
 ledger_refused_empty κs a z w call h = rw call (refused_empty (ledger_of a.0.now) (λ e. h (ap (λ (l : Ledger). l.told.number) call ∙ e)))

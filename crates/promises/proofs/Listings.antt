@@ -20,7 +20,7 @@ use Rattle.fillings.proofs.Theorems.{complete, sound, ascending, once, counted}
 use Rattle.wet.specs.Wet.{wet_iban, iban_listing, reference_listing, model_listing}
 use Rattle.boundary.specs.declared.Valued.{Valued}
 use Rattle.boundary.proofs.Theorems.{number_not_zero}
-use Rattle.desk_wet.specs.Listed.{value_told}
+use Rattle.boundary.specs.Told.{value_told}
 use Rattle.promises.proofs.Laws.{told_zero}
 use Rattle.promises.specs.Calls.{EveryListIban, EveryListReference, EveryFilled}
 use Rattle.promises.specs.Listings.{accepted_fillings, Lists, Listing}

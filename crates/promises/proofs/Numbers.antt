@@ -5,17 +5,14 @@ use Rattle.refusal.specs.Refusal.{Answer, none}
 use Rattle.condition.specs.declared.Counts.{Counts}
 use Rattle.refusal.specs.declared.Refusal.{Refusal}
 use Rattle.refusal.specs.declared.Refusal.TheVariants.{Size, Form}
-use Rattle.ledger_slip.specs.declared.LedgerSlip.{LedgerSlip}
-use Rattle.ledger_slip.specs.declared.LedgerSlip.TheVariants as ledger
+use Rattle.ledger_slip.specs.declared.Amount.{Amount}
+use Rattle.ledger_slip.specs.declared.Amount.TheVariants.{Euro, Kuna}
 use Rattle.condition.specs.declared.Judge.{Judge}
 use Rattle.condition.specs.Record.{is_refused, refusal_in}
 use Rattle.lent_fields.specs.Fields.{lent_whole}
 use Rattle.boundary.specs.declared.Told.{Told}
-use Rattle.boundary.specs.Told.{refusal, told_of, valued, no_rule}
+use Rattle.boundary.specs.Told.{refusal, told_of, value_told, valued, no_rule}
 use Rattle.boundary.proofs.Theorems.{number_in_table}
-use Rattle.desk_checks.specs.Made.{value_told}
-use Rattle.desk_wet.specs.Listed.{value_told}
-use Rattle.desk_slips.specs.Slips.{value_told, value_told}
 use Rattle.desk_standing.specs.Standings.{standing_told, written_told}
 use Rattle.desk_ledger.specs.Ledgers.{ledger_told}
 use Rattle.desk_record.specs.Record.{record_of}
@@ -34,37 +31,22 @@ either_known : (b : Bool) (t u : Told) → Known t → Known u → Known (cond b
 either_known true t u k l = k
 either_known false t u k l = l
 
--- an answer, a digit made, a listing, an amount, a slip of either currency, a slip written, an end, a judge's record
+-- an answer, a value, a slip of either currency, an end, a judge's record
 answer_known : (x : Answer) → Known (told_of x)
 unfolding told_of
 answer_known (Ok u) = inl refl
 answer_known (Err r) = refusal_known r
 
-made_known : (x : Result ℕ Refusal) → Known (value_told x).told
+value_known : (x : Result ℕ Refusal) → Known (value_told x).told
 unfolding value_told
-made_known (Ok d) = inl refl
-made_known (Err r) = refusal_known r
+value_known (Ok n) = inl refl
+value_known (Err r) = refusal_known r
 
-listed_known : (x : Result ℕ Refusal) → Known (value_told x).told
-unfolding value_told
-listed_known (Ok n) = inl refl
-listed_known (Err r) = refusal_known r
-
-cents_known : (x : Result ℕ Refusal) → Known (value_told x).told
-unfolding value_told
-cents_known (Ok n) = inl refl
-cents_known (Err r) = refusal_known r
-
-ledger_known : (x : LedgerSlip) → Known (ledger_told x).told
+ledger_known : (x : Result Amount Refusal) → Known (ledger_told x).told
 unfolding ledger_told
-ledger_known (ledger.Euro c) = inl refl
-ledger_known (ledger.Kuna l) = inl refl
-ledger_known (ledger.Refused r) = refusal_known r
-
-written_known : (x : Result ℕ Refusal) → Known (value_told x).told
-unfolding value_told
-written_known (Ok n) = inl refl
-written_known (Err r) = refusal_known r
+ledger_known (Ok (Euro c)) = inl refl
+ledger_known (Ok (Kuna l)) = inl refl
+ledger_known (Err r) = refusal_known r
 
 ended_known : (x : Result Counts Refusal) → Known (ended_of x).told
 unfolding ended_of
@@ -83,8 +65,8 @@ check_digits_known κs a z w call = rw call (either_known (eqb a.0 0) _ _ (answe
 
 -- by the rule of a number
 rule_known : (b₀ b₁ : Bool) (x y : Result ℕ Refusal) → Known (cond b₀ (value_told x) (cond b₁ (value_told y) (valued no_rule 0))).told
-rule_known true b₁ x y = made_known x
-rule_known false true x y = made_known y
+rule_known true b₁ x y = value_known x
+rule_known false true x y = value_known y
 rule_known false false x y = refusal_known (Form none)
 
 pub make_digit_known : EveryMakeDigit (λ rule digits r. Known r.told)
@@ -100,10 +82,10 @@ pub reference_known : EveryReference (λ model text r. Known r)
 reference_known κs a z w call = rw call (answer_known _)
 
 pub list_iban_known : EveryListIban (λ text out r after. Known r.told)
-list_iban_known κs a z w call = rw call.0 (listed_known _)
+list_iban_known κs a z w call = rw call.0 (value_known _)
 
 pub list_reference_known : EveryListReference (λ model text out r after. Known r.told)
-list_reference_known κs a z w call = rw call.0 (listed_known _)
+list_reference_known κs a z w call = rw call.0 (value_known _)
 
 pub filled_known : EveryFilled (λ text number out r after. Known r)
 filled_known κs a z w call = rw call.0 (answer_known _)
@@ -112,14 +94,14 @@ pub slip_read_known : EverySlipRead (λ slip r. Known r)
 slip_read_known κs a z w call = rw call (answer_known _)
 
 pub slip_cents_known : EverySlipCents (λ slip r. Known r.told)
-slip_cents_known κs a z w call = rw call (cents_known _)
+slip_cents_known κs a z w call = rw call (value_known _)
 
 pub ledger_read_known : EveryLedgerRead (λ slip l. Known l.told)
 ledger_read_known κs a z w call = rw call (ledger_known _)
 
 -- where it is asked first whether the fields are lent whole
 sized_known : (b : Bool) (x : Result ℕ Refusal) → Known (cond b (value_told x) (valued (refusal (Size none)) 0)).told
-sized_known true x = written_known x
+sized_known true x = value_known x
 sized_known false x = refusal_known (Size none)
 
 pub slip_write_known : EverySlipWrite (λ cents text sizes out r after. Known r.told)
@@ -131,7 +113,7 @@ standing_text_known κs a z w call = rw call (answer_known _)
 
 pub slip_write_standing_known : EverySlipWriteStanding (λ cents text sizes farm association out r after. Known r.told)
 unfolding written_told
-slip_write_standing_known κs a z w call = rw call.answers (written_known _)
+slip_write_standing_known κs a z w call = rw call.answers (value_known _)
 
 pub judge_begin_known : EveryJudgeBegin (λ day r. Known r.told)
 judge_begin_known κs a z w call = rw call (record_known _)

@@ -5,7 +5,8 @@ use Rattle.refusal.specs.Refusal.{Answer, none}
 use Rattle.condition.specs.declared.Counts.{Counts}
 use Rattle.refusal.specs.declared.Refusal.{Refusal}
 use Rattle.refusal.specs.declared.Refusal.TheVariants.{Size, Ends}
-use Rattle.verdict.specs.Verdict.{passed, answer_at}
+use Rattle.verdict.specs.Verdict.{Verdict, passed, answer_at}
+use Rattle.verdict.proofs.Verdicts.{fault_no_pass}
 use Rattle.text.specs.Bytes.{count_of}
 use Rattle.text.specs.Split.{split}
 use Rattle.text.proofs.Pieces.{pieces_counted}
@@ -27,7 +28,7 @@ use Rattle.condition.specs.declared.Judge.{Judge}
 use Rattle.condition.specs.Record.{stage_of, is_refused, refused_with, at_line, beyond, next_line, is_sound, begun, ended}
 use Rattle.condition.proofs.Theorems.{refusal_ends}
 use Rattle.standing.specs.Standing.{stand_verdict, after}
-use Rattle.judge.specs.Judge.{type_step, typed_step, after_places, stepped, steps}
+use Rattle.judge.specs.Judge.{type_step, typed_step, after_places, after_verdict, stepped, steps}
 use Rattle.judge.proofs.Theorems.{refusal_stays, refusal_stays_on, no_date_is_11}
 use Rattle.wage_file.specs.File.{file_answer}
 use Rattle.desk_record.specs.declared.Record.{Record}
@@ -44,15 +45,15 @@ use Rattle.promises.specs.Refusals.{SlipRefused, size, ends, field, goes_on, Lin
 -- A slip
 
 -- what the rule says of the piece at k of a slip in currency c, which is field n + k, behind the field m
-abbrev verdict_of : Currency → ℕ → List ℕ → List (List ℕ) → ℕ → ℕ
+abbrev verdict_of : Currency → ℕ → List ℕ → List (List ℕ) → ℕ → Verdict
 verdict_of c n m ps k = field_verdict c (n + k) (get_or (m ∷ ps) k []) (get_or ps k [])
 
 -- the first of the pieces that is not right, and the answer that it gives
 record FirstWrong (c : Currency) (n start : ℕ) (m : List ℕ) (ps : List (List ℕ)) : Type 0 where
   order : ℕ
   known : order + 1 < length ps
-  before : (k : ℕ) → k < order → verdict_of c n m ps k ≡ 0
-  wrong : verdict_of c n m ps order ≡ 0 → ⊥
+  before : (k : ℕ) → k < order → verdict_of c n m ps k ≡ passed
+  wrong : verdict_of c n m ps order ≡ passed → ⊥
   answer : fields_answer c n start m ps ≡ answer_at (n + order) (start + length (join_lines (take order ps))) (verdict_of c n m ps order)
 
 -- pieces that are not accepted have one
@@ -60,13 +61,13 @@ first_wrong_lem : (c : Currency) (n start : ℕ) (m : List ℕ) (ps : List (List
 unfolding fields_answer join_lines
 first_wrong_lem c n start m [] h = absurd (h refl)
 first_wrong_lem c n start m (p ∷ []) h = absurd (h refl)
-first_wrong_lem c n start m (p ∷ (q ∷ ps)) h = go (eqb (field_verdict c n m p) 0) refl (first_wrong_lem c (n + 1) (start + length p + 1) p (q ∷ ps))
+first_wrong_lem c n start m (p ∷ (q ∷ ps)) h = go (field_verdict c n m p) refl (first_wrong_lem c (n + 1) (start + length p + 1) p (q ∷ ps))
   where
     go :
-        (b : Bool) → eqb (field_verdict c n m p) 0 ≡ b
+        (v : Verdict) → field_verdict c n m p ≡ v
         → ((fields_answer c (n + 1) (start + length p + 1) p (q ∷ ps) ≡ Ok tt → ⊥) → FirstWrong c (n + 1) (start + length p + 1) p (q ∷ ps))
         → FirstWrong c n start m (p ∷ (q ∷ ps))
-    go true e rest =
+    go (Ok u) e rest =
         let w = rest (rw e at h) in
         let o = w.order in
         let z : n + suc o ≡ n + 1 + o = omega arith in
@@ -80,17 +81,17 @@ first_wrong_lem c n start m (p ∷ (q ∷ ps)) h = go (eqb (field_verdict c n m 
           answer = rw (e, z, y) w.answer;
         }
       where
-        earlier : (w : FirstWrong c (n + 1) (start + length p + 1) p (q ∷ ps)) (k : ℕ) → k < suc w.order → verdict_of c n m (p ∷ (q ∷ ps)) k ≡ 0
-        earlier w zero g = rw (add-zero n) (eqb-true (field_verdict c n m p) 0 e)
+        earlier : (w : FirstWrong c (n + 1) (start + length p + 1) p (q ∷ ps)) (k : ℕ) → k < suc w.order → verdict_of c n m (p ∷ (q ∷ ps)) k ≡ passed
+        earlier w zero g = rw (add-zero n) e
         earlier w (suc k) g = let z : n + suc k ≡ n + 1 + k = omega arith in rw z (w.before k (omega arith))
-    go false e rest =
+    go (Err f) e rest =
         let z = add-zero n in
         let y = add-zero start in
         record {
           order = 0;
           known = omega arith;
           before = λ k g. absurd (omega arith);
-          wrong = rw z (eqb-false (field_verdict c n m p) 0 e);
+          wrong = rw (z, e) (fault_no_pass f);
           answer = rw (z, y, e);
         }
 
@@ -157,19 +158,19 @@ unfolding stepped type_step
 line_refused j s unrefused q e = limit (goes_on j) refl (rw unrefused at e)
   where
     fields :
-        (t : LineType) → goes_on j ≡ true → typed_of s ≡ Ok t → stand_verdict (stage_of j.condition) j.group t ≡ passed → (a : Answer) → places_answer j.day j.kind t s ≡ a
+        (t : LineType) → goes_on j ≡ true → typed_of s ≡ Ok t → stand_verdict j.condition j.group t ≡ passed → (a : Answer) → places_answer j.day j.kind t s ≡ a
         → (after_places j s t a).condition ≡ condition.Refused q → LineRefused j s q
     fields t g f v (Ok u) p h = absurd (no_refusal (after j s t).condition q (after_unrefused j s t) h)
     fields t g f v (Err r) p h = let w = first_refused j.day j.kind t s r p in place g t f v w.order w.known w.before r w.here (one_refusal h)
 
     stand :
-        (t : LineType) → goes_on j ≡ true → typed_of s ≡ Ok t → (v : ℕ) → stand_verdict (stage_of j.condition) j.group t ≡ v → (b : Bool) → eqb v 0 ≡ b
-        → (cond b (after_places j s t (places_answer j.day j.kind t s)) (refused_with (at_line v (next_line j)) j)).condition ≡ condition.Refused q → LineRefused j s q
-    stand t g f v i true b h = fields t g f (i ∙ eqb-true v 0 b) (places_answer j.day j.kind t s) refl h
-    stand t g f v i false b h = misplaced g t f (rw i (eqb-false v 0 b)) (rw i (one_refusal h))
+        (t : LineType) → goes_on j ≡ true → typed_of s ≡ Ok t → (v : Verdict) → stand_verdict j.condition j.group t ≡ v
+        → (after_verdict j s t v).condition ≡ condition.Refused q → LineRefused j s q
+    stand t g f (Ok u) i h = fields t g f i (places_answer j.day j.kind t s) refl h
+    stand t g f (Err x) i h = misplaced g t f x i (one_refusal h)
 
     kind : goes_on j ≡ true → (t : Result LineType Refusal) → typed_of s ≡ t → (typed_step j s t).condition ≡ condition.Refused q → LineRefused j s q
-    kind g (Ok t) f h = stand t g f _ refl (eqb (stand_verdict (stage_of j.condition) j.group t) 0) refl h
+    kind g (Ok t) f h = stand t g f (stand_verdict j.condition j.group t) refl h
     kind g (Err r) f h = untyped g r f (one_refusal h)
 
     limit : (b : Bool) → goes_on j ≡ b → (cond b (typed_step j s (typed_of s)) (refused_with beyond j)).condition ≡ condition.Refused q → LineRefused j s q
@@ -258,7 +259,7 @@ first_line_lem j (s ∷ ss) q h e = go (is_refused (stepped j s).condition) refl
     go false f rest = let w = rest f e in record { order = suc w.order; known = omega (arith, w.known); before = w.before; here = w.here }
 
 -- an end holds one refusal
-one_end : {q r : Refusal} → Err q ≡ Err r → r ≡ q
+one_end : {q r : Refusal} → ◌≡◌ {A = Result Counts Refusal} (Err q) (Err r) → r ≡ q
 one_end e = cc
 
 -- an end that refuses where no line was refused

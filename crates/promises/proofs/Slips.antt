@@ -23,10 +23,10 @@ use Rattle.slip_writer.proofs.Theorems.{bytes_counted, written_is_accepted, read
 use Rattle.lent_fields.specs.Fields.{fields_of, given_of, lent_whole}
 use Rattle.lent_fields.proofs.Laws.{fields_joined, joined_lent_whole}
 use Rattle.boundary.specs.declared.Valued.{Valued}
-use Rattle.boundary.specs.Told.{accepted, refusal, valued}
+use Rattle.boundary.specs.Told.{accepted, refusal, value_told, valued}
 use Rattle.boundary.proofs.Theorems.{number_not_zero}
 use Rattle.standing_slip.specs.Filled.{eleven_of}
-use Rattle.desk_slips.specs.Slips.{value_told, value_told, WritesSlipGiven}
+use Rattle.desk_slips.specs.Slips.{WritesSlipGiven}
 use Rattle.desk_slips.proofs.Theorems.{part_is_field}
 use Rattle.promises.specs.Calls.{EverySlipRead, EverySlipField, EverySlipCents, EverySlipWrite}
 use Rattle.promises.proofs.Laws.{told_zero}
@@ -57,7 +57,7 @@ unfolding value_told
 cents_told_lem s e = rw e
 
 -- ---------------------------------------------------------------------------
--- Result ℕ Refusal, and read back
+-- Written, and read back
 
 -- what was written: a slip at the front of the room that reads back as what was given, and all behind it as it was
 pub record Wrote (cents : ℕ) (fields : List (List ℕ)) (out : List ℕ) (n : ℕ) (after : List ℕ) : Type 0 where

@@ -33,9 +33,8 @@ use Rattle.standing_slip.specs.Filled.{eleven_of, filled_field, filled_fields, s
 use Rattle.standing_slip.proofs.Theorems.{filled_at, slip_of_empty_sheets, with_empty_sheets}
 use Rattle.boundary.specs.declared.Told.{Told}
 use Rattle.boundary.specs.declared.Valued.{Valued}
-use Rattle.boundary.specs.Told.{accepted, refusal, told_of, valued}
+use Rattle.boundary.specs.Told.{accepted, refusal, told_of, value_told, valued}
 use Rattle.boundary.proofs.Theorems.{number_not_zero}
-use Rattle.desk_slips.specs.Slips.{value_told}
 use Rattle.desk_standing.specs.declared.StandingTold.{StandingTold}
 use Rattle.desk_standing.specs.declared.StandingWritten.{StandingWritten}
 use Rattle.desk_standing.specs.Standings.{sheet_number, standing_told, written_told, WritesStandingTold}

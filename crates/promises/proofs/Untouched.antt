@@ -11,8 +11,7 @@ use Rattle.lent_fields.specs.Fields.{together, lent_whole, for_sizes}
 use Rattle.line_room.specs.LineRoom.{left_by_line}
 use Rattle.boundary.specs.declared.Told.{Told}
 use Rattle.boundary.specs.declared.Valued.{Valued}
-use Rattle.boundary.specs.Told.{refusal, valued, told_of}
-use Rattle.desk_slips.specs.Slips.{value_told}
+use Rattle.boundary.specs.Told.{refusal, told_of, value_told, valued}
 use Rattle.standing_slip.specs.Filled.{eleven_of, standing_slip}
 use Rattle.desk_standing.specs.declared.StandingWritten.{StandingWritten}
 use Rattle.desk_standing.specs.Standings.{sheet_number, written_told}

@@ -2,7 +2,8 @@
 -- Assumes nothing.
 use Rattle.refusal.proofs.Basics.{◌≡◌, refl, sym, ap, ◌∙◌, arith, ℕ, ◌+◌, ◌-◌, ◌*◌, ◌≤◌, ◌<◌, length, get_or, length-append, le-leb, leb-true, lt-ltb, eqb-true, List, [], ◌∷◌, ◌++◌, append-nil, Bool, true, false, cond, ◌&&◌, eqb, leb, ltb, ◌↔◌, ◌⊎◌, inl, inr, both_true}
 use Rattle.verdict.specs.Verdict.{passed}
-use Rattle.std.specs.Prelude.{Some, None}
+use Rattle.verdict.specs.declared.Fault.{Fault}
+use Rattle.std.specs.Prelude.{Some, None, Err}
 use Rattle.classes.specs.Classes.{is_digit}
 use Rattle.classes.specs.declared.Class.TheVariants.{Digits}
 use Rattle.classes.proofs.Laws.{digit_bounds}
@@ -217,14 +218,14 @@ other_references_as_before κs a z w call h =
     call ∙ ap verdict_told (reference_as_before a.0.now a.1.0.now (λ e. h (only_69 a.0.now e)))
 
 -- where an answer moved it is a 5
-pub reference_moved_to_five : EveryReference (λ model text r. (r ≡ verdict_told (reference_before model text)) ⊎ (r ≡ verdict_told 5))
+pub reference_moved_to_five : EveryReference (λ model text r. (r ≡ verdict_told (reference_before model text)) ⊎ (r ≡ verdict_told (Err Fault.Form)))
 reference_moved_to_five κs a z w call = go (reference_moved a.0.now a.1.0.now)
   where
-    go : (reference_verdict a.0.now a.1.0.now ≡ reference_before a.0.now a.1.0.now) ⊎ (reference_verdict a.0.now a.1.0.now ≡ 5) → (z ≡ verdict_told (reference_before a.0.now a.1.0.now)) ⊎ (z ≡ verdict_told 5)
+    go : (reference_verdict a.0.now a.1.0.now ≡ reference_before a.0.now a.1.0.now) ⊎ (reference_verdict a.0.now a.1.0.now ≡ Err Fault.Form) → (z ≡ verdict_told (reference_before a.0.now a.1.0.now)) ⊎ (z ≡ verdict_told (Err Fault.Form))
     go (inl e) = inl (call ∙ ap verdict_told e)
     go (inr e) = inr (call ∙ ap verdict_told e)
 
 -- so whatever is accepted was accepted before
-pub accepted_reference_before : EveryReference (λ model text r. r.number ≡ 0 → reference_before model text ≡ 0)
+pub accepted_reference_before : EveryReference (λ model text r. r.number ≡ 0 → reference_before model text ≡ passed)
 accepted_reference_before κs a z w call e =
     reference_accepted_before a.0.now a.1.0.now ((verdict_zero (reference_verdict a.0.now a.1.0.now) z call (λ h. h, λ h. h)).0 e)

@@ -19,7 +19,7 @@ use Rattle.wage_line.specs.Line.{typed_of}
 use Rattle.wage_line.specs.Pieces.{pieces}
 use Rattle.wage_fields.specs.Rules.{place_answer}
 use Rattle.condition.specs.declared.Judge.{Judge}
-use Rattle.condition.specs.Record.{is_refused, line_place, at_line, beyond, next_line, is_sound, begun}
+use Rattle.condition.specs.Record.{stage_of, is_refused, line_place, at_line, beyond, next_line, is_sound, begun}
 use Rattle.standing.specs.Standing.{stand_verdict}
 use Rattle.judge.specs.Judge.{steps}
 use Rattle.boundary.specs.declared.Told.{Told}

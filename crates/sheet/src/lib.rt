@@ -25,19 +25,11 @@ pub struct Lines {
 // One line
 
 // Whether a field has standing text: 4 to 9, 13 and 14.
+#[tactic(auto, unfolding(crate::specs::Sheet::is_standing))]
 pub fn is_standing(n: usize) -> bool
     ensures { result ≡ is_standing n }
 {
-    if n < 4 {
-        return false;
-    }
-    if n <= 9 {
-        return true;
-    }
-    if n == 13 {
-        return true;
-    }
-    n == 14
+    matches!(n, 4..=9 | 13 | 14)
 }
 
 // Where the text begins in a line of a number: behind its digits and the `=`.
@@ -54,48 +46,33 @@ fn text_start(n: usize) -> usize
 fn one_digit(b: u8) -> usize
     ensures { result ≡ one_digit b }
 {
-    if b < 52 {
-        return 0;
+    match b {
+        b'4'..=b'9' => (b - b'0') as usize,
+        _ => 0,
     }
-    if 57 < b {
-        return 0;
-    }
-    (b - 48) as usize
 }
 
 // The field that two digits name, 13 or 14; else 0.
 fn two_digit(a: u8, b: u8) -> usize
     ensures { result ≡ two_digit a b }
 {
-    if a != 49 {
-        return 0;
+    match (a, b) {
+        (b'1', b'3') => 13,
+        (b'1', b'4') => 14,
+        _ => 0,
     }
-    if b == 51 {
-        return 13;
-    }
-    if b == 52 {
-        return 14;
-    }
-    0
 }
 
 // The number of a line, which stands before its `=`; 0 where no field's does.
+#[tactic(auto, unfolding(crate::specs::Sheet::line_number))]
 fn line_number(p: &[u8]) -> usize
     ensures { result ≡ line_number p.now }
 {
-    if p.len() < 2 {
-        return 0;
+    match p {
+        [a, b'=', ..] => one_digit(*a),
+        [a, b, b'=', ..] => two_digit(*a, *b),
+        _ => 0,
     }
-    if p[1] == 61 {
-        return one_digit(p[0]);
-    }
-    if p.len() < 3 {
-        return 0;
-    }
-    if p[2] == 61 {
-        return two_digit(p[0], p[1]);
-    }
-    0
 }
 
 // The number of a right line behind one of the number `last`; 0 where it is malformed.
@@ -136,36 +113,31 @@ pub fn read(s: &[u8]) -> Lines
     let mut line: usize = 1;
     let mut last: usize = 0;
     let mut at: usize = 0;
-    loop {
-        match text::first_bad(Class::Line, &s[at..]) {
-            Some(i) => {
-                let stop = at + i;
-                let n = right_number(last, &s[at..stop]);
-                if n == 0 {
-                    return malformed(line);
-                }
-                let before = text_start(n);
-                starts[n] = at + before;
-                lengths[n] = i - before;
-                last = n;
-                line += 1;
-                at = stop + 1;
-            }
-            None => {
-                if at < s.len() {
-                    return malformed(line);
-                }
-                return Lines {
-                    bad: 0,
-                    starts,
-                    lengths,
-                };
-            }
+    while let Some(i) = text::first_bad(Class::Line, &s[at..]) {
+        let stop = at + i;
+        let n = right_number(last, &s[at..stop]);
+        if n == 0 {
+            return malformed(line);
         }
+        let before = text_start(n);
+        starts[n] = at + before;
+        lengths[n] = i - before;
+        last = n;
+        line += 1;
+        at = stop + 1;
+    }
+    if at < s.len() {
+        return malformed(line);
+    }
+    Lines {
+        bad: 0,
+        starts,
+        lengths,
     }
 }
 
 // Where the text of a field stands, by what reading its sheet found.
+#[tactic(auto, unfolding(crate::specs::Mirror::held_in))]
 pub fn find(lines: Lines, n: usize) -> Option<Part>
     ensures { result ≡ held_in lines n }
 {
