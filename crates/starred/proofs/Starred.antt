@@ -3,7 +3,7 @@
 -- Assumes nothing.
 use Rattle.refusal.proofs.Basics.{◌≡◌, refl, ℕ, List, [], ◌∷◌, ◌++◌, Bool, true, ◌&&◌, eqb}
 use Rattle.refusal.specs.Refusal.{answer_number}
-use Rattle.verdict.specs.Verdict.{verdict_number}
+use Rattle.verdict.specs.Verdict.{Verdict, answer_in}
 use Rattle.text.specs.Bytes.{first_bad, bytes_verdict, all_of, count_of, same}
 use Rattle.text.specs.Digits.{digits_of, value_from, digits_text}
 use Rattle.text.specs.Split.{split, joined}
@@ -93,11 +93,15 @@ data Case : Type 0 where
   -- a model's number, a wet text, and the numbers that are listed
   listing : ℕ → List (List ℕ) → List ℕ → Case
 
+-- a verdict's number, as an answer's
+abbrev told : Verdict → ℕ
+told v = answer_number (answer_in 0 v)
+
 -- the answer is the expected one
 unfoldable holds : Case → Bool
-holds (iban s n) = eqb (verdict_number (iban_verdict s)) n
-holds (oib s n) = eqb (verdict_number (oib_verdict s)) n
-holds (reference m ps n) = eqb (verdict_number (reference_verdict m (dashed ps))) n
+holds (iban s n) = eqb (told (iban_verdict s)) n
+holds (oib s n) = eqb (told (oib_verdict s)) n
+holds (reference m ps n) = eqb (told (reference_verdict m (dashed ps))) n
 holds (slip s n) = eqb (answer_number (slip_answer s)) n
 holds (listing k ps ns) = same ns (fillings (obeys (model_of k)) (dashed ps))
 
@@ -135,5 +139,5 @@ starred =
 
 -- the claim
 starred_cases_hold : all_hold starred ≡ true
-unfolding starred all_hold holds HR dashed digits_text first_bad bytes_verdict all_of digits_of value_from split weighted carried_over check_digit passes iban_passes oib_passes model_of special_of every first_in code_place is_code part_holds first_holds parts_of parts_fit formed joined group_right fill among fillings printed slip_text join_lines same first_wrong characters field_verdict count_of fields_answer slip_answer_in
+unfolding starred all_hold holds HR dashed digits_text first_bad bytes_verdict all_of digits_of value_from split weighted carried_over check_digit passes iban_passes oib_passes model_of special_of every first_in code_place is_code part_holds first_holds parts_of parts_fit formed joined group_right fill among fillings printed slip_text join_lines first_wrong characters field_verdict count_of fields_answer slip_answer_in
 starred_cases_hold = refl
