@@ -33,6 +33,7 @@ pub struct StandingWritten {
 }
 
 // The number of a sheet.
+#[tactic(auto, unfolding(crate::specs::Standings::sheet_number))]
 fn sheet_number(sheet: Sheet) -> usize
     ensures { result ≡ sheet_number sheet }
 {
@@ -44,6 +45,7 @@ fn sheet_number(sheet: Sheet) -> usize
 }
 
 // A standing text.
+#[tactic(auto, unfolding(crate::specs::Standings::standing_told))]
 fn tell(s: Standing) -> StandingTold
     ensures { result ≡ standing_told s }
 {
@@ -61,6 +63,7 @@ fn tell(s: Standing) -> StandingTold
 }
 
 // A slip written with standing text.
+#[tactic(auto, unfolding(crate::specs::Standings::written_told))]
 fn tell_slip(s: StandingSlip) -> StandingWritten
     ensures { result ≡ written_told s }
 {

@@ -1,18 +1,18 @@
 -- Demand 2, check digits, accounts and references: accepted exactly when, of the calls `lanecockle_iban`, `lanecockle_oib`, `lanecockle_reference`,
 -- `lanecockle_check_digits` and `lanecockle_make_digit`. Assumes nothing.
-use Rattle.refusal.proofs.Basics.{◌≡◌, refl, arith, ℕ, ◌+◌, ◌-◌, ◌<◌, length, le-leb, ne_eqb, eqb-false, List, [], ◌∷◌, ◌++◌, Bool, true, false, cond, ◌&&◌, eqb, leb, ◌↔◌, ◌⊎◌, inl, inr}
-use Rattle.std.specs.Prelude.{Err, Ok, Option, Some, None, Result}
+use Rattle.refusal.proofs.Basics.{◌≡◌, refl, arith, ℕ, ◌+◌, ◌<◌, length, List, [], ◌∷◌, ◌++◌, Bool, true, false, cond, ◌&&◌, eqb, ◌↔◌, ◌⊎◌, inl, inr}
+use Rattle.std.specs.Prelude.{Err, Ok, Result}
 use Rattle.refusal.specs.declared.Refusal.{Refusal}
 use Rattle.refusal.specs.Refusal.{refusal_number}
 use Rattle.verdict.specs.Verdict.{Verdict, passed, Within}
 use Rattle.verdict.specs.declared.Fault.TheVariants.{Byte, Length, Form, Check, Model, Parts, Digit, Misplaced, Date, Orders, Sum}
-use Rattle.classes.specs.declared.Class.TheVariants.{Digits, Account, Reference}
+use Rattle.classes.specs.declared.Class.TheVariants.{Digits}
 use Rattle.text.specs.Bytes.{all_of}
 use Rattle.check_digits.specs.declared.Rule.{Rule}
 use Rattle.check_digits.specs.declared.Rule.TheVariants.{Ini, Mod1110}
 use Rattle.check_digits.specs.Answers.{check_answer, make_answer}
 use Rattle.check_digits.proofs.Theorems.{made_is_checked}
-use Rattle.account.specs.Account.{iban_formed, iban_passes, oib_passes}
+use Rattle.account.specs.Account.{oib_passes}
 use Rattle.account.specs.Answers.{is_iban, iban_verdict, oib_verdict}
 use Rattle.account.proofs.Theorems.{iban_field_exactly, oib_accepted_exactly, with_digits, no_iban_of_00_01_99, iban_within, oib_within}
 use Rattle.reference.specs.Answers.{reference_verdict}

@@ -1,5 +1,5 @@
 -- What the theorems about calls share: how an answer is told. Assumes nothing.
-use Rattle.refusal.proofs.Basics.{◌≡◌, refl, arith, ℕ, ◌↔◌}
+use Rattle.refusal.proofs.Basics.{◌≡◌, refl, arith, ◌↔◌}
 use Rattle.std.specs.Prelude.{Ok, Err}
 use Rattle.refusal.specs.Refusal.{Answer, refusal_number}
 use Rattle.refusal.proofs.Theorems.{refused_not_accepted}

@@ -179,8 +179,8 @@ list_reference_answers κs a z w call m short wet few =
 -- what a listing leaves
 listing_kept : (l : Result ℕ Refusal) (xs out after : List ℕ) (z : Valued) → z ≡ value_told l → after ≡ left_by_listing l xs out → (z.told.number ≡ 0 → ⊥) → after ≡ out
 unfolding value_told
-listing_kept (Ok n) xs out after z e w h = absurd (h (ap (λ (v : Valued). v.told.number) e))
-listing_kept (Err r) xs out after z e w h = w
+listing_kept (Ok n) ys out after z e w h = absurd (h (ap (λ (v : Valued). v.told.number) e))
+listing_kept (Err r) ys out after z e w h = w
 
 pub list_iban_untouched : EveryListIban (λ text out r after. (r.told.number ≡ 0 → ⊥) → after ≡ out)
 list_iban_untouched κs a z w call = listing_kept _ _ _ _ _ call.0 call.1

@@ -146,7 +146,7 @@ sheets_refused :
 unfolding sheets_judged sheet_number told_of
 sheets_refused farm association r t k e told sheet = go (eqb (bad_line farm) 0) (eqb (bad_line association) 0) refl refl e sheet
   where
-    same : (n : ℕ) → Err (Refusal.Sheet (record { line = n; field = 0; byte = 0 })) ≡ Err r → refusal r ≡ malformed_line n
+    same : (n : ℕ) → ◌≡◌ {A = Answer} (Err (Refusal.Sheet (record { line = n; field = 0; byte = 0 }))) (Err r) → refusal r ≡ malformed_line n
     same n h = ap (λ (x : Answer). told_of x) (sym h)
 
     judged : Bool → Bool → Judged
