@@ -89,6 +89,7 @@ fn write_judged(
 }
 
 // Writes a 301 for a day and a kind from its fields 1 to 4 and 7, and from its group's lent 309 lines.
+#[tactic(auto, unfolding(crate::specs::GroupWriter::group_answer), using(wage_orders::proofs::Theorems::accepted_small))]
 pub fn write_group(
     day: u64,
     kind: u64,

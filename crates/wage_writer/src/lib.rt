@@ -51,6 +51,7 @@ fn write_line(
 }
 
 // Writes a 300 for a day from its fields 1 to 8.
+#[tactic(auto, unfolding(crate::specs::Writer::label_answer))]
 pub fn write_label(day: u64, text: &[u8], sizes: &[usize], out: &mut [u8]) -> Answer
     ensures { Writes (for_sizes 8 sizes.now text.now (label_answer day (fields_of sizes.now text.now) (length out.old))) (label_draft day (fields_of sizes.now text.now)).line out.old result out.new }
 {
@@ -64,6 +65,7 @@ pub fn write_label(day: u64, text: &[u8], sizes: &[usize], out: &mut [u8]) -> An
 }
 
 // Writes a 309 for a day and a kind from its fields 1, 2, 5 to 12 and 18 to 23.
+#[tactic(auto, unfolding(crate::specs::Writer::order_answer))]
 pub fn write_order(day: u64, kind: u64, text: &[u8], sizes: &[usize], out: &mut [u8]) -> Answer
     ensures { Writes (for_sizes 16 sizes.now text.now (order_answer day kind (fields_of sizes.now text.now) (length out.old))) (order_draft day kind (fields_of sizes.now text.now)).line out.old result out.new }
 {
