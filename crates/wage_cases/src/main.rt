@@ -112,16 +112,12 @@ fn write_line(
     orders: &[u8],
     out: &mut [u8],
 ) -> Told {
-    if verb == 0 {
-        return desk_writers::lanecockle_write_label(day, text, sizes, out);
+    match verb {
+        0 => desk_writers::lanecockle_write_label(day, text, sizes, out),
+        1 => desk_writers::lanecockle_write_group(day, kind, text, sizes, orders, out),
+        2 => desk_writers::lanecockle_write_order(day, kind, text, sizes, out),
+        _ => desk_writers::lanecockle_write_closing(day, out),
     }
-    if verb == 1 {
-        return desk_writers::lanecockle_write_group(day, kind, text, sizes, orders, out);
-    }
-    if verb == 2 {
-        return desk_writers::lanecockle_write_order(day, kind, text, sizes, out);
-    }
-    desk_writers::lanecockle_write_closing(day, out)
 }
 
 // ---------------------------------------------------------------------------
@@ -200,23 +196,7 @@ fn ended(rt: &impl Print, r: Record) -> Record {
 
 // A record with another total of the file.
 fn with_total(r: Record, file_total: Sum) -> Record {
-    let t = r.told;
-    let promised = r.promised;
-    let total = r.total;
-    Record {
-        condition: r.condition,
-        told: t,
-        day: r.day,
-        kind: r.kind,
-        lines: r.lines,
-        groups: r.groups,
-        orders: r.orders,
-        file_total,
-        declared: r.declared,
-        promised,
-        counted: r.counted,
-        total,
-    }
+    Record { file_total, ..r }
 }
 
 // tally: the one that is lent after it.
