@@ -10,6 +10,26 @@ use Rattle.verdict.specs.declared.Fault.TheVariants.{Byte, Length, Form, Check, 
 use Rattle.verdict.specs.Verdict.{Verdict, passed, wrong_at, only_if, and_then, refusal_at, verdict_byte, answer_of, Within}
 
 -- ---------------------------------------------------------------------------
+-- What a chain answers, as its code goes
+
+-- the first rule refuses
+pub refused : (v w r : Verdict) → (v ≡ passed → ⊥) → r ≡ v → r ≡ and_then v w
+refused (Ok u) w r h e = absurd (h refl)
+refused (Err f) w r h e = e
+
+-- it refuses nothing: what answers the rest answers the whole
+pub goes_on : (v w r : Verdict) → v ≡ passed → r ≡ w → r ≡ and_then v w
+goes_on v w r h e = rw h e
+
+-- a test fails
+pub failed : (b : Bool) (f : Fault) (w : Verdict) → b ≡ false → Err f ≡ and_then (only_if b f) w
+failed b f w e = rw e
+
+-- it holds: what answers the rest answers the whole
+pub met : (b : Bool) (f : Fault) (w r : Verdict) → b ≡ true → r ≡ w → r ≡ and_then (only_if b f) w
+met b f w r e h = rw e h
+
+-- ---------------------------------------------------------------------------
 -- Refusing nothing
 
 -- a fault refuses something
