@@ -55,18 +55,17 @@ fn malformed(sheet: Sheet, line: usize) -> Judged
 }
 
 // Both sheets by the first malformed line of each, 0 for none: the farm's sheet first.
+#[tactic(auto, unfolding(crate::specs::Standing::sheets_judged))]
 pub fn judge_sheets(farm: usize, association: usize) -> Judged
     ensures { result ≡ sheets_judged farm association }
 {
-    if farm != 0 {
-        return malformed(Sheet::Farm, farm);
-    }
-    if association != 0 {
-        return malformed(Sheet::Association, association);
-    }
-    Judged {
-        sheet: Sheet::Neither,
-        answer: Ok(()),
+    match (farm, association) {
+        (0, 0) => Judged {
+            sheet: Sheet::Neither,
+            answer: Ok(()),
+        },
+        (0, line) => malformed(Sheet::Association, line),
+        (line, _) => malformed(Sheet::Farm, line),
     }
 }
 
@@ -82,6 +81,7 @@ fn supplied(sheet: Sheet, part: Part) -> Standing
 }
 
 // The text of a field by what reading both sheets found: the farm's, else the association's, else none.
+#[tactic(auto, unfolding(crate::specs::Standing::supplied_by))]
 pub fn supply(n: usize, farm: Lines, association: Lines) -> Standing
     ensures { result ≡ supplied_by (held_in farm n) (held_in association n) }
 {
@@ -121,11 +121,9 @@ pub fn ask(n: usize, farm: &[u8], association: &[u8]) -> Standing
     let f = sheet::read(farm);
     let a = sheet::read(association);
     let judged = judge_sheets(f.bad, a.bad);
-    let sheet = judged.sheet;
-    let answer = judged.answer;
-    if let Err(r) = answer {
+    if let Err(r) = judged.answer {
         return Standing {
-            sheet,
+            sheet: judged.sheet,
             answer: Err(r),
             part: none,
         };
@@ -137,33 +135,28 @@ pub fn ask(n: usize, farm: &[u8], association: &[u8]) -> Standing
 pub fn judge(n: usize, farm: &[u8], association: &[u8]) -> Answer
     ensures { result ≡ (standing_of n farm.now association.now).answer }
 {
-    let s = ask(n, farm, association);
-    let answer = s.answer;
-    answer
+    ask(n, farm, association).answer
 }
 
 // The bytes of a part, as far as the text goes.
 fn bytes(s: &[u8], p: Part) -> &[u8]
     ensures { result.now ≡ bytes_of p s.now }
 {
-    let start = p.start;
-    let length = p.length;
-    if s.len() < start {
+    if s.len() < p.start {
         return &s[0..0];
     }
-    text::front(&s[start..], length)
+    text::front(&s[p.start..], p.length)
 }
 
 // The bytes of a standing text, as the part of the sheet that supplied it; none where neither did.
+#[tactic(auto, unfolding(crate::specs::Standing::bytes_from))]
 pub fn bytes_in<'a>(standing: Standing, farm: &'a [u8], association: &'a [u8]) -> &'a [u8]
     ensures { result.now ≡ standing_bytes standing farm.now association.now }
 {
-    let part = standing.part;
-    let sheet = standing.sheet;
-    match sheet {
+    match standing.sheet {
         Sheet::Neither => &farm[0..0],
-        Sheet::Farm => bytes(farm, part),
-        Sheet::Association => bytes(association, part),
+        Sheet::Farm => bytes(farm, standing.part),
+        Sheet::Association => bytes(association, standing.part),
     }
 }
 
