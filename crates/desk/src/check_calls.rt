@@ -9,7 +9,8 @@ ghost use Rattle.boundary.specs.Told.{told_of, value_told, verdict_told, no_rule
 use boundary::{Told, Valued};
 use check_digits::Rule;
 
-// Checks digits that end in their check digit, by rule 0 (INI) or 1 (MOD 11,10); another rule is 5.
+// Checks digits that end in their check digit, by rule 0 (INI) or 1 (MOD 11,10), since C has numbers for
+// enums; another rule is 5.
 #[unsafe(no_mangle)]
 pub extern "C" fn lanecockle_check_digits(rule: u32, digits: &[u8]) -> Told
     ensures { result ≡ cond (eqb rule 0) (told_of (check_answer Rule.Ini digits.now)) (cond (eqb rule 1) (told_of (check_answer Rule.Mod1110 digits.now)) no_rule) }
@@ -17,7 +18,8 @@ pub extern "C" fn lanecockle_check_digits(rule: u32, digits: &[u8]) -> Told
     desk_checks::lanecockle_check_digits(rule, digits)
 }
 
-// Makes the check digit of one to nineteen digits, by rule 0 (INI) or 1 (MOD 11,10); another rule is 5.
+// Makes the check digit of one to nineteen digits, by rule 0 (INI) or 1 (MOD 11,10), since C has numbers for
+// enums; another rule is 5.
 #[unsafe(no_mangle)]
 pub extern "C" fn lanecockle_make_digit(rule: u32, digits: &[u8]) -> Valued
     ensures { result ≡ cond (eqb rule 0) (value_told (make_answer Rule.Ini digits.now)) (cond (eqb rule 1) (value_told (make_answer Rule.Mod1110 digits.now)) (valued no_rule 0)) }

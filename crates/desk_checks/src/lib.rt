@@ -14,7 +14,8 @@ use boundary::{Told, Valued};
 use check_digits::Rule;
 use refusal::Refusal;
 
-// Checks digits that end in their check digit, by rule 0 (INI) or 1 (MOD 11,10); another rule is 5.
+// Checks digits that end in their check digit, by rule 0 (INI) or 1 (MOD 11,10), since C has numbers for
+// enums; another rule is 5.
 pub fn lanecockle_check_digits(rule: u32, digits: &[u8]) -> Told
     ensures { result ≡ cond (eqb rule 0) (told_of (check_answer Rule.Ini digits.now)) (cond (eqb rule 1) (told_of (check_answer Rule.Mod1110 digits.now)) no_rule) }
 {
@@ -27,7 +28,8 @@ pub fn lanecockle_check_digits(rule: u32, digits: &[u8]) -> Told
     boundary::refuse(Refusal::Form(refusal::nowhere()))
 }
 
-// Makes the check digit of one to nineteen digits, by rule 0 (INI) or 1 (MOD 11,10); another rule is 5.
+// Makes the check digit of one to nineteen digits, by rule 0 (INI) or 1 (MOD 11,10), since C has numbers for
+// enums; another rule is 5.
 pub fn lanecockle_make_digit(rule: u32, digits: &[u8]) -> Valued
     ensures { result ≡ cond (eqb rule 0) (value_told (make_answer Rule.Ini digits.now)) (cond (eqb rule 1) (value_told (make_answer Rule.Mod1110 digits.now)) (valued no_rule 0)) }
 {

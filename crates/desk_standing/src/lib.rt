@@ -32,7 +32,7 @@ pub struct StandingWritten {
     pub sheet: usize,
 }
 
-// The number of a sheet.
+// The number that a sheet has in C.
 #[tactic(auto, unfolding(crate::specs::Standings::sheet_number))]
 fn sheet_number(sheet: Sheet) -> usize
     ensures { result ≡ sheet_number sheet }

@@ -10,7 +10,7 @@ ghost use Rattle.order_contents.specs.Contents.{purpose_place_verdict, sign_verd
 use classes::Class;
 use verdict::{Fault, Verdict};
 
-// What a model's place holds: nothing, a text that is no model, or a model's number.
+// What a model's place holds: nothing, a text that is no model, or a model's number. Three cases, so no `Option`.
 #[derive(Clone, Copy)]
 pub enum Held {
     Blank,
@@ -32,7 +32,7 @@ pub fn judge_purpose(f: &[u8]) -> Verdict
     )
 }
 
-// A place's byte: its first; 0 where it has none.
+// A place's byte: its first; 0, which no sign is, where it has none, as `sign_verdict` has it.
 fn first_byte(f: &[u8]) -> u8
     ensures { result ≡ get_or f.now 0 0 }
 {

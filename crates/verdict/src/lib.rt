@@ -47,7 +47,7 @@ pub fn told(fault: Fault, place: Place) -> Refusal
     }
 }
 
-// The offending byte that a verdict tells; 0 where it tells none.
+// The offending byte that a verdict tells; where it tells none, the first, 0, as document 01 says of every other refusal.
 pub fn byte_of(verdict: Verdict) -> usize
     ensures { result ≡ verdict_byte verdict }
 {

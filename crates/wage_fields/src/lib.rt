@@ -48,6 +48,7 @@ fn judge_range(day: u64, kind: u64, t: LineType, first: usize, last: usize, s: &
         return Err(Refusal::Size(refusal::nowhere()));
     }
     let mut k = first;
+    // A loop with a label, which document 01 asks for in the reader of a wage line (docs/DECISIONS.md).
     'places: loop {
         if last <= k {
             break 'places Ok(());

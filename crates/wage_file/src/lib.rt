@@ -18,6 +18,7 @@ pub fn lines(from: Judge, s: &[u8]) -> Judge
 {
     let mut j = from;
     let mut pieces = s.chunks(1002);
+    // A loop with a label, as document 01 asks of what reads a wage file (docs/DECISIONS.md).
     'lines: loop {
         let condition = j.condition;
         if condition::is_refused(condition) {

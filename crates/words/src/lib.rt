@@ -45,6 +45,7 @@ pub fn read_full<R: Read>(input: &mut R, buf: &mut [u8]) -> Got
 {
     let mut done = 0;
     let mut failed = false;
+    // No `for`: a turn reads into what is left of the buffer, however much the last one read.
     while done < buf.len() {
         match input.read(&mut buf[done..]) {
             Ok(0) => break,
