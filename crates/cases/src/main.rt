@@ -10,8 +10,8 @@ use boundary::{Told, Valued};
 use desk_ledger::Ledger;
 use desk_standing::StandingTold;
 use question::{
-    behind, count, field, find, number_at, number_of, put_fields, put_lines, put_sizes, size_of,
-    tell, tell_value,
+    behind, count, field, find, number_at, put_fields, put_lines, put_sizes, size_of, tell,
+    tell_value,
 };
 use text::front;
 use words::say;
@@ -29,73 +29,97 @@ fn answer_all(rt: &impl Print, s: &[u8]) {
     }
 }
 
+// What a question asks.
+#[derive(Clone, Copy)]
+enum Verb {
+    Iban,
+    Oib,
+    Ref,
+    CheckIni,
+    CheckIso,
+    MakeIni,
+    MakeIso,
+    ListIban,
+    ListRef,
+    Slip,
+    Write,
+    Ledger,
+    Lipa,
+    Standing,
+    WriteStanding,
+}
+
+// The verb of a text.
+fn verb_of(text: &[u8]) -> Option<Verb> {
+    match text {
+        b"iban" => Some(Verb::Iban),
+        b"oib" => Some(Verb::Oib),
+        b"ref" => Some(Verb::Ref),
+        b"check ini" => Some(Verb::CheckIni),
+        b"check iso" => Some(Verb::CheckIso),
+        b"make ini" => Some(Verb::MakeIni),
+        b"make iso" => Some(Verb::MakeIso),
+        b"list iban" => Some(Verb::ListIban),
+        b"list ref" => Some(Verb::ListRef),
+        b"slip" => Some(Verb::Slip),
+        b"write" => Some(Verb::Write),
+        b"ledger" => Some(Verb::Ledger),
+        b"lipa" => Some(Verb::Lipa),
+        b"standing" => Some(Verb::Standing),
+        b"write standing" => Some(Verb::WriteStanding),
+        _ => None,
+    }
+}
+
 // Writes a question back with its answer.
 fn answer(rt: &impl Print, question: &[u8]) {
     say(rt, question);
     say(rt, b" -> ");
-    respond(
-        rt,
-        number_of(
-            field(question, 0),
-            b"iban|oib|ref|check ini|check iso|make ini|make iso|list iban|list ref|slip|write|ledger|lipa|standing|write standing",
-        ),
-        question,
-    );
+    match verb_of(field(question, 0)) {
+        Some(verb) => respond(rt, verb, question),
+        None => unknown(rt),
+    }
     say(rt, b"\n");
 }
 
-// Answers a question by its verb's number.
-fn respond(rt: &impl Print, verb: usize, question: &[u8]) {
-    match verb {
-        0..=4 => tell(rt, judge(verb, question)),
-        5..=6 => make(rt, verb, question),
-        7..=8 => list(rt, verb, question),
-        9 => read(rt, behind(question, 1)),
-        10 => write(rt, verb, question),
-        11 => enter(rt, behind(question, 1)),
-        12 => convert(rt, question),
-        13 => stand(rt, question),
-        14 => write(rt, verb, question),
-        _ => {
-            say(rt, b"unknown");
-        }
-    }
+fn unknown(rt: &impl Print) {
+    say(rt, b"unknown");
 }
 
-// ---------------------------------------------------------------------------
-// Check digits, accounts and references
-
-// iban, oib, ref, check ini, check iso.
-fn judge(verb: usize, question: &[u8]) -> Told {
+// Answers a question by its verb. The rules' numbers are those of the C interface.
+fn respond(rt: &impl Print, verb: Verb, question: &[u8]) {
     let a = field(question, 1);
-    let rule = if verb == 3 { 0 } else { 1 };
     match verb {
-        0 => desk_checks::lanecockle_iban(a),
-        1 => desk_checks::lanecockle_oib(a),
-        2 => desk_checks::lanecockle_reference(a, field(question, 2)),
-        _ => desk_checks::lanecockle_check_digits(rule, a),
+        Verb::Iban => tell(rt, desk_checks::lanecockle_iban(a)),
+        Verb::Oib => tell(rt, desk_checks::lanecockle_oib(a)),
+        Verb::Ref => tell(rt, desk_checks::lanecockle_reference(a, field(question, 2))),
+        Verb::CheckIni => tell(rt, desk_checks::lanecockle_check_digits(0, a)),
+        Verb::CheckIso => tell(rt, desk_checks::lanecockle_check_digits(1, a)),
+        Verb::MakeIni => tell_digit(rt, desk_checks::lanecockle_make_digit(0, a)),
+        Verb::MakeIso => tell_digit(rt, desk_checks::lanecockle_make_digit(1, a)),
+        Verb::ListIban | Verb::ListRef => list(rt, verb, question),
+        Verb::Slip => read(rt, behind(question, 1)),
+        Verb::Ledger => enter(rt, behind(question, 1)),
+        Verb::Lipa => convert(rt, question),
+        Verb::Standing => stand(rt, question),
+        Verb::Write | Verb::WriteStanding => write(rt, verb, question),
     }
 }
 
-// make ini, make iso.
-fn make(rt: &impl Print, verb: usize, question: &[u8]) {
-    let rule = if verb == 5 { 0 } else { 1 };
-    tell_value(
-        rt,
-        desk_checks::lanecockle_make_digit(rule, field(question, 1)),
-        b" digit ",
-    );
+// Writes the digit made.
+fn tell_digit(rt: &impl Print, v: Valued) {
+    tell_value(rt, v, b" digit ");
 }
 
 // ---------------------------------------------------------------------------
 // Listings
 
 // list iban, list ref: into a room of 10,000 numbers at most.
-fn list(rt: &impl Print, verb: usize, question: &[u8]) {
+fn list(rt: &impl Print, verb: Verb, question: &[u8]) {
     let mut out = [0u16; 10000];
     let room = number_at(question, 1);
     if 10000 < room {
-        say(rt, b"unknown");
+        unknown(rt);
         return;
     }
     list_in(
@@ -107,8 +131,8 @@ fn list(rt: &impl Print, verb: usize, question: &[u8]) {
     );
 }
 
-fn list_in(rt: &impl Print, verb: usize, a: &[u8], b: &[u8], out: &mut [u16]) {
-    if verb == 7 {
+fn list_in(rt: &impl Print, verb: Verb, a: &[u8], b: &[u8], out: &mut [u16]) {
+    if matches!(verb, Verb::ListIban) {
         tell_list(rt, desk_wet::lanecockle_list_iban(a, out), out);
         return;
     }
@@ -171,7 +195,7 @@ fn convert(rt: &impl Print, question: &[u8]) {
 }
 
 // write, write standing: into a room of 1,100 bytes at most.
-fn write(rt: &impl Print, verb: usize, question: &[u8]) {
+fn write(rt: &impl Print, verb: Verb, question: &[u8]) {
     let mut text = [0u8; 1024];
     let mut sizes = [0usize; 16];
     let mut out = [0u8; 1100];
@@ -180,7 +204,7 @@ fn write(rt: &impl Print, verb: usize, question: &[u8]) {
 
 fn write_in(
     rt: &impl Print,
-    verb: usize,
+    verb: Verb,
     question: &[u8],
     text: &mut [u8],
     sizes: &mut [usize],
@@ -188,14 +212,14 @@ fn write_in(
 ) {
     let room = number_at(question, 1);
     if out.len() < room {
-        say(rt, b"unknown");
+        unknown(rt);
         return;
     }
     let fields = behind(question, 5);
     put_fields(text, fields);
     put_sizes(sizes, fields);
     let lent = front(text, size_of(fields));
-    if verb == 10 {
+    if matches!(verb, Verb::Write) {
         write_slip(rt, question, lent, sizes, &mut out[0..room]);
         return;
     }
