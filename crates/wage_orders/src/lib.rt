@@ -15,18 +15,11 @@ fn judge_lines(day: u64, kind: u64, s: &[u8]) -> Answer
     ensures { result ≡ orders_from day kind 1 (pieces s.now) }
 {
     let mut n: usize = 1;
-    let mut pieces = s.chunks(1002);
-    'lines: loop {
-        let Some(line) = pieces.next() else {
-            break 'lines Ok(());
-        };
-        match lent_order::judge_order(day, kind, n, line) {
-            Ok(()) => n += 1,
-            Err(r) => {
-                break 'lines Err(r);
-            }
-        }
+    for line in s.chunks(1002) {
+        lent_order::judge_order(day, kind, n, line)?;
+        n += 1;
     }
+    Ok(())
 }
 
 // A group's lent orders: 1, 10, 12, then the first refusal in them.

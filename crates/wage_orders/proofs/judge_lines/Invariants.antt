@@ -6,10 +6,7 @@ use Rattle.wage_line.specs.Pieces.{pieces}
 use Rattle.wage_orders.specs.Orders.{orders_from}
 use Rattle.wage_orders.proofs.judge_lines.Given as goal
 
-abbrev pub invariant-lines : goal.invariant-lines
-invariant-lines l =
-    (chunks_size l.pieces ≡ 1002) × (l.n + length (chunks_rest l.pieces) ≤ length l.s + 1)
-    × (orders_from l.day l.kind 1 (pieces l.s) ≡ orders_from l.day l.kind l.n (pieces (chunks_rest l.pieces)))
-
-abbrev pub decreases-lines : goal.decreases-lines
-decreases-lines l = length (chunks_rest l.pieces)
+abbrev pub invariant-loop-line : goal.invariant-loop-line
+invariant-loop-line l =
+    (chunks_size l.line-iterator ≡ 1002) × (l.n + length (chunks_rest l.line-iterator) ≤ length l.s + 1)
+    × (orders_from l.day l.kind 1 (pieces l.s) ≡ orders_from l.day l.kind l.n (pieces (chunks_rest l.line-iterator)))
