@@ -11,9 +11,7 @@ use boundary::Told;
 use desk_judge::Ended;
 use desk_record::Record;
 use desk_tally::Tallied;
-use question::{
-    behind, count, field, find, number_at, number_of, put_fields, put_sizes, size_of, tell,
-};
+use question::{behind, count, field, find, number_at, put_fields, put_sizes, size_of, tell};
 use sums::Sum;
 use tally::Tally;
 use text::front;
@@ -27,49 +25,114 @@ fn main(rt: HostRuntime) {
     answer_all(&rt, front(&input, got.size), &mut memory, &mut kept);
 }
 
-// Answers each line. The verbs of judge and tally are `judge_by`'s, all others `respond`'s.
+// Answers each line.
 fn answer_all(rt: &impl Print, s: &[u8], memory: &mut [u8], kept: &mut [u8]) {
-    let mut r = begun();
+    let mut t = begun();
     for line in s.split_inclusive(|b| *b == b'\n') {
-        let question = front(line, find(line, b'\n'));
-        let verb = answer(rt, question, memory, kept);
-        r = judge_by(rt, verb, question, r, memory);
+        answer(rt, front(line, find(line, b'\n')), &mut t, memory, kept);
     }
 }
 
-// Writes a question back with its answer, and gives its verb's number.
-fn answer(rt: &impl Print, question: &[u8], memory: &mut [u8], kept: &mut [u8]) -> usize {
+// What a question asks.
+#[derive(Clone, Copy)]
+enum Verb {
+    Label,
+    Group,
+    Order,
+    Closing,
+    Keep,
+    Poke,
+    Place,
+    Show,
+    Begin,
+    Step,
+    End,
+    Tally,
+    StepTally,
+    Total,
+}
+
+// The verb of a text.
+fn verb_of(text: &[u8]) -> Option<Verb> {
+    match text {
+        b"300" => Some(Verb::Label),
+        b"301" => Some(Verb::Group),
+        b"309" => Some(Verb::Order),
+        b"399" => Some(Verb::Closing),
+        b"keep" => Some(Verb::Keep),
+        b"poke" => Some(Verb::Poke),
+        b"place" => Some(Verb::Place),
+        b"show" => Some(Verb::Show),
+        b"begin" => Some(Verb::Begin),
+        b"step" => Some(Verb::Step),
+        b"end" => Some(Verb::End),
+        b"tally" => Some(Verb::Tally),
+        b"step tally" => Some(Verb::StepTally),
+        b"total" => Some(Verb::Total),
+        _ => None,
+    }
+}
+
+// Writes a question back with its answer.
+fn answer(rt: &impl Print, question: &[u8], t: &mut Tallied, memory: &mut [u8], kept: &mut [u8]) {
     say(rt, question);
     say(rt, b" -> ");
-    let verb = number_of(
-        field(question, 0),
-        b"300|301|309|399|keep|poke|place|show|begin|step|end|tally|step tally|total",
-    );
-    respond(rt, verb, question, memory, kept);
-    verb
+    match verb_of(field(question, 0)) {
+        Some(verb) => respond(rt, verb, question, t, memory, kept),
+        None => unknown(rt),
+    }
+    say(rt, b"\n");
 }
 
-// Answers a question by its verb's number.
-fn respond(rt: &impl Print, verb: usize, question: &[u8], memory: &mut [u8], kept: &mut [u8]) {
+fn unknown(rt: &impl Print) {
+    say(rt, b"unknown");
+}
+
+// Answers a question by its verb.
+fn respond(
+    rt: &impl Print,
+    verb: Verb,
+    question: &[u8],
+    t: &mut Tallied,
+    memory: &mut [u8],
+    kept: &mut [u8],
+) {
+    let n = number_at(question, 1);
+    let m = number_at(question, 2);
     match verb {
-        0..=3 => write(rt, verb, question, memory, kept),
-        4..=5 => keep(verb, question, memory, kept),
-        6..=7 => show(rt, verb, question, memory),
-        8..=13 => {}
-        _ => {
-            say(rt, b"unknown");
+        Verb::Label | Verb::Group | Verb::Order | Verb::Closing => {
+            write(rt, verb, question, memory, kept);
         }
+        Verb::Keep => room::put(kept, n, front(memory, 1002)),
+        Verb::Poke => room::put(memory, n, &[(m % 256) as u8]),
+        Verb::Place => show(rt, wage_line::place(front(memory, n), m)),
+        Verb::Show => show(rt, front(memory, n)),
+        Verb::Begin => t.record = told(rt, desk_judge::lanecockle_judge_begin(n as u64)),
+        Verb::Step => {
+            t.record = told(
+                rt,
+                desk_judge::lanecockle_judge_step(t.record, front(memory, n)),
+            );
+        }
+        Verb::End => tell_end(rt, desk_judge::lanecockle_judge_end(t.record)),
+        Verb::Tally => t.tally = tally_at(question),
+        Verb::StepTally => *t = counted(rt, desk_tally::lent(t.record, front(memory, n), t.tally)),
+        Verb::Total => t.record.file_total = sum_at(question, 1, 2),
     }
+}
+
+fn show(rt: &impl Print, s: &[u8]) {
+    say(rt, s);
 }
 
 // ---------------------------------------------------------------------------
 // Lines written
 
 // 300, 301, 309, 399: into a room at the front of the memory.
-fn write(rt: &impl Print, verb: usize, question: &[u8], memory: &mut [u8], kept: &[u8]) {
+fn write(rt: &impl Print, verb: Verb, question: &[u8], memory: &mut [u8], kept: &[u8]) {
     let room = number_at(question, 1);
     if memory.len() < room {
-        say(rt, b"unknown");
+        unknown(rt);
         return;
     }
     let orders = front(kept, number_at(question, 4));
@@ -80,14 +143,14 @@ fn write(rt: &impl Print, verb: usize, question: &[u8], memory: &mut [u8], kept:
 }
 
 // From the fields behind the first five.
-fn write_fields(verb: usize, question: &[u8], orders: &[u8], out: &mut [u8]) -> Told {
+fn write_fields(verb: Verb, question: &[u8], orders: &[u8], out: &mut [u8]) -> Told {
     let mut text = [0u8; 1024];
     let mut sizes = [0usize; 16];
     write_in(verb, question, &mut text, &mut sizes, orders, out)
 }
 
 fn write_in(
-    verb: usize,
+    verb: Verb,
     question: &[u8],
     text: &mut [u8],
     sizes: &mut [usize],
@@ -104,7 +167,7 @@ fn write_in(
 }
 
 fn write_line(
-    verb: usize,
+    verb: Verb,
     day: u64,
     kind: u64,
     text: &[u8],
@@ -113,34 +176,11 @@ fn write_line(
     out: &mut [u8],
 ) -> Told {
     match verb {
-        0 => desk_writers::lanecockle_write_label(day, text, sizes, out),
-        1 => desk_writers::lanecockle_write_group(day, kind, text, sizes, orders, out),
-        2 => desk_writers::lanecockle_write_order(day, kind, text, sizes, out),
+        Verb::Label => desk_writers::lanecockle_write_label(day, text, sizes, out),
+        Verb::Group => desk_writers::lanecockle_write_group(day, kind, text, sizes, orders, out),
+        Verb::Order => desk_writers::lanecockle_write_order(day, kind, text, sizes, out),
         _ => desk_writers::lanecockle_write_closing(day, out),
     }
-}
-
-// ---------------------------------------------------------------------------
-// The memory
-
-// keep, poke.
-fn keep(verb: usize, question: &[u8], memory: &mut [u8], kept: &mut [u8]) {
-    let n = number_at(question, 1);
-    if verb == 4 {
-        room::put(kept, n, front(memory, 1002));
-        return;
-    }
-    room::put(memory, n, &[(number_at(question, 2) % 256) as u8]);
-}
-
-// place, show.
-fn show(rt: &impl Print, verb: usize, question: &[u8], memory: &[u8]) {
-    let s = front(memory, number_at(question, 1));
-    if verb == 6 {
-        say(rt, wage_line::place(s, number_at(question, 2)));
-        return;
-    }
-    say(rt, s);
 }
 
 // ---------------------------------------------------------------------------
@@ -148,63 +188,16 @@ fn show(rt: &impl Print, verb: usize, question: &[u8], memory: &[u8]) {
 
 // A judge begun with no date, and a tally of nothing.
 fn begun() -> Tallied {
-    both(desk_judge::lanecockle_judge_begin(0), tally::zero())
-}
-
-fn both(r: Record, t: Tally) -> Tallied {
     Tallied {
-        record: r,
-        tally: t,
+        record: desk_judge::lanecockle_judge_begin(0),
+        tally: tally::zero(),
     }
 }
 
-// Judge and tally after a question. Ends the line of every answer.
-fn judge_by(rt: &impl Print, verb: usize, question: &[u8], b: Tallied, memory: &[u8]) -> Tallied {
-    let r = b.record;
-    let t = b.tally;
-    if verb == 12 {
-        return count_by(rt, question, r, t, memory);
-    }
-    both(
-        record_by(rt, verb, question, r, memory),
-        tally_by(verb, question, t),
-    )
-}
-
-// begin, step, end, total: the record after it.
-fn record_by(rt: &impl Print, verb: usize, question: &[u8], r: Record, memory: &[u8]) -> Record {
-    let n = number_at(question, 1);
-    match verb {
-        8 => told(rt, desk_judge::lanecockle_judge_begin(n as u64)),
-        9 => told(rt, desk_judge::lanecockle_judge_step(r, front(memory, n))),
-        10 => ended(rt, r),
-        13 => over(rt, with_total(r, sum_at(question, 1, 2))),
-        _ => over(rt, r),
-    }
-}
-
+// Writes a record's answer.
 fn told(rt: &impl Print, r: Record) -> Record {
-    let t = r.told;
-    tell(rt, t);
-    over(rt, r)
-}
-
-fn ended(rt: &impl Print, r: Record) -> Record {
-    tell_end(rt, desk_judge::lanecockle_judge_end(r));
-    over(rt, r)
-}
-
-// A record with another total of the file.
-fn with_total(r: Record, file_total: Sum) -> Record {
-    Record { file_total, ..r }
-}
-
-// tally: the one that is lent after it.
-fn tally_by(verb: usize, question: &[u8], t: Tally) -> Tally {
-    if verb == 11 {
-        return tally_at(question);
-    }
-    t
+    tell(rt, r.told);
+    r
 }
 
 // The tally in four fields.
@@ -224,35 +217,18 @@ fn sum_at(question: &[u8], high: usize, low: usize) -> Sum {
     }
 }
 
-// step tally: a line with the tally lent, and both after it.
-fn count_by(rt: &impl Print, question: &[u8], r: Record, t: Tally, memory: &[u8]) -> Tallied {
-    let n = number_at(question, 1);
-    counted(rt, desk_tally::lent(r, front(memory, n), t))
-}
-
+// Writes judge and tally after a line with the tally lent.
 fn counted(rt: &impl Print, b: Tallied) -> Tallied {
-    let r = b.record;
-    let t = b.tally;
-    tell_both(rt, r, t);
+    tell(rt, b.record.told);
+    tell_counts(rt, b.tally.groups, b.tally.orders, b.tally.total);
+    tell_sum(rt, b" file ", b.record.file_total);
     b
 }
 
-fn tell_both(rt: &impl Print, r: Record, t: Tally) {
-    let said = r.told;
-    let total = t.total;
-    let file_total = r.file_total;
-    tell(rt, said);
-    tell_counts(rt, t.groups, t.orders, total);
-    tell_sum(rt, b" file ", file_total);
-    say(rt, b"\n");
-}
-
 fn tell_end(rt: &impl Print, e: Ended) {
-    let said = e.told;
-    let total = e.total;
-    tell(rt, said);
+    tell(rt, e.told);
     count(rt, b" lines ", e.lines);
-    tell_counts(rt, e.groups, e.orders, total);
+    tell_counts(rt, e.groups, e.orders, e.total);
 }
 
 fn tell_counts(rt: &impl Print, groups: usize, orders: usize, total: Sum) {
@@ -264,10 +240,4 @@ fn tell_counts(rt: &impl Print, groups: usize, orders: usize, total: Sum) {
 fn tell_sum(rt: &impl Print, word: &[u8], s: Sum) {
     count(rt, word, s.high as usize);
     count(rt, b" ", s.low as usize);
-}
-
-// Ends an answer's line.
-fn over(rt: &impl Print, r: Record) -> Record {
-    say(rt, b"\n");
-    r
 }
