@@ -116,9 +116,10 @@ pub fn made(day: u64, condition: Condition, kind: u64, read: Counts, group: Open
 pub fn refused(j: Judge, r: Refusal) -> Judge
     ensures { result ≡ refused_with r j }
 {
-    let read = j.read;
-    let group = j.group;
-    made(j.day, Condition::Refused(r), j.kind, read, group)
+    Judge {
+        condition: Condition::Refused(r),
+        ..j
+    }
 }
 
 // ---------------------------------------------------------------------------
@@ -128,17 +129,12 @@ pub fn refused(j: Judge, r: Refusal) -> Judge
 pub fn is_sound(j: Judge) -> bool
     ensures { result ≡ is_sound j }
 {
-    let n = j.read;
-    let g = j.group;
-    let tally = n.tally;
-    let promised = g.promised;
-    let total = g.total;
-    (n.lines <= 1000000)
-        & tally::is_within(tally)
-        & (g.declared <= 1000000)
-        & (g.counted <= 1000000)
-        & sums::fits(promised, 100)
-        & sums::fits(total, 100)
+    (j.read.lines <= 1000000)
+        & tally::is_within(j.read.tally)
+        & (j.group.declared <= 1000000)
+        & (j.group.counted <= 1000000)
+        & sums::fits(j.group.promised, 100)
+        & sums::fits(j.group.total, 100)
 }
 
 // A fresh judge for a day, YYYYMMDD; one that has refused, where that is not a date.
@@ -174,17 +170,14 @@ pub fn begin(day: u64) -> Judge
 pub fn end(j: Judge) -> Result<Counts, Refusal>
     ensures { result ≡ ended j }
 {
-    let condition = j.condition;
-    let read = j.read;
-    let lines = read.lines;
-    if is_refused(condition) {
-        return Err(refusal_in(condition));
+    if is_refused(j.condition) {
+        return Err(refusal_in(j.condition));
     }
     if is_sound(j) {
-        if stage(condition) == 3 {
-            return Ok(read);
+        if stage(j.condition) == 3 {
+            return Ok(j.read);
         }
-        return Err(Refusal::Unfinished(at_line(lines + 1)));
+        return Err(Refusal::Unfinished(at_line(j.read.lines + 1)));
     }
     Err(Refusal::Beyond(at_line(1000001)))
 }

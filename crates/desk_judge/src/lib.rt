@@ -36,17 +36,13 @@ fn tell_ending(e: Result<Counts, Refusal>) -> Ended
     ensures { result ≡ ended_of e }
 {
     match e {
-        Ok(c) => {
-            let tally = c.tally;
-            let total = tally.total;
-            Ended {
-                told: boundary::accept(),
-                lines: c.lines,
-                groups: tally.groups,
-                orders: tally.orders,
-                total,
-            }
-        }
+        Ok(c) => Ended {
+            told: boundary::accept(),
+            lines: c.lines,
+            groups: c.tally.groups,
+            orders: c.tally.orders,
+            total: c.tally.total,
+        },
         Err(r) => Ended {
             told: boundary::refuse(r),
             lines: 0,
@@ -65,9 +61,10 @@ fn place_part(line: &[u8], field: usize) -> Part
     match wage_line::read_type(line) {
         Ok(t) => {
             let p = wage_places::find(t, field);
-            let start = p.start;
-            let length = p.size;
-            Part { start, length }
+            Part {
+                start: p.start,
+                length: p.size,
+            }
         }
         Err(_) => Part {
             start: 0,

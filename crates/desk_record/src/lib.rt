@@ -41,9 +41,7 @@ fn refusal_from(t: Told) -> Refusal
         field: t.field,
         byte: t.byte,
     };
-    let needed = t.needed;
-    let number = t.number;
-    refusal::made(number, p, needed)
+    refusal::made(t.number, p, t.needed)
 }
 
 // The condition that a number tells.
@@ -70,32 +68,24 @@ fn condition_from(n: usize, t: Told) -> Condition
 pub fn judge_from(r: Record) -> Judge
     ensures { result ≡ judge_of r }
 {
-    let n = r.condition;
-    let t = r.told;
-    let file_total = r.file_total;
-    let promised = r.promised;
-    let total = r.total;
-    let tally = Tally {
-        groups: r.groups,
-        orders: r.orders,
-        total: file_total,
-    };
-    let read = Counts {
-        lines: r.lines,
-        tally,
-    };
-    let group = Open {
-        declared: r.declared,
-        promised,
-        counted: r.counted,
-        total,
-    };
     Judge {
-        condition: condition_from(n, t),
+        condition: condition_from(r.condition, r.told),
         day: r.day,
         kind: r.kind,
-        read,
-        group,
+        read: Counts {
+            lines: r.lines,
+            tally: Tally {
+                groups: r.groups,
+                orders: r.orders,
+                total: r.file_total,
+            },
+        },
+        group: Open {
+            declared: r.declared,
+            promised: r.promised,
+            counted: r.counted,
+            total: r.total,
+        },
     }
 }
 
@@ -114,25 +104,18 @@ fn condition_told(c: Condition) -> Told
 pub fn record_from(j: Judge) -> Record
     ensures { result ≡ record_of j }
 {
-    let c = j.condition;
-    let n = j.read;
-    let tally = n.tally;
-    let file_total = tally.total;
-    let g = j.group;
-    let promised = g.promised;
-    let total = g.total;
     Record {
-        condition: condition::stage(c),
-        told: condition_told(c),
+        condition: condition::stage(j.condition),
+        told: condition_told(j.condition),
         day: j.day,
         kind: j.kind,
-        lines: n.lines,
-        groups: tally.groups,
-        orders: tally.orders,
-        file_total,
-        declared: g.declared,
-        promised,
-        counted: g.counted,
-        total,
+        lines: j.read.lines,
+        groups: j.read.tally.groups,
+        orders: j.read.tally.orders,
+        file_total: j.read.tally.total,
+        declared: j.group.declared,
+        promised: j.group.promised,
+        counted: j.group.counted,
+        total: j.group.total,
     }
 }

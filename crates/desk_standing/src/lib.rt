@@ -49,16 +49,11 @@ fn sheet_number(sheet: Sheet) -> usize
 fn tell(s: Standing) -> StandingTold
     ensures { result ≡ standing_told s }
 {
-    let answer = s.answer;
-    let sheet = s.sheet;
-    let part = s.part;
-    let start = part.start;
-    let length = part.length;
     StandingTold {
-        told: boundary::tell(answer),
-        sheet: sheet_number(sheet),
-        start,
-        length,
+        told: boundary::tell(s.answer),
+        sheet: sheet_number(s.sheet),
+        start: s.part.start,
+        length: s.part.length,
     }
 }
 
@@ -67,14 +62,11 @@ fn tell(s: Standing) -> StandingTold
 fn tell_slip(s: StandingSlip) -> StandingWritten
     ensures { result ≡ written_told s }
 {
-    let sheet = s.sheet;
     let v = boundary::tell_valued(s.written);
-    let told = v.told;
-    let value = v.value;
     StandingWritten {
-        told,
-        value,
-        sheet: sheet_number(sheet),
+        told: v.told,
+        value: v.value,
+        sheet: sheet_number(s.sheet),
     }
 }
 

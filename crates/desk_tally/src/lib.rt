@@ -25,11 +25,9 @@ fn by_value(record: Record, line: &[u8], t: Tally) -> Tallied
     ensures { result ≡ tallied_of «record» line.now t }
 {
     let next = running_total::step(desk_record::judge_from(record), line, t);
-    let judge = next.judge;
-    let after = next.tally;
     Tallied {
-        record: desk_record::record_from(judge),
-        tally: after,
+        record: desk_record::record_from(next.judge),
+        tally: next.tally,
     }
 }
 

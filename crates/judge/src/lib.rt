@@ -20,15 +20,11 @@ fn type_step(j: Judge, t: LineType, s: &[u8]) -> Judge
     requires { is_sound j ≡ true }
     ensures { result ≡ type_step j s.now t }
 {
-    let condition = j.condition;
-    let day = j.day;
-    let kind = j.kind;
-    let group = j.group;
     let next = j.read.lines + 1;
-    if let Err(fault) = standing::judge_standing(condition, group, t) {
+    if let Err(fault) = standing::judge_standing(j.condition, j.group, t) {
         return condition::refused(j, verdict::told(fault, condition::at_line(next)));
     }
-    match wage_fields::judge_places(day, kind, t, s) {
+    match wage_fields::judge_places(j.day, j.kind, t, s) {
         Ok(()) => standing::after(j, t, s),
         Err(r) => condition::refused(j, refusal::in_line(next, r)),
     }
@@ -38,15 +34,13 @@ fn type_step(j: Judge, t: LineType, s: &[u8]) -> Judge
 pub fn step(j: Judge, s: &[u8]) -> Judge
     ensures { result ≡ stepped j s.now }
 {
-    let condition = j.condition;
-    let lines = j.read.lines;
-    if condition::is_refused(condition) {
+    if condition::is_refused(j.condition) {
         return j;
     }
-    if condition::is_sound(j) & (lines < 1000000) {
+    if condition::is_sound(j) & (j.read.lines < 1000000) {
         match wage_line::read_type(s) {
             Ok(t) => type_step(j, t, s),
-            Err(r) => condition::refused(j, refusal::in_line(lines + 1, r)),
+            Err(r) => condition::refused(j, refusal::in_line(j.read.lines + 1, r)),
         }
     } else {
         condition::refused(j, Refusal::Beyond(condition::at_line(1000001)))

@@ -33,9 +33,7 @@ pub fn step(j: Judge, s: &[u8], t: Tally) -> Tallied
     ensures { result ≡ tallied j s.now t }
 {
     let judge = judge::step(j, s);
-    let condition = judge.condition;
-    let lines = judge.read.lines;
-    if condition::is_refused(condition) {
+    if condition::is_refused(judge.condition) {
         return Tallied { judge, tally: t };
     }
     let tally = tally::grow(t, growth(s));
@@ -43,7 +41,7 @@ pub fn step(j: Judge, s: &[u8], t: Tally) -> Tallied
         return Tallied { judge, tally };
     }
     Tallied {
-        judge: condition::refused(j, Refusal::Overfull(condition::at_line(lines))),
+        judge: condition::refused(j, Refusal::Overfull(condition::at_line(judge.read.lines))),
         tally: t,
     }
 }

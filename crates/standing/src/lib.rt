@@ -22,13 +22,12 @@ use wage_places::LineType;
 fn judge_whole(c: Condition, g: Open) -> Verdict
     ensures { result ≡ whole_verdict c g }
 {
-    let counted = g.counted;
-    let declared = g.declared;
-    let total = g.total;
-    let promised = g.promised;
-    verdict::only_if((condition::stage(c) == 2) & (0 < counted), Fault::Misplaced)?;
-    verdict::only_if(counted == declared, Fault::Orders)?;
-    verdict::only_if(sums::is_same(total, promised), Fault::Sum)
+    verdict::only_if(
+        (condition::stage(c) == 2) & (0 < g.counted),
+        Fault::Misplaced,
+    )?;
+    verdict::only_if(g.counted == g.declared, Fault::Orders)?;
+    verdict::only_if(sums::is_same(g.total, g.promised), Fault::Sum)
 }
 
 // A line of a type, where the judge stands: 10, 12, 13.
@@ -36,8 +35,6 @@ fn judge_whole(c: Condition, g: Open) -> Verdict
 pub fn judge_standing(c: Condition, g: Open, t: LineType) -> Verdict
     ensures { result ≡ stand_verdict c g t }
 {
-    let counted = g.counted;
-    let declared = g.declared;
     match t {
         LineType::Label => verdict::only_if(condition::stage(c) == 0, Fault::Misplaced),
         LineType::Group => {
@@ -48,7 +45,7 @@ pub fn judge_standing(c: Condition, g: Open, t: LineType) -> Verdict
         }
         LineType::Order => {
             verdict::only_if(condition::stage(c) == 2, Fault::Misplaced)?;
-            verdict::only_if(counted < declared, Fault::Orders)
+            verdict::only_if(g.counted < g.declared, Fault::Orders)
         }
         LineType::Closing => judge_whole(c, g),
     }
@@ -96,17 +93,13 @@ fn group_after(g: Open, more: Growth, s: &[u8]) -> Open
     requires { g.counted ≤ 1000000 }
     ensures { result ≡ group_after g s.now more }
 {
-    let promised = g.promised;
-    let counted = g.counted;
-    let total = g.total;
     match more {
         Growth::Nothing => g,
         Growth::Group => opening(s),
         Growth::Order(cents) => Open {
-            declared: g.declared,
-            promised,
-            counted: counted + 1,
-            total: sums::add(total, cents, 100),
+            counted: g.counted + 1,
+            total: sums::add(g.total, cents, 100),
+            ..g
         },
     }
 }
@@ -116,25 +109,38 @@ fn after_sound(j: Judge, t: LineType, s: &[u8]) -> Judge
     requires { is_sound j ≡ true }
     ensures { result ≡ afterLine j s.now t }
 {
-    let day = j.day;
-    let kind = j.kind;
-    let open = j.group;
-    let before = j.read;
-    let tally = before.tally;
     let more = growth(t, s);
     let read = Counts {
-        lines: before.lines + 1,
-        tally: tally::grow(tally, more),
+        lines: j.read.lines + 1,
+        tally: tally::grow(j.read.tally, more),
     };
-    let group = group_after(open, more, s);
+    let group = group_after(j.group, more, s);
     match t {
-        LineType::Label => {
-            let told = number_at(LineType::Label, 2, s);
-            condition::made(day, Condition::Labelled, told, read, group)
-        }
-        LineType::Group => condition::made(day, Condition::Grouped, kind, read, group),
-        LineType::Order => condition::made(day, Condition::Grouped, kind, read, group),
-        LineType::Closing => condition::made(day, Condition::Closed, kind, read, group),
+        LineType::Label => Judge {
+            condition: Condition::Labelled,
+            kind: number_at(LineType::Label, 2, s),
+            read,
+            group,
+            ..j
+        },
+        LineType::Group => Judge {
+            condition: Condition::Grouped,
+            read,
+            group,
+            ..j
+        },
+        LineType::Order => Judge {
+            condition: Condition::Grouped,
+            read,
+            group,
+            ..j
+        },
+        LineType::Closing => Judge {
+            condition: Condition::Closed,
+            read,
+            group,
+            ..j
+        },
     }
 }
 

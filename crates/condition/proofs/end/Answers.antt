@@ -12,8 +12,8 @@ pub returns-then-stage-eq3 : goal.returns-then-stage-eq3
 unfolding ended
 returns-then-stage-eq3 c = rw (← c.is_refused.ensures, c.if-is_refused.false, ← c.is_sound.ensures, c.if-is_sound.true, ← c.stage.ensures, eq-eqb _ _ c.if-stage-eq3.true)
 
-pub overflow_add-lines : goal.overflow_add-lines
-overflow_add-lines c = omega (arith, (sound_within c.args.j (sym c.is_sound.ensures ∙ c.if-is_sound.true)).lines)
+pub overflow_add-j : goal.overflow_add-j
+overflow_add-j c = omega (arith, (sound_within c.args.j (sym c.is_sound.ensures ∙ c.if-is_sound.true)).lines)
 
 pub returns-then-is_sound : goal.returns-then-is_sound
 unfolding ended

@@ -8,12 +8,12 @@ returns-then-is_refused c = rw (← c.is_refused.ensures, c.if-is_refused.true)
 
 pub returns-in-Ok : goal.returns-in-Ok
 unfolding stepped
-returns-in-Ok c = rw (← c.is_refused.ensures, c.if-is_refused.false, ← c.is_sound.ensures, c.if-is_sound-lines.true, ← c.read_type.ensures, c.in-Ok.is) c.type_step.ensures
+returns-in-Ok c = rw (← c.is_refused.ensures, c.if-is_refused.false, ← c.is_sound.ensures, c.if-is_sound-j.true, ← c.read_type.ensures, c.in-Ok.is) c.type_step.ensures
 
 pub returns-in-Err : goal.returns-in-Err
 unfolding stepped
-returns-in-Err c = rw (← c.is_refused.ensures, c.if-is_refused.false, ← c.is_sound.ensures, c.if-is_sound-lines.true, ← c.read_type.ensures, c.in-Err.is, c.refused.ensures, c.in_line.ensures)
+returns-in-Err c = rw (← c.is_refused.ensures, c.if-is_refused.false, ← c.is_sound.ensures, c.if-is_sound-j.true, ← c.read_type.ensures, c.in-Err.is, c.refused.ensures, c.in_line.ensures)
 
-pub returns-else-is_sound-lines : goal.returns-else-is_sound-lines
+pub returns-else-is_sound-j : goal.returns-else-is_sound-j
 unfolding stepped
-returns-else-is_sound-lines c = rw (← c.is_refused.ensures, c.if-is_refused.false, ← c.is_sound.ensures, c.if-is_sound-lines.false, c.refused-else-is_sound-lines.ensures, c.at_line.ensures)
+returns-else-is_sound-j c = rw (← c.is_refused.ensures, c.if-is_refused.false, ← c.is_sound.ensures, c.if-is_sound-j.false, c.refused-else-is_sound-j.ensures, c.at_line.ensures)

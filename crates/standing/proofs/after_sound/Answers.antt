@@ -10,7 +10,7 @@ pub group_after-group-requires : goal.group_after-group-requires
 group_after-group-requires c = (sound_within c.args.j c.requires).counted
 
 pub returns-in-Group : goal.returns-in-Group
-returns-in-Group c = rw (c.made-in-Group.ensures, c.group_after-group.ensures, c.grow.ensures, c.growth-more.ensures, (sound_within c.args.j c.requires).tally, c.in-Group.is)
+returns-in-Group c = rw (c.group_after-group.ensures, c.grow.ensures, c.growth-more.ensures, (sound_within c.args.j c.requires).tally, c.in-Group.is)
 
 pub returns-in-Order : goal.returns-in-Order
-returns-in-Order c = rw (c.made-in-Order.ensures, c.group_after-group.ensures, c.grow.ensures, c.growth-more.ensures, (sound_within c.args.j c.requires).tally, c.in-Order.is)
+returns-in-Order c = rw (c.group_after-group.ensures, c.grow.ensures, c.growth-more.ensures, (sound_within c.args.j c.requires).tally, c.in-Order.is)
