@@ -15,9 +15,6 @@ refusal_in_one κs a z z' w w' p q = p ∙ sym q
 pub at_line_one : One _ here.at_line.Kinds.ps here.at_line.Kinds.r here.at_line.Reads.Post
 at_line_one κs a z z' w w' p q = p ∙ sym q
 
-pub made_one : One _ here.made.Kinds.ps here.made.Kinds.r here.made.Reads.Post
-made_one κs a z z' w w' p q = p ∙ sym q
-
 pub refused_one : One _ here.refused.Kinds.ps here.refused.Kinds.r here.refused.Reads.Post
 refused_one κs a z z' w w' p q = p ∙ sym q
 

@@ -1,13 +1,13 @@
 -- What is promised of the judge's record: at the end a refusal again, 14 for a file cut short, or acceptance.
 -- Assumes nothing.
-use Rattle.refusal.proofs.Basics.{◌≡◌, refl, true, false, eqb}
+use Rattle.refusal.proofs.Basics.{◌≡◌, true, false}
 use Rattle.std.specs.Prelude.{Err, Ok}
 use Rattle.refusal.specs.declared.Refusal.{Refusal}
 use Rattle.refusal.specs.declared.Refusal.TheVariants.{Unfinished}
-use Rattle.condition.specs.declared.Condition.{Condition}
-use Rattle.condition.specs.declared.Condition.TheVariants.{Fresh, Labelled, Grouped, Closed, Refused}
+use Rattle.condition.specs.declared.Condition.TheVariants.{Closed, Refused}
 use Rattle.condition.specs.declared.Judge.{Judge}
-use Rattle.condition.specs.Record.{stage_of, is_refused, is_sound, ended, next_line}
+use Rattle.condition.specs.Record.{is_refused, is_sound, ended, next_line}
+use Rattle.condition.proofs.Laws.{not_closed}
 
 -- ---------------------------------------------------------------------------
 -- The end
@@ -16,14 +16,6 @@ use Rattle.condition.specs.Record.{stage_of, is_refused, is_sound, ended, next_l
 pub refusal_ends : (j : Judge) (r : Refusal) → j.condition ≡ Refused r → ended j ≡ Err r
 unfolding ended
 refusal_ends j r e = rw e
-
--- a condition that is not closed has another number
-not_closed : (k : Condition) → (k ≡ Closed → ⊥) → eqb (stage_of k) 3 ≡ false
-not_closed Fresh f = refl
-not_closed Labelled f = refl
-not_closed Grouped f = refl
-not_closed Closed f = absurd (f refl)
-not_closed (Refused r) f = refl
 
 -- "The end gives 14, at the next line number, unless the 399 was read"
 pub unfinished_is_14 :

@@ -71,7 +71,7 @@ pub fn stage(c: Condition) -> usize
 pub fn is_refused(c: Condition) -> bool
     ensures { result ≡ is_refused c }
 {
-    stage(c) == 4
+    matches!(c, Condition::Refused(_))
 }
 
 // The refusal inside a condition; where there is none, 17.
@@ -96,19 +96,6 @@ pub fn at_line(line: usize) -> Place
         line,
         field: 0,
         byte: 0,
-    }
-}
-
-// A record of these parts.
-pub fn made(day: u64, condition: Condition, kind: u64, read: Counts, group: Open) -> Judge
-    ensures { result ≡ record { condition = condition; day = day; kind = kind; read = read; group = group } }
-{
-    Judge {
-        condition,
-        day,
-        kind,
-        read,
-        group,
     }
 }
 
@@ -167,6 +154,7 @@ pub fn begin(day: u64) -> Judge
 // The end
 
 // What the file comes to.
+#[tactic(auto, using(crate::proofs::Laws::not_closed), unfolding(crate::specs::Record::ended))]
 pub fn end(j: Judge) -> Result<Counts, Refusal>
     ensures { result ≡ ended j }
 {
@@ -174,7 +162,7 @@ pub fn end(j: Judge) -> Result<Counts, Refusal>
         return Err(refusal_in(j.condition));
     }
     if is_sound(j) {
-        if stage(j.condition) == 3 {
+        if matches!(j.condition, Condition::Closed) {
             return Ok(j.read);
         }
         return Err(Refusal::Unfinished(at_line(j.read.lines + 1)));

@@ -1,6 +1,6 @@
 -- Laws of a step: which line is taken, and what is known of one that was.
 -- Assumes nothing.
-use Rattle.refusal.proofs.Basics.{◌≡◌, refl, sym, ◌∙◌, ℕ, ◌<◌, List, Bool, true, false, cond, ◌&&◌, eqb, ltb, lt-ltb, ltb-true, eqb-true, both_true, false≢true}
+use Rattle.refusal.proofs.Basics.{◌≡◌, refl, sym, ◌∙◌, ℕ, ◌<◌, List, Bool, true, false, cond, ◌&&◌, ltb, lt-ltb, ltb-true, both_true, false≢true}
 use Rattle.std.specs.Prelude.{Err, Ok, Result}
 use Rattle.refusal.specs.Refusal.{Answer}
 use Rattle.verdict.specs.Verdict.{Verdict, passed}

@@ -1,6 +1,6 @@
 -- What is promised of the judge: a refusal stays, a record that it did not make and a line too many get 17, and no line gets 29.
 -- Assumes nothing.
-use Rattle.refusal.proofs.Basics.{◌≡◌, refl, sym, ap, ◌∙◌, arith, ℕ, List, [], ◌∷◌, ◌++◌, Bool, true, false, cond, ◌&&◌, eqb, ltb, false≢true}
+use Rattle.refusal.proofs.Basics.{◌≡◌, refl, sym, ap, ◌∙◌, arith, ℕ, List, [], ◌∷◌, ◌++◌, Bool, true, false, cond, ◌&&◌, ltb, false≢true}
 use Rattle.std.specs.Prelude.{Err, Ok, Result}
 use Rattle.refusal.specs.Refusal.{Answer, none, refusal_number, in_line}
 use Rattle.refusal.specs.declared.Refusal.{Refusal}

@@ -1,6 +1,6 @@
 -- Document 01, "The wage file": the judge, which stands in one condition and reads a line at a step. "Order in a line: 17, 1, 2, 5 (type), 10,
 -- 12, 13, then the fields in order".
-use Rattle.std.specs.Prelude.{ℕ, cond, ◌&&◌, List, [], ◌∷◌, eqb, ltb, Result, Err, Ok}
+use Rattle.std.specs.Prelude.{ℕ, cond, ◌&&◌, List, [], ◌∷◌, ltb, Result, Err, Ok}
 use Rattle.verdict.specs.Verdict.{Verdict, refusal_at}
 use Rattle.refusal.specs.Refusal.{Answer, in_line}
 use Rattle.refusal.specs.declared.Refusal.{Refusal}

@@ -23,7 +23,7 @@ fn judge_whole(c: Condition, g: Open) -> Verdict
     ensures { result ≡ whole_verdict c g }
 {
     verdict::only_if(
-        (condition::stage(c) == 2) & (0 < g.counted),
+        matches!(c, Condition::Grouped) & (0 < g.counted),
         Fault::Misplaced,
     )?;
     verdict::only_if(g.counted == g.declared, Fault::Orders)?;
@@ -36,15 +36,15 @@ pub fn judge_standing(c: Condition, g: Open, t: LineType) -> Verdict
     ensures { result ≡ stand_verdict c g t }
 {
     match t {
-        LineType::Label => verdict::only_if(condition::stage(c) == 0, Fault::Misplaced),
+        LineType::Label => verdict::only_if(matches!(c, Condition::Fresh), Fault::Misplaced),
         LineType::Group => {
-            if condition::stage(c) == 1 {
+            if matches!(c, Condition::Labelled) {
                 return Ok(());
             }
             judge_whole(c, g)
         }
         LineType::Order => {
-            verdict::only_if(condition::stage(c) == 2, Fault::Misplaced)?;
+            verdict::only_if(matches!(c, Condition::Grouped), Fault::Misplaced)?;
             verdict::only_if(g.counted < g.declared, Fault::Orders)
         }
         LineType::Closing => judge_whole(c, g),

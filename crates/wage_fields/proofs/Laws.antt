@@ -1,8 +1,8 @@
 -- Laws of a line's places: the byte that a verdict tells, answers joined, the places from one up to another, and the first that is refused.
 -- Assumes nothing.
-use Rattle.refusal.proofs.Basics.{◌≡◌, refl, sym, ap, ◌∙◌, arith, ℕ, zero, suc, add-zero, ◌+◌, ◌-◌, ◌≤◌, ◌<◌, ◌^◌, length, drop, get_or, length-take, get_or-eq_default, leb-true, ltb-true, ltb-false, eqb-true, ne_eqb, List, [], ◌∷◌, Bool, true, false, cond, eqb, leb, ltb, add-one}
+use Rattle.refusal.proofs.Basics.{◌≡◌, refl, sym, ap, ◌∙◌, arith, ℕ, zero, suc, add-zero, ◌+◌, ◌-◌, ◌≤◌, ◌<◌, ◌^◌, length, drop, get_or, length-take, get_or-eq_default, ltb-true, ltb-false, eqb-true, ne_eqb, List, [], ◌∷◌, Bool, true, false, cond, eqb, ltb, add-one}
 use Rattle.std.specs.Prelude.{Ok, Err}
-use Rattle.refusal.specs.Refusal.{Answer, none, refusal_number, refusal_place, answer_number, first_of}
+use Rattle.refusal.specs.Refusal.{Answer, none, refusal_number, refusal_place, first_of}
 use Rattle.verdict.specs.Verdict.{Verdict, passed, refusal_at, fault_byte, verdict_byte, answer_at, Within}
 use Rattle.refusal.specs.declared.Place.{Place}
 use Rattle.refusal.specs.declared.Refusal.{Refusal}

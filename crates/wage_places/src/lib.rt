@@ -23,94 +23,84 @@ pub struct Spot {
     pub size: usize,
 }
 
-fn at(field: usize, start: usize, size: usize) -> Spot
-    ensures { result ≡ record { field = field; start = start; size = size } }
-{
-    Spot { field, start, size }
-}
+// No place.
+const NOWHERE: Spot = Spot {
+    field: 0,
+    start: 0,
+    size: 0,
+};
 
 // The places of a 300, by their order.
-fn label_spot(k: usize) -> Spot
-    ensures { result ≡ get_or label_spots k no_spot }
-{
-    match k {
-        0 => at(1, 0, 8),
-        1 => at(2, 8, 1),
-        2 => at(3, 9, 3),
-        3 => at(4, 12, 1),
-        4 => at(5, 13, 11),
-        5 => at(6, 24, 11),
-        6 => at(7, 35, 11),
-        7 => at(8, 46, 11),
-        _ => at(0, 0, 0),
-    }
-}
+#[rattlefmt::skip]
+const LABEL: [Spot; 8] = [
+    Spot { field: 1, start: 0, size: 8 },
+    Spot { field: 2, start: 8, size: 1 },
+    Spot { field: 3, start: 9, size: 3 },
+    Spot { field: 4, start: 12, size: 1 },
+    Spot { field: 5, start: 13, size: 11 },
+    Spot { field: 6, start: 24, size: 11 },
+    Spot { field: 7, start: 35, size: 11 },
+    Spot { field: 8, start: 46, size: 11 },
+];
 
 // The places of a 301, by their order.
-fn group_spot(k: usize) -> Spot
-    ensures { result ≡ get_or group_spots k no_spot }
-{
-    match k {
-        0 => at(1, 0, 21),
-        1 => at(2, 21, 3),
-        2 => at(3, 24, 21),
-        3 => at(4, 45, 3),
-        4 => at(5, 48, 5),
-        5 => at(6, 53, 20),
-        6 => at(7, 73, 8),
-        _ => at(0, 0, 0),
-    }
-}
+#[rattlefmt::skip]
+const GROUP: [Spot; 7] = [
+    Spot { field: 1, start: 0, size: 21 },
+    Spot { field: 2, start: 21, size: 3 },
+    Spot { field: 3, start: 24, size: 21 },
+    Spot { field: 4, start: 45, size: 3 },
+    Spot { field: 5, start: 48, size: 5 },
+    Spot { field: 6, start: 53, size: 20 },
+    Spot { field: 7, start: 73, size: 8 },
+];
 
 // The places of a 309, by their order.
-fn order_spot(k: usize) -> Spot
-    ensures { result ≡ get_or order_spots k no_spot }
+#[rattlefmt::skip]
+const ORDER: [Spot; 16] = [
+    Spot { field: 1, start: 0, size: 34 },
+    Spot { field: 2, start: 34, size: 140 },
+    Spot { field: 5, start: 174, size: 3 },
+    Spot { field: 6, start: 177, size: 4 },
+    Spot { field: 7, start: 181, size: 22 },
+    Spot { field: 8, start: 203, size: 4 },
+    Spot { field: 9, start: 207, size: 140 },
+    Spot { field: 10, start: 347, size: 15 },
+    Spot { field: 11, start: 362, size: 4 },
+    Spot { field: 12, start: 366, size: 22 },
+    Spot { field: 18, start: 542, size: 1 },
+    Spot { field: 19, start: 543, size: 3 },
+    Spot { field: 20, start: 546, size: 1 },
+    Spot { field: 21, start: 547, size: 1 },
+    Spot { field: 22, start: 548, size: 3 },
+    Spot { field: 23, start: 551, size: 11 },
+];
+
+// The places of a line, in order.
+#[tactic(auto, unfolding(crate::specs::Places::spots))]
+fn places(t: LineType) -> &'static [Spot]
+    ensures { result.now ≡ spots t }
 {
-    match k {
-        0 => at(1, 0, 34),
-        1 => at(2, 34, 140),
-        2 => at(5, 174, 3),
-        3 => at(6, 177, 4),
-        4 => at(7, 181, 22),
-        5 => at(8, 203, 4),
-        6 => at(9, 207, 140),
-        7 => at(10, 347, 15),
-        8 => at(11, 362, 4),
-        9 => at(12, 366, 22),
-        10 => at(18, 542, 1),
-        11 => at(19, 543, 3),
-        12 => at(20, 546, 1),
-        13 => at(21, 547, 1),
-        14 => at(22, 548, 3),
-        15 => at(23, 551, 11),
-        _ => at(0, 0, 0),
+    match t {
+        LineType::Label => &LABEL,
+        LineType::Group => &GROUP,
+        LineType::Order => &ORDER,
+        LineType::Closing => &[],
     }
 }
 
 // The place of a line at an order, counted from 0; past the last, no place.
-#[tactic(auto, unfolding(crate::specs::Places::spots))]
 pub fn spot_at(t: LineType, k: usize) -> Spot
     ensures { result ≡ get_or (spots t) k no_spot }
 {
-    match t {
-        LineType::Label => label_spot(k),
-        LineType::Group => group_spot(k),
-        LineType::Order => order_spot(k),
-        LineType::Closing => at(0, 0, 0),
-    }
+    places(t).get(k).copied().unwrap_or(NOWHERE)
 }
 
 // How many places a line has.
-#[tactic(auto, unfolding(crate::specs::Places::spots))]
 pub fn count(t: LineType) -> usize
     ensures { result ≡ length (spots t) }
 {
-    match t {
-        LineType::Label => 8,
-        LineType::Group => 7,
-        LineType::Order => 16,
-        LineType::Closing => 0,
-    }
+    places(t).len()
 }
 
 // The place of a field; an unknown number has none.
@@ -118,13 +108,12 @@ pub fn count(t: LineType) -> usize
 pub fn find(t: LineType, field: usize) -> Spot
     ensures { result ≡ spot_of t field }
 {
-    for k in 0..count(t) {
-        let p = spot_at(t, k);
+    for p in places(t) {
         if p.field == field {
-            return p;
+            return *p;
         }
     }
-    at(0, 0, 0)
+    NOWHERE
 }
 
 // The bytes of a place: as much of it as there is.

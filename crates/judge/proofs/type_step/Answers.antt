@@ -1,5 +1,5 @@
 -- `judge::type_step` meets its contract: 10, 12 and 13 first, then the arm says the answer of the places. Assumes nothing.
-use Rattle.refusal.proofs.Basics.{arith, eq-eqb, ne_eqb}
+use Rattle.refusal.proofs.Basics.{arith}
 use Rattle.condition.proofs.Laws.{sound_within}
 use Rattle.judge.specs.Judge.{type_step}
 use Rattle.judge.proofs.type_step.Goals as goal
