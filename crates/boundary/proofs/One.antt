@@ -15,6 +15,9 @@ tell_one κs a z z' w w' p q = p ∙ sym q
 pub tell_verdict_one : One _ here.tell_verdict.Kinds.ps here.tell_verdict.Kinds.r here.tell_verdict.Reads.Post
 tell_verdict_one κs a z z' w w' p q = p ∙ sym q
 
+pub tell_rule_one : One _ here.tell_rule.Kinds.ps here.tell_rule.Kinds.r here.tell_rule.Reads.Post
+tell_rule_one κs a z z' w w' p q = p ∙ sym q
+
 pub accept_value_one : One _ here.accept_value.Kinds.ps here.accept_value.Kinds.r here.accept_value.Reads.Post
 accept_value_one κs a z z' w w' p q = p ∙ sym q
 

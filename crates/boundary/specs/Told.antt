@@ -2,7 +2,7 @@
 -- acceptance; then all else but what it tells is 0.
 use Rattle.std.specs.Prelude.{ℕ, Result, Err, Ok}
 use Rattle.refusal.specs.Refusal.{Answer, none, refusal_number, refusal_place, needed_of}
-use Rattle.verdict.specs.Verdict.{Verdict, answer_in}
+use Rattle.verdict.specs.Verdict.{Verdict, answer_in, number_answer}
 use Rattle.refusal.specs.declared.Place.{Place}
 use Rattle.refusal.specs.declared.Refusal.{Refusal}
 use Rattle.refusal.specs.declared.Refusal.TheVariants.{Form}
@@ -24,6 +24,10 @@ told_of (Err r) = refusal r
 -- a verdict, told of no place
 abbrev pub verdict_told : Verdict → Told
 verdict_told v = told_of (answer_in 0 v)
+
+-- a verdict that is one number, told of no place
+abbrev pub number_told : ℕ → Told
+number_told v = told_of (number_answer 0 v)
 
 -- an answer with a value: 0 where it is a refusal
 abbrev pub valued : Told → ℕ → Valued

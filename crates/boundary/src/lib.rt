@@ -5,7 +5,7 @@
 #![tactic(auto)]
 
 ghost use Rattle.std.specs.Prelude.{◌≡◌};
-ghost use Rattle.boundary.specs.Told.{accepted, refusal, told_of, value_told, verdict_told, valued};
+ghost use Rattle.boundary.specs.Told.{accepted, refusal, told_of, value_told, verdict_told, number_told, valued};
 
 use refusal::{Answer, Refusal};
 use verdict::Verdict;
@@ -72,8 +72,15 @@ pub fn tell(a: Answer) -> Told
 }
 
 // A verdict, told of no place: a 3 tells its byte.
-pub fn tell_verdict(verdict: Verdict) -> Told
+pub fn tell_rule(verdict: Verdict) -> Told
     ensures { result ≡ verdict_told verdict }
+{
+    tell(verdict::told_in(verdict, 0))
+}
+
+// A verdict that its caller has as a number, told of no place: a 3 tells its byte.
+pub fn tell_verdict(verdict: usize) -> Told
+    ensures { result ≡ number_told verdict }
 {
     tell(verdict::answer_in(verdict, 0))
 }

@@ -10,8 +10,8 @@ use boundary::{Told, Valued};
 use desk_ledger::Ledger;
 use desk_standing::StandingTold;
 use question::{
-    behind, count, field, find, number_at, put_fields, put_lines, put_sizes, size_of, tell,
-    tell_value,
+    behind, count, field, find, number_at, number_of, put_fields, put_lines, put_sizes, size_of,
+    tell, tell_value,
 };
 use text::front;
 use words::say;
@@ -49,26 +49,31 @@ enum Verb {
     WriteStanding,
 }
 
+// The verbs' words, and the verbs in the same order.
+const WORDS: &[u8] =
+    b"iban|oib|ref|check ini|check iso|make ini|make iso|list iban|list ref|slip|write|ledger|lipa|standing|write standing";
+
+const VERBS: [Verb; 15] = [
+    Verb::Iban,
+    Verb::Oib,
+    Verb::Ref,
+    Verb::CheckIni,
+    Verb::CheckIso,
+    Verb::MakeIni,
+    Verb::MakeIso,
+    Verb::ListIban,
+    Verb::ListRef,
+    Verb::Slip,
+    Verb::Write,
+    Verb::Ledger,
+    Verb::Lipa,
+    Verb::Standing,
+    Verb::WriteStanding,
+];
+
 // The verb of a text.
 fn verb_of(text: &[u8]) -> Option<Verb> {
-    match text {
-        b"iban" => Some(Verb::Iban),
-        b"oib" => Some(Verb::Oib),
-        b"ref" => Some(Verb::Ref),
-        b"check ini" => Some(Verb::CheckIni),
-        b"check iso" => Some(Verb::CheckIso),
-        b"make ini" => Some(Verb::MakeIni),
-        b"make iso" => Some(Verb::MakeIso),
-        b"list iban" => Some(Verb::ListIban),
-        b"list ref" => Some(Verb::ListRef),
-        b"slip" => Some(Verb::Slip),
-        b"write" => Some(Verb::Write),
-        b"ledger" => Some(Verb::Ledger),
-        b"lipa" => Some(Verb::Lipa),
-        b"standing" => Some(Verb::Standing),
-        b"write standing" => Some(Verb::WriteStanding),
-        _ => None,
-    }
+    VERBS.get(number_of(text, WORDS)).copied()
 }
 
 // Writes a question back with its answer.

@@ -12,6 +12,9 @@ is_refused_one κs a z z' w w' p q = p ∙ sym q
 pub refusal_in_one : One _ here.refusal_in.Kinds.ps here.refusal_in.Kinds.r here.refusal_in.Reads.Post
 refusal_in_one κs a z z' w w' p q = p ∙ sym q
 
+pub of_line_one : One _ here.of_line.Kinds.ps here.of_line.Kinds.r here.of_line.Reads.Post
+of_line_one κs a z z' w w' p q = p ∙ sym q
+
 pub at_line_one : One _ here.at_line.Kinds.ps here.at_line.Kinds.r here.at_line.Reads.Post
 at_line_one κs a z z' w w' p q = p ∙ sym q
 

@@ -6,7 +6,7 @@
 #![tactic(auto)]
 
 ghost use Rattle.std.specs.Prelude.{◌≡◌};
-ghost use Rattle.condition.specs.Record.{stage_of, is_refused, refusal_in, refused_with, line_place, is_sound, begun, ended};
+ghost use Rattle.condition.specs.Record.{stage_of, is_refused, refusal_in, refused_with, line_place, at_line, is_sound, begun, ended};
 
 use refusal::{Place, Refusal};
 use sums::Sum;
@@ -78,7 +78,7 @@ pub fn is_refused(c: Condition) -> bool
 pub fn refusal_in(c: Condition) -> Refusal
     ensures { result ≡ refusal_in c }
 {
-    let beyond = Refusal::Beyond(at_line(1000001));
+    let beyond = Refusal::Beyond(of_line(1000001));
     match c {
         Condition::Fresh => beyond,
         Condition::Labelled => beyond,
@@ -89,7 +89,7 @@ pub fn refusal_in(c: Condition) -> Refusal
 }
 
 // The place of a line alone: field 0 and byte 0.
-pub fn at_line(line: usize) -> Place
+pub fn of_line(line: usize) -> Place
     ensures { result ≡ line_place line }
 {
     Place {
@@ -97,6 +97,13 @@ pub fn at_line(line: usize) -> Place
         field: 0,
         byte: 0,
     }
+}
+
+// A refusal of a line alone, by its number.
+pub fn at_line(number: usize, line: usize) -> Refusal
+    ensures { result ≡ at_line number line }
+{
+    refusal::made(number, of_line(line), 0)
 }
 
 // The record with a refusal, all else as it stood.
@@ -147,7 +154,7 @@ pub fn begin(day: u64) -> Judge
     if dates::is_date(day) {
         return fresh;
     }
-    refused(fresh, Refusal::Date(at_line(0)))
+    refused(fresh, Refusal::Date(of_line(0)))
 }
 
 // ---------------------------------------------------------------------------
@@ -165,7 +172,7 @@ pub fn end(j: Judge) -> Result<Counts, Refusal>
         if matches!(j.condition, Condition::Closed) {
             return Ok(j.read);
         }
-        return Err(Refusal::Unfinished(at_line(j.read.lines + 1)));
+        return Err(Refusal::Unfinished(of_line(j.read.lines + 1)));
     }
-    Err(Refusal::Beyond(at_line(1000001)))
+    Err(Refusal::Beyond(of_line(1000001)))
 }

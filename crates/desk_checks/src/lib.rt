@@ -46,19 +46,19 @@ pub fn lanecockle_make_digit(rule: u32, digits: &[u8]) -> Valued
 pub fn lanecockle_iban(text: &[u8]) -> Told
     ensures { result ≡ verdict_told (iban_verdict text.now) }
 {
-    boundary::tell_verdict(account::iban(text))
+    boundary::tell_rule(account::iban(text))
 }
 
 // An OIB.
 pub fn lanecockle_oib(text: &[u8]) -> Told
     ensures { result ≡ verdict_told (oib_verdict text.now) }
 {
-    boundary::tell_verdict(account::oib(text))
+    boundary::tell_rule(account::oib(text))
 }
 
 // A reference under its model.
 pub fn lanecockle_reference(model: &[u8], text: &[u8]) -> Told
     ensures { result ≡ verdict_told (reference_verdict model.now text.now) }
 {
-    boundary::tell_verdict(reference::reference(model, text))
+    boundary::tell_rule(reference::reference(model, text))
 }

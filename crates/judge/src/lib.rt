@@ -22,7 +22,7 @@ fn type_step(j: Judge, t: LineType, s: &[u8]) -> Judge
 {
     let next = j.read.lines + 1;
     if let Err(fault) = standing::judge_standing(j.condition, j.group, t) {
-        return condition::refused(j, verdict::told(fault, condition::at_line(next)));
+        return condition::refused(j, verdict::told(fault, condition::of_line(next)));
     }
     match wage_fields::judge_places(j.day, j.kind, t, s) {
         Ok(()) => standing::after(j, t, s),
@@ -43,6 +43,6 @@ pub fn step(j: Judge, s: &[u8]) -> Judge
             Err(r) => condition::refused(j, refusal::in_line(j.read.lines + 1, r)),
         }
     } else {
-        condition::refused(j, Refusal::Beyond(condition::at_line(1000001)))
+        condition::refused(j, Refusal::Beyond(condition::of_line(1000001)))
     }
 }

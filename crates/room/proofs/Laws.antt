@@ -1,6 +1,5 @@
 -- Laws of loops that write into lent room: what is left to be written makes up the whole. Assumes nothing.
-use Rattle.refusal.proofs.Basics.{◌≡◌, refl, sym, ap, ◌∙◌, arith, ℕ, zero, suc, ◌+◌, ◌-◌, ◌/◌, ◌%◌, ◌≤◌, ◌<◌, length, take, drop, set, length-drop, length-take-le, take-append-drop, List, [], ◌∷◌, ◌++◌, sets, sets-eq, length-sets, append_assoc, drop-drop, set_out, set_comm, add-zero}
-use Rattle.text.proofs.Stands.{sets_append}
+use Rattle.refusal.proofs.Basics.{◌≡◌, refl, sym, ap, ◌∙◌, arith, ℕ, zero, suc, ◌+◌, ◌-◌, ◌/◌, ◌%◌, ◌≤◌, ◌<◌, length, get_or, drop, set, drop_of_length-le, List, [], ◌∷◌, ◌++◌, sets, drop-cons, set_out, set_comm, add-zero, add-one}
 use Rattle.text.specs.Digits.{digits_text}
 use Rattle.room.proofs.Digits.{digits_length, digits_last}
 
@@ -20,24 +19,21 @@ sets_last s at (a ∷ f) b =
     rw (e, set_comm s (suc at + length f) at b a (λ (z : suc at + length f ≡ at). omega arith)) (sets_last (set s at a) (suc at) f b)
 
 -- ---------------------------------------------------------------------------
--- A text
+-- A text, from the first byte to the last
 
--- written as far as there is room
-pub copied_part :
-    (s out : List ℕ) (at n : ℕ) → at + n ≤ length out → n ≤ length s → (n < length s → length out ≤ at + n)
-    → take at out ++ (take n s ++ drop n (drop at out)) ≡ sets out at s
-copied_part s out at n h g f =
-    let w = take n s in
-    let l : length w ≡ n = length-take-le n s g in
-    sym (rw l at (sets-eq w out at (omega arith)) ∙ append_assoc (take at out) w (drop (at + n) out) ∙ ap (λ (t : List ℕ). take at out ++ (w ++ t)) (sym (drop-drop n at out)))
-    ∙ sym (spare (drop n s) (λ z. omega (arith, length-drop n s, f (omega (arith, length-drop n s, z)), length-sets out at w)))
-    ∙ sets_append out at w (drop n s)
-    ∙ ap (sets out at) (take-append-drop n s)
-  where
-    -- of what is left there is nothing, or no room
-    spare : (t : List ℕ) → (0 < length t → length (sets out at (take n s)) ≤ at + length (take n s)) → sets (sets out at (take n s)) (at + length (take n s)) t ≡ sets out at (take n s)
-    spare [] k = refl
-    spare (b ∷ t) k = sets_past _ _ (b ∷ t) (k (omega arith))
+-- one byte more
+pub copied_more :
+    (s out whole : List ℕ) (next i : ℕ) → i < length s → sets out next (drop i s) ≡ whole
+    → sets (set out next (get_or s i 0)) (next + 1) (drop (i + 1) s) ≡ whole
+copied_more s out whole next i h e = rw (add-one next, add-one i) (rw (drop-cons s i 0 h) at e)
+
+-- nothing is left
+pub copied_all : (s out whole : List ℕ) (next i : ℕ) → length s ≤ i → sets out next (drop i s) ≡ whole → out ≡ whole
+copied_all s out whole next i h e = rw (drop_of_length-le s h) at e
+
+-- no room is left
+pub copied_full : (s out whole : List ℕ) (next i : ℕ) → length out ≤ next → sets out next (drop i s) ≡ whole → out ≡ whole
+copied_full s out whole next i h e = sym (sets_past out next (drop i s) h) ∙ e
 
 -- ---------------------------------------------------------------------------
 -- Digits, from the last to the first

@@ -12,11 +12,15 @@ ghost use Rattle.text.specs.Digits.{digits_text};
 pub fn put(out: &mut [u8], at: usize, s: &[u8])
     ensures { out.new ≡ sets out.old at s.now }
 {
-    if out.len() <= at {
-        return;
+    let mut next = at;
+    // byte by byte: the library for C would need `memmove` for a part that is copied whole
+    for b in s {
+        if out.len() <= next {
+            return;
+        }
+        out[next] = *b;
+        next += 1;
     }
-    let n = s.len().min(out.len() - at);
-    out[at..at + n].copy_from_slice(&s[..n]);
 }
 
 // The last digits of a number, with zeros in front.

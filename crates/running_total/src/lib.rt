@@ -41,7 +41,7 @@ pub fn step(j: Judge, s: &[u8], t: Tally) -> Tallied
         return Tallied { judge, tally };
     }
     Tallied {
-        judge: condition::refused(j, Refusal::Overfull(condition::at_line(judge.read.lines))),
+        judge: condition::refused(j, Refusal::Overfull(condition::of_line(judge.read.lines))),
         tally: t,
     }
 }

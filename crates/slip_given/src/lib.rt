@@ -14,7 +14,7 @@ use slip_fields::Currency;
 fn judge_one(n: usize, before: &[u8], s: &[u8]) -> Answer
     ensures { result ≡ given_answer n before.now (s.now ∷ []) }
 {
-    verdict::answer_in(slip_fields::judge_field(Currency::Euro, n, before, s), n)
+    verdict::told_in(slip_fields::judge_field(Currency::Euro, n, before, s), n)
 }
 
 // The fields 4 to 14, each after the one before it.

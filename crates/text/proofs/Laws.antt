@@ -2,8 +2,7 @@
 -- Assumes nothing.
 use Rattle.refusal.proofs.Basics.{◌≡◌, refl, sym, ap, subst, ◌∙◌, arith, ℕ, suc, ◌+◌, ◌-◌, ◌*◌, ◌≤◌, ◌<◌, length, take, drop, get_or, length-drop, take-append-drop, ne_eqb, eq-eqb, leb-true, leb-false, List, [], ◌∷◌, ◌++◌, Bool, true, false, cond, not, ◌&&◌, and-true, and_assoc, false≢true, eqb, leb, drop-cons, drop-length, take_all, zero-add, add-zero, add-one, and_first, and_second, both_true}
 use Rattle.classes.specs.declared.Class.{Class}
-use Rattle.std.specs.Prelude.{Option, Some, None, is_some, is_none, count_by}
-use Rattle.std.specs.List.{fold}
+use Rattle.std.specs.Prelude.{Option, Some, None, is_some, is_none}
 use Rattle.text.specs.Digits.{digits_of, value_from}
 use Rattle.verdict.specs.Verdict.{passed, Within}
 use Rattle.verdict.proofs.Verdicts.{pass_within, byte_at_within, fault_no_pass}
@@ -193,19 +192,20 @@ module _ (k : Class) (s : List ℕ) (i : ℕ) where
   tested_all h g before = let e : i ≡ length s = omega arith in rw (e, drop-length) (sym (and-true before))
 
 -- ---------------------------------------------------------------------------
--- How many bytes c there are
+-- How many bytes c there are from place i on
 
-pub counted : (c : ℕ) (s : List ℕ) → count_by (λ b. eqb b c) s ≡ count_of c s
-unfolding count_of
-counted c s = go 0 s ∙ zero-add _
-  where
-    go : (n : ℕ) (t : List ℕ) → fold (λ (a x : ℕ). a + cond (eqb x c) 1 0) n t ≡ n + count_of c t
-    go n [] = sym (add-zero n)
-    go n (b ∷ t) = more (eqb b c) (go (n + cond (eqb b c) 1 0) t)
-      where
-        more : (d : Bool) → fold (λ (a x : ℕ). a + cond (eqb x c) 1 0) (n + cond d 1 0) t ≡ n + cond d 1 0 + count_of c t → fold (λ (a x : ℕ). a + cond (eqb x c) 1 0) (n + cond d 1 0) t ≡ n + cond d (suc (count_of c t)) (count_of c t)
-        more true e = e ∙ omega arith
-        more false e = e ∙ omega arith
+module _ (c : ℕ) (s : List ℕ) (i n : ℕ) where
+  pub count_more : i < length s → get_or s i 0 ≡ c → n + count_of c (drop i s) ≡ n + 1 + count_of c (drop (i + 1) s)
+  unfolding count_of
+  count_more h e = rw (drop-cons s i 0 h, add-one i, eq-eqb (get_or s i 0) c e) (omega arith)
+
+  pub count_same : i < length s → (get_or s i 0 ≡ c → ⊥) → n + count_of c (drop i s) ≡ n + count_of c (drop (i + 1) s)
+  unfolding count_of
+  count_same h e = rw (drop-cons s i 0 h, add-one i, ne_eqb (get_or s i 0) c e)
+
+  pub count_end : length s ≤ i → i ≤ length s → n ≡ n + count_of c (drop i s)
+  unfolding count_of
+  count_end h g = let e : i ≡ length s = omega arith in rw (e, drop-length) (sym (add-zero n))
 
 -- ---------------------------------------------------------------------------
 -- Parts

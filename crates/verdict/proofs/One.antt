@@ -15,5 +15,8 @@ answer_of_one κs a z z' w w' p q = p ∙ sym q
 pub answer_in_one : One _ here.answer_in.Kinds.ps here.answer_in.Kinds.r here.answer_in.Reads.Post
 answer_in_one κs a z z' w w' p q = p ∙ sym q
 
+pub told_in_one : One _ here.told_in.Kinds.ps here.told_in.Kinds.r here.told_in.Reads.Post
+told_in_one κs a z z' w w' p q = p ∙ sym q
+
 pub only_if_one : One _ here.only_if.Kinds.ps here.only_if.Kinds.r here.only_if.Reads.Post
 only_if_one κs a z z' w w' p q = p ∙ sym q

@@ -1,13 +1,13 @@
 -- Laws of verdicts: what a chain of rules answers, when it refuses nothing, and where its byte lies.
 -- Assumes nothing.
-use Rattle.refusal.proofs.Basics.{◌≡◌, refl, sym, ap, ◌∙◌, arith, ℕ, ◌≤◌, ◌<◌, Bool, true, false, cond, ◌&&◌, false≢true, ◌↔◌, both_true, and_second}
+use Rattle.refusal.proofs.Basics.{◌≡◌, refl, sym, ap, ◌∙◌, arith, ℕ, ◌≤◌, ◌<◌, Bool, true, false, cond, ◌&&◌, false≢true, ◌↔◌, both_true, and_second, ◌+◌, ◌-◌, le-leb, ne_eqb}
 use Rattle.std.specs.Prelude.{Ok, Err}
 use Rattle.refusal.specs.declared.Place.{Place}
 use Rattle.refusal.specs.declared.Refusal.{Refusal}
 use Rattle.refusal.specs.Refusal.{Answer, refusal_number, refusal_place, needed_of, first_of}
 use Rattle.verdict.specs.declared.Fault.{Fault}
 use Rattle.verdict.specs.declared.Fault.TheVariants.{Byte, Length, Form, Check, Model, Parts, Digit, Misplaced, Date, Orders, Sum}
-use Rattle.verdict.specs.Verdict.{Verdict, passed, wrong_at, only_if, and_then, refusal_at, verdict_byte, answer_of, Within}
+use Rattle.verdict.specs.Verdict.{Verdict, passed, wrong_at, only_if, and_then, refusal_at, verdict_byte, answer_of, answer_in, Within, verdict_number, number_byte, number_answer, number_of}
 
 -- ---------------------------------------------------------------------------
 -- What a chain answers, as its code goes
@@ -184,3 +184,22 @@ answer_never_29 (Ok u) field byte r e h = refusal_no_pass r (sym e)
 answer_never_29 (Err f) field byte r e h =
     let z : refusal_at f (record { line = 0; field = field; byte = byte }) ≡ r = cc in
     never_29 f _ (ap (λ (x : Refusal). refusal_number x) z ∙ h)
+
+-- ---------------------------------------------------------------------------
+-- A verdict's number says what the verdict says
+
+pub number_answers : (field : ℕ) (v : Verdict) → number_answer field (number_of v) ≡ answer_in field v
+number_answers field (Ok u) = refl
+number_answers field (Err (Byte i)) =
+    let b : 32 + i - 32 ≡ i = omega arith in
+    rw (ne_eqb (32 + i) 0 (λ q. omega arith), le-leb 32 (32 + i) (omega arith), b)
+number_answers field (Err Length) = refl
+number_answers field (Err Form) = refl
+number_answers field (Err Check) = refl
+number_answers field (Err Model) = refl
+number_answers field (Err Parts) = refl
+number_answers field (Err Digit) = refl
+number_answers field (Err Misplaced) = refl
+number_answers field (Err Date) = refl
+number_answers field (Err Orders) = refl
+number_answers field (Err Sum) = refl

@@ -1,10 +1,10 @@
 -- What a rule says of a text before it is known where the text stands: its verdict. It refuses nothing, or it is a fault: one of the refusals 3
 -- to 13 of document 01's table without its place, told of the text's first byte; a 3 tells its first offending byte, counted from the text's
 -- first. Every rule of a field or a place is a chain of these.
-use Rattle.std.specs.Prelude.{ℕ, ◌≡◌, ◌+◌, ◌<◌, Bool, cond, Result, Ok, Err}
+use Rattle.std.specs.Prelude.{ℕ, ◌≡◌, ◌+◌, ◌-◌, ◌<◌, Bool, cond, eqb, leb, Result, Ok, Err}
 use Rattle.refusal.specs.declared.Place.{Place}
 use Rattle.refusal.specs.declared.Refusal.{Refusal}
-use Rattle.refusal.specs.Refusal.{Answer}
+use Rattle.refusal.specs.Refusal.{Answer, refusal_of}
 use Rattle.verdict.specs.declared.Fault.{Fault}
 use Rattle.verdict.specs.declared.Fault.TheVariants.{Byte, Length, Form, Check, Model, Parts, Digit, Misplaced, Date, Orders, Sum}
 
@@ -83,3 +83,33 @@ answer_in field v = answer_of v field (verdict_byte v)
 -- the verdict of a text of n bytes: a 3 tells a byte of the text
 abbrev pub Within : ℕ → Verdict → Type 0
 Within n v = (i : ℕ) → v ≡ wrong_at i → i < n
+
+-- ---------------------------------------------------------------------------
+-- A verdict as one number, for a caller that has numbers: 0 refuses nothing; a number below 32 is the refusal of that number in document 01's
+-- table, told of the text's first byte; 32 + i is a 3 whose first offending byte is i, counted from the text's first byte
+
+abbrev pub verdict_number : ℕ → ℕ
+verdict_number v = cond (leb 32 v) 3 v
+
+abbrev pub number_byte : ℕ → ℕ
+number_byte v = cond (leb 32 v) (v - 32) 0
+
+-- told of a field, the byte counted within it
+abbrev pub number_answer : ℕ → ℕ → Answer
+number_answer field v =
+    cond (eqb v 0) (Ok tt) (Err (refusal_of (verdict_number v) (record { line = 0; field = field; byte = number_byte v }) 0))
+
+-- the number of a verdict
+abbrev pub number_of : Verdict → ℕ
+number_of (Ok u) = 0
+number_of (Err (Byte i)) = 32 + i
+number_of (Err Length) = 4
+number_of (Err Form) = 5
+number_of (Err Check) = 6
+number_of (Err Model) = 7
+number_of (Err Parts) = 8
+number_of (Err Digit) = 9
+number_of (Err Misplaced) = 10
+number_of (Err Date) = 11
+number_of (Err Orders) = 12
+number_of (Err Sum) = 13

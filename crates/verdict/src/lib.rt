@@ -5,7 +5,7 @@
 #![tactic(auto)]
 
 ghost use Rattle.std.specs.Prelude.{◌≡◌};
-ghost use Rattle.verdict.specs.Verdict.{only_if, refusal_at, verdict_byte, answer_of, answer_in};
+ghost use Rattle.verdict.specs.Verdict.{only_if, refusal_at, verdict_byte, answer_of, answer_in, number_byte, verdict_number, number_answer};
 
 use refusal::{Answer, Place, Refusal};
 
@@ -75,7 +75,7 @@ pub fn answer_of(verdict: Verdict, field: usize, byte: usize) -> Answer
 }
 
 // A verdict told of a field, the byte counted within it.
-pub fn answer_in(verdict: Verdict, field: usize) -> Answer
+pub fn told_in(verdict: Verdict, field: usize) -> Answer
     ensures { result ≡ answer_in field verdict }
 {
     answer_of(verdict, field, byte_of(verdict))
@@ -86,4 +86,42 @@ pub fn only_if(right: bool, fault: Fault) -> Verdict
     ensures { result ≡ only_if right fault }
 {
     if right { Ok(()) } else { Err(fault) }
+}
+
+// ---------------------------------------------------------------------------
+// A verdict as one number: 0 refuses nothing, 32 + i is a 3 at byte i, any other is the refusal of that number
+
+// The offending byte that a number tells; 0 where it tells none.
+fn byte_in(verdict: usize) -> usize
+    ensures { result ≡ number_byte verdict }
+{
+    if 32 <= verdict {
+        return verdict - 32;
+    }
+    0
+}
+
+// The number of the refusal that a number is.
+fn number_in(verdict: usize) -> usize
+    ensures { result ≡ verdict_number verdict }
+{
+    if 32 <= verdict {
+        return 3;
+    }
+    verdict
+}
+
+// A verdict that its caller has as a number, told of a field, the byte counted within it.
+pub fn answer_in(verdict: usize, field: usize) -> Answer
+    ensures { result ≡ number_answer field verdict }
+{
+    if verdict == 0 {
+        return Ok(());
+    }
+    let place = Place {
+        line: 0,
+        field,
+        byte: byte_in(verdict),
+    };
+    Err(refusal::made(number_in(verdict), place, 0))
 }

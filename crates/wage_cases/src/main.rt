@@ -11,7 +11,9 @@ use boundary::Told;
 use desk_judge::Ended;
 use desk_record::Record;
 use desk_tally::Tallied;
-use question::{behind, count, field, find, number_at, put_fields, put_sizes, size_of, tell};
+use question::{
+    behind, count, field, find, number_at, number_of, put_fields, put_sizes, size_of, tell,
+};
 use sums::Sum;
 use tally::Tally;
 use text::front;
@@ -52,25 +54,29 @@ enum Verb {
     Total,
 }
 
+// The verbs' words, and the verbs in the same order.
+const WORDS: &[u8] = b"300|301|309|399|keep|poke|place|show|begin|step|end|tally|step tally|total";
+
+const VERBS: [Verb; 14] = [
+    Verb::Label,
+    Verb::Group,
+    Verb::Order,
+    Verb::Closing,
+    Verb::Keep,
+    Verb::Poke,
+    Verb::Place,
+    Verb::Show,
+    Verb::Begin,
+    Verb::Step,
+    Verb::End,
+    Verb::Tally,
+    Verb::StepTally,
+    Verb::Total,
+];
+
 // The verb of a text.
 fn verb_of(text: &[u8]) -> Option<Verb> {
-    match text {
-        b"300" => Some(Verb::Label),
-        b"301" => Some(Verb::Group),
-        b"309" => Some(Verb::Order),
-        b"399" => Some(Verb::Closing),
-        b"keep" => Some(Verb::Keep),
-        b"poke" => Some(Verb::Poke),
-        b"place" => Some(Verb::Place),
-        b"show" => Some(Verb::Show),
-        b"begin" => Some(Verb::Begin),
-        b"step" => Some(Verb::Step),
-        b"end" => Some(Verb::End),
-        b"tally" => Some(Verb::Tally),
-        b"step tally" => Some(Verb::StepTally),
-        b"total" => Some(Verb::Total),
-        _ => None,
-    }
+    VERBS.get(number_of(text, WORDS)).copied()
 }
 
 // Writes a question back with its answer.
@@ -98,14 +104,16 @@ fn respond(
     kept: &mut [u8],
 ) {
     let n = number_at(question, 1);
-    let m = number_at(question, 2);
     match verb {
         Verb::Label | Verb::Group | Verb::Order | Verb::Closing => {
             write(rt, verb, question, memory, kept);
         }
         Verb::Keep => room::put(kept, n, front(memory, 1002)),
-        Verb::Poke => room::put(memory, n, &[(m % 256) as u8]),
-        Verb::Place => show(rt, wage_line::place(front(memory, n), m)),
+        Verb::Poke => room::put(memory, n, &[(number_at(question, 2) % 256) as u8]),
+        Verb::Place => show(
+            rt,
+            wage_line::place(front(memory, n), number_at(question, 2)),
+        ),
         Verb::Show => show(rt, front(memory, n)),
         Verb::Begin => t.record = told(rt, desk_judge::lanecockle_judge_begin(n as u64)),
         Verb::Step => {

@@ -1,6 +1,15 @@
--- Laws of a line: of its end.
+-- Laws of a line: of choices, and of its end.
 -- Assumes nothing.
-use Rattle.refusal.proofs.Basics.{◌≡◌, arith, ℕ, ◌≤◌, length, take, drop, get_or, drop_of_length-le, List, [], ◌∷◌, drop-cons}
+use Rattle.refusal.proofs.Basics.{◌≡◌, arith, ℕ, ◌≤◌, length, take, drop, get_or, drop_of_length-le, eq-eqb, ne_eqb, List, [], ◌∷◌, drop-cons, left, entered}
+
+-- ---------------------------------------------------------------------------
+-- Choices
+
+-- the answer of a chain of choices, each on whether two numbers are equal
+pub ruleset choices = (left, entered, eq-eqb, ne_eqb)
+
+-- ---------------------------------------------------------------------------
+-- The ends of a line
 
 module _ (s : List ℕ) (whole : length s ≡ 1002) where
   -- the bytes of the type

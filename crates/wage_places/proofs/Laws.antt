@@ -1,8 +1,32 @@
--- Laws of places: of the search by field number, of the bytes of a place, and of tests over a whole table.
+-- Laws of places: of tables, of the search by field number, of the bytes of a place, and of tests over a whole table.
 -- Assumes nothing.
-use Rattle.refusal.proofs.Basics.{◌≡◌, sym, arith, ℕ, zero, suc, ◌+◌, ◌≤◌, ◌<◌, length, drop, get_or, length-drop, drop_of_length-le, eq-eqb, ne_eqb, List, [], ◌∷◌, Bool, true, false, cond, ◌&&◌, eqb, drop-cons, length-take-le, add-one, both_true}
+use Rattle.refusal.proofs.Basics.{◌≡◌, sym, ◌∙◌, arith, ℕ, zero, suc, ◌+◌, ◌≤◌, ◌<◌, length, drop, get_or, length-drop, drop_of_length-le, get_or-eq_default, eq-eqb, ne_eqb, List, [], ◌∷◌, Bool, true, false, cond, ◌&&◌, eqb, drop-cons, length-take-le, add-one, both_true}
 use Rattle.wage_places.specs.declared.Spot.{Spot}
 use Rattle.wage_places.specs.Places.{no_spot, spot_in, part_at}
+
+-- ---------------------------------------------------------------------------
+-- Tables by order
+
+-- k is none of the numbers below n: what is known where a match on the numbers below n has no arm for k
+abbrev pub NoneBelow : ℕ → ℕ → Type 0
+NoneBelow zero k = Unit {0}
+NoneBelow (suc n) k = NoneBelow n k × (k ≡ n → ⊥)
+
+-- so it is not below n
+none_below : (n k : ℕ) → NoneBelow n k → n ≤ k
+none_below zero k r = omega arith
+none_below (suc n) k r = let h = none_below n k r.0 in let g = r.1 in omega arith
+
+-- the place p that a match on k answers is the table's: in the arm of a number, and past the last
+module _ (ps : List Spot) (k : ℕ) (p : Spot) where
+  pub there : (n : ℕ) → k ≡ n → p ≡ get_or ps n no_spot → p ≡ get_or ps k no_spot
+  there n e h = rw e h
+
+  pub past : NoneBelow (length ps) k → p ≡ no_spot → p ≡ get_or ps k no_spot
+  past r h = h ∙ sym (get_or-eq_default ps no_spot (none_below (length ps) k r))
+
+-- both
+pub ruleset arms = (there, past)
 
 -- ---------------------------------------------------------------------------
 -- The search for a field, from place k on

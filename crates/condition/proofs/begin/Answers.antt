@@ -8,4 +8,4 @@ returns-then-is_date c = rw (c.zero.ensures, c.nothing-zero.ensures, ← c.is_da
 
 pub returns : goal.returns
 unfolding begun
-returns c = rw (c.refused.ensures, c.at_line.ensures, c.zero.ensures, c.nothing-zero.ensures, ← c.is_date.ensures, c.if-is_date.false)
+returns c = rw (c.refused.ensures, c.of_line.ensures, c.zero.ensures, c.nothing-zero.ensures, ← c.is_date.ensures, c.if-is_date.false)

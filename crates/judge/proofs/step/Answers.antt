@@ -16,4 +16,4 @@ returns-in-Err c = rw (← c.is_refused.ensures, c.if-is_refused.false, ← c.is
 
 pub returns-else-is_sound-j : goal.returns-else-is_sound-j
 unfolding stepped
-returns-else-is_sound-j c = rw (← c.is_refused.ensures, c.if-is_refused.false, ← c.is_sound.ensures, c.if-is_sound-j.false, c.refused-else-is_sound-j.ensures, c.at_line.ensures)
+returns-else-is_sound-j c = rw (← c.is_refused.ensures, c.if-is_refused.false, ← c.is_sound.ensures, c.if-is_sound-j.false, c.refused-else-is_sound-j.ensures, c.of_line.ensures)

@@ -9,7 +9,7 @@ overflow_add-next c = omega (arith, (sound_within c.args.j c.requires).lines)
 
 pub returns-in-Err : goal.returns-in-Err
 unfolding type_step
-returns-in-Err c = rw (c.refused.ensures, c.told.ensures, c.at_line.ensures, ← c.judge_standing.ensures, c.in-Err.is)
+returns-in-Err c = rw (c.refused.ensures, c.told.ensures, c.of_line.ensures, ← c.judge_standing.ensures, c.in-Err.is)
 
 pub returns-in-Ok : goal.returns-in-Ok
 unfolding type_step

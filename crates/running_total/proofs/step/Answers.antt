@@ -33,4 +33,4 @@ returns c = let j = c.args.j in
     let within : is_within (grown t (growth_in s)) ≡ false = sym (grows_within t (growth_in s)) ∙ (ap is_within (sym grew) ∙ (sym c.is_within.ensures ∙ c.if-is_within.false)) in
     let takes : is_refused (stepped j s).condition ≡ false = ap (λ (k : Judge). is_refused k.condition) (sym c.step-judge.ensures) ∙ (sym c.is_refused.ensures ∙ c.if-is_refused.false) in
     let lines : c.step-judge.result.read.lines ≡ next_line j = ap (λ (k : Judge). k.read.lines) (c.step-judge.ensures ∙ (taken j s takes).goes) in
-    rw (c.refused.ensures, c.at_line.ensures ∙ ap line_place lines) (sym (overfull_is_29 j s t takes within))
+    rw (c.refused.ensures, c.of_line.ensures ∙ ap line_place lines) (sym (overfull_is_29 j s t takes within))
