@@ -4,7 +4,7 @@
 #![tactic(auto)]
 
 ghost use Rattle.std.specs.Prelude.{◌≡◌, get_or, length};
-ghost use Rattle.wage_places.specs.Places.{no_spot, label_spots, group_spots, order_spots, spots, spot_of, part_at};
+ghost use Rattle.wage_places.specs.Places.{no_spot, label_spots, group_spots, order_spots, spots, spot_in, spot_of, part_at};
 
 // The types of line: 300, 301, 309, 399.
 #[derive(Clone, Copy)]
@@ -103,17 +103,31 @@ pub fn count(t: LineType) -> usize
     places(t).len()
 }
 
-// The place of a field; an unknown number has none.
+// The first of some places that is of a field.
 #[tactic(auto, using(crate::proofs::Laws::find_on, crate::proofs::Laws::find_stops, crate::proofs::Laws::find_ends))]
-pub fn find(t: LineType, field: usize) -> Spot
-    ensures { result ≡ spot_of t field }
+fn find_in(places: &[Spot], field: usize) -> Spot
+    ensures { result ≡ spot_in field places.now }
 {
-    for p in places(t) {
+    for p in places {
         if p.field == field {
             return *p;
         }
     }
     NOWHERE
+}
+
+// The place of a field; an unknown number has none.
+#[tactic(auto, unfolding(crate::specs::Places::spots, crate::specs::Places::spot_in))]
+pub fn find(t: LineType, field: usize) -> Spot
+    ensures { result ≡ spot_of t field }
+{
+    // each table by its name: the compiler then knows its places, and asks no more of them than it has to
+    match t {
+        LineType::Label => find_in(&LABEL, field),
+        LineType::Group => find_in(&GROUP, field),
+        LineType::Order => find_in(&ORDER, field),
+        LineType::Closing => NOWHERE,
+    }
 }
 
 // The bytes of a place: as much of it as there is.
